@@ -136,8 +136,8 @@ def seconds() -> dict[str, float]:
 
 
 def jobs(words: Collection[str] = (), is_long: bool = False) -> list[Job]:
-    """The jobs with one of these words in their names, of every run or the long ones; what takes
-    longest comes first, and what nobody knows."""
+    """The jobs with one of these words in their names, of every run or the long ones; the longest
+    come first, and those of unknown length."""
     every = [*programs(), *(job for folder in FOLDERS for job in modules_of(folder))]
     found = [it for it in every if any(word in it.name for word in words or ("",))]
     known = seconds()

@@ -1,5 +1,5 @@
-"""Tests of bin/credkeep-ask over credkeep: when it asks at the terminal, what it shows there, and
-what credkeep gets of it.
+"""Tests of bin/credkeep-ask over credkeep: its questions at the terminal, its output there, and the
+words and input of credkeep.
 
 A script replaces credkeep: it notes its words and its input.
 """
@@ -41,7 +41,7 @@ Typed = Sequence["bytes | int"]  # a line at each prompt, or a signal
 
 MARKS = ("a.db|lock|ada", "a.db|unlock|ada", "a.db|expire|ada")
 
-# What gives credkeep no password: what is typed, the status, and what is said.
+# Input that gives credkeep no password: the typed text, the status, and the message.
 END = b"\x04"
 FIRST = [*ONE, b"new\n"]
 DIFFERING = [

@@ -1,5 +1,5 @@
-"""Tests of `bin/credkeep-ask --server`: its commands, what it asks for and prints, and with which
-status it ends. The server has the tests' own book."""
+"""Tests of `bin/credkeep-ask --server`: its commands, its prompts and output, and its status. The
+server has the tests' own book."""
 
 import pathlib
 import re
@@ -68,7 +68,7 @@ delete cid | | noaccount 4
 add cid | a b | the two new passwords differ 6
 list | | bob 0
 """
-# Words that aren't meant, before anything is asked.
+# Impossible words, which are refused before any question.
 MISTAKES = {
     "": "no such command",
     "add": "add takes 1 name",
@@ -90,7 +90,7 @@ MISTAKES = {
 
 
 class AskServer(Case):
-    """Over the tests' own book, whose server is a real one."""
+    """Tests over the tests' own book and the real server."""
 
     def asked(self, words: Sequence[str], typed: Typed = ()) -> tuple[str, int]:
         shown = at_a_terminal([str(ASK), "--server", *words], typed)

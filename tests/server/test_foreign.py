@@ -208,7 +208,8 @@ class Foreign(ForeignCase):
         self.assertEqual(self.gone(), [])
 
     def test_who_cant_move(self) -> None:
-        """The log names at the start who can't move, and why; never a record."""
+        """At the start the log names the users who can't move, with the reasons, and never a
+        record."""
         lines = "fay:rl0uE2bX6fF1g cid:hunter2 dan:!$6$x Ada:{SHA}x gus:{PLAIN}hunter2 eve:{SHA}x"
         self.file.write_text(lines.replace(" ", "\n"))
         log, why = self.over().log(), "plain text, or another scheme"
@@ -230,8 +231,8 @@ class Foreign(ForeignCase):
         service.talk("login known ad -> yes")
 
     def test_what_stays(self) -> None:
-        """A line by which nobody may have logged in doesn't move: no record, plain text, DES, of
-        another user, of nobody."""
+        """Lines with which nobody may have logged in don't move: no record, plain text, DES,
+        another user's line, nobody's."""
         self.file.write_text(f"ada:\nbob:{SECRET}\ncid:secret\ndan:!\neli\n:x\nfay:rl0uE2bX6fF1g\n")
         before = self.file.read_text()
         client = self.over("--tries", "0").client()
@@ -242,8 +243,8 @@ class Foreign(ForeignCase):
         self.assertEqual(self.file.read_text(), before)
 
     def test_names_are_taken(self) -> None:
-        """Nobody signs up as, or is renamed to, a user of the file; one in the book is the
-        book's."""
+        """Nobody signs up as, or is renamed to, a user of the file; the book decides about its own
+        users."""
         self.add("ada", "-s")
         self.add("bob", "-s", "old")
         service = self.over()
@@ -272,7 +273,7 @@ class Foreign(ForeignCase):
         client.talk("verify ada b2xk -> no\nverify ada {secret} -> yes")
 
     def test_mail_names(self) -> None:
-        """With --mail-names the file has addresses, as they are typed there."""
+        """With --mail-names the file has addresses, in any spelling."""
         self.add("Ada@Example.org", "-s")
         service = self.over("--mail-names")
         service.talk("login verify Ada@example.ORG {secret} -> yes")
@@ -280,8 +281,8 @@ class Foreign(ForeignCase):
         self.assertRegex(self.gone()[0], "^e[.][a-z2-7]{30}$")
 
     def test_audited(self) -> None:
-        """The move is two changes of the client's in the audit log; no record and no password is in
-        it."""
+        """In the audit log the move is two changes of the client, without a record or a
+        password."""
         self.add("ada", "-s")
         path = self.folder / "audit"
         service = self.over("--audit", str(path))

@@ -28,8 +28,8 @@ OF_BARS = {"the account has expired", "nologin", "allow_nets", "noauthenticate"}
 
 class ForeignAging(ForeignCase):
     def test_who_is_shut_out(self) -> None:
-        """Whom /etc/shadow, Dovecot or a remark keeps out never gets in, nor moves; the log says
-        why."""
+        """A user whom /etc/shadow, Dovecot or a remark bars never gets in or moves; the log has the
+        reason."""
         record, lines = made_by(MAKERS["sha512crypt"], "secret"), []
         for name, (fields, _) in SHUT_OUT.items():
             lines.append(f"{name}:{record}{fields}")

@@ -69,7 +69,7 @@ class ForeignTries(ForeignCase):
         self.assertEqual(len(lines), 7, lines)
 
     def test_guesses_at_once(self) -> None:
-        """Of those that come together as many are judged as may fail."""
+        """Of guesses that arrive together only as many are judged as may fail."""
         self.file.write_text(f"ada:{made_by('htpasswd -niBC 6 u', 'secret')}\n")
         service = self.over("--tries", "4", clocked=True)
         clients = [service.client() for _ in range(5)]

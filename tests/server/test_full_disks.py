@@ -58,8 +58,8 @@ class FullDisks(Case):
         return self.serving("--setting", CHEAP, "--tries", "0", *options, **given)
 
     def test_changes_are_refused(self) -> None:
-        """Each change that the book would make is refused while it might find no room, also on a
-        disk without a free block; logins go on, and so does the server once there is room."""
+        """The server refuses each change that might find no room, also on a disk without a free
+        block. Logins go on, and so do changes once there is room."""
         folder = self.disk()
         service = self.over(folder).enrol(ada="secret")
         for left in (4 << 20, 0):
@@ -95,7 +95,7 @@ class FullDisks(Case):
         service.stop()
 
     def test_the_audit_log(self) -> None:
-        """No change is stored that couldn't be noted; logins go on without their lines."""
+        """No change is stored that the audit log can't note; logins go on without their lines."""
         folder = self.disk()
         audit = folder / "audit"
         service = self.over(self.room(), "--audit", str(audit)).enrol(ada="secret")
@@ -120,7 +120,7 @@ class FullDisks(Case):
         service.talk(LOGINS)
 
     def test_marks_stay(self) -> None:
-        """Without a free block too, each door heeds the marks that there are."""
+        """Even without a free block each door heeds the existing marks."""
         folder = self.disk()
         service = self.over(folder).enrol(ada="secret", bob="secret")
         service.talk("admin lock ada -> locked\nadmin expire bob -> expired")
@@ -139,7 +139,8 @@ class FullDisks(Case):
         )
 
     def test_upgrades(self) -> None:
-        """A login whose record would be upgraded is answered; the upgrade comes another day."""
+        """A login whose record needs an upgrade gets its answer; a later login upgrades the
+        record."""
         costs = "$fast$c=2"
         fast: Any = {"program": FAST_BOOK}
         folder = self.disk()

@@ -1,6 +1,6 @@
 """Kills of the server, of its book and of its imports, between changes of each kind: no answered
-change is lost, and none is half done. KILLS in the environment is how many (300), KILLS_SEED their
-seed."""
+change is lost, and none is half done. KILLS in the environment is the number of kills (300),
+KILLS_SEED their seed."""
 
 import concurrent.futures
 import os
@@ -108,7 +108,7 @@ class Owner:
         self.answered += 1
 
     def looks(self, admin: Client) -> None:
-        """Fails unless the account is as it may be, and at one name alone."""
+        """Fails unless the account has a possible state, at one name alone."""
         names = {name for name, _ in self.may_be}
         found = [(name, row_of(admin.ask(f"show {name}"))) for name in sorted(names)]
         there = [it for it in found if it[1] is not None]
@@ -160,7 +160,7 @@ class Importer:
                 time.sleep(0.02)
 
     def looks(self, admin: Client) -> None:
-        """Fails unless each answered batch is there, and the last one whole or not at all."""
+        """Fails unless the book has each answered batch, and the last one whole or not at all."""
         for batch in {*self.answered, self.batch} - {0}:
             names = f"list batch{batch}.0 {LINES}"
             found = [it for it in admin.ask(names).split() if it.startswith(f"batch{batch}.")]
@@ -224,7 +224,7 @@ KILLED_AT = """#!/bin/sh
 exec strace -f -q -o /dev/null -e trace=fsync,fdatasync \\
     -e inject=fsync,fdatasync:signal=SIGKILL:when={number} {program} "$@"
 """
-# Lines, one behind another, and what `show` and `list` say behind each.
+# Lines, one after another, and the answers to `show` and `list` after each.
 CHANGES = (
     ("lock ada", "ada:!$ bob:$"),
     ("rename ada eve", "bob:$ eve:!$"),
@@ -249,7 +249,7 @@ class EachSync(Case):
 
     def test_kills(self) -> None:
         """credkeep is killed at each of its syncs, amid locks, renames, deletions and an import:
-        what was answered is there, and nothing else but the change that was under way."""
+        the book has all answered changes, and at most the running one besides."""
         need("strace")
         program, folder = real_book(), self.room()
         model = Given(folder, ("--setting", CHEAP), program=program).begun().wait_until_started()
@@ -269,7 +269,7 @@ class EachSync(Case):
         print(f"{number - 2} syncs at which it was killed")
 
     def kill_at(self, number: int, program: pathlib.Path, folder: pathlib.Path, record: str) -> int:
-        """The number of answered lines, and the import behind them, if it is killed there."""
+        """The number of answered lines before a kill there, and of the import after them."""
         wrapper = folder / "killed"
         wrapper.write_text(KILLED_AT.format(number=number, program=program))
         wrapper.chmod(0o755)

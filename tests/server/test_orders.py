@@ -1,8 +1,8 @@
 """Two lines about a user of an htpasswd file that are open together, in every order in which the
 book and the disks may answer them, and with a kill at every moment.
 
-However that is, what is answered and what is left are those of one of the two lines behind the
-other. Behind a kill they are those of the lines that were answered, with one of the others or not.
+In every order the answers and the final state are those of one line after the other. After a kill
+they are those of the answered lines, with or without one of the others.
 """
 
 import asyncio
@@ -38,15 +38,16 @@ LINES = (
     f"change ada {SECRET} {SECRET}",
     f"reset ada {FRESH}",
 )
-# Of which two at once are killed at each moment.
+# Lines of which two at once are killed at each moment.
 KILLED = ("lock ada", "rename ada eve", f"verify ada {SECRET}", f"change ada {SECRET} {SECRET}")
-# What tells what is left: who gets in by which password.
+# Probes of the final state: the passwords that let a user in.
 PROBES = tuple(
     line.format(name)
     for name in ("ada", "eve", "zoe")
     for line in ("known {}", *(f"verify {{}} {typed}" for typed in (SECRET, FRESH, ZOE)))
 )
-# Behind a kill amid these nobody may get in any more, or the password must be changed once more.
+# After a kill amid these lines no password may be right any more, or the password must be changed
+# once more.
 STRICTER = ("disable", "delete", "rename", "change", "reset")
 PASSES = 5  # of the event loop, in which a task goes as far as it can
 RANKS = {b"yes": 2, b"expired": 1}
@@ -121,7 +122,7 @@ class Left:
 
 @dataclass
 class Steps:
-    """The requests that the book and the disk haven't done; a choice says which is next."""
+    """The open requests to the book and the disk; a choice selects the next."""
 
     waiting: list[tuple[Any, asyncio.Future[Any]]] = field(default_factory=list)
 
@@ -132,8 +133,8 @@ class Steps:
         return done
 
     async def finish(self, choices: list[int], most: float = float("inf")) -> list[int]:
-        """Does the first waiting request, or another as the choices say, until a kill behind so
-        many; returns the numbers of waiting ones."""
+        """Runs the first waiting request, or the one that the choices select, until a kill after
+        this many; returns the numbers of waiting ones."""
         counts = list[int]()
         while len(counts) < most and await self.settled():
             choice = choices[len(counts)] if len(counts) < len(choices) else 0
@@ -143,14 +144,14 @@ class Steps:
         return counts
 
     async def settled(self) -> bool:
-        """Whether anything waits, once every task has gone as far as it can."""
+        """Whether a request waits, once every task has run as far as it can."""
         for _ in range(PASSES):
             await asyncio.sleep(0)
         return bool(self.waiting)
 
 
 class NoSteps(Steps):
-    """Nothing waits: each is done at once."""
+    """Steps without a wait: each request runs at once."""
 
     def later(self, act: Any) -> asyncio.Future[Any]:
         done = asyncio.get_running_loop().create_future()
@@ -178,7 +179,7 @@ class Server:
         book.ask = asked
 
     def begin(self, line: str) -> "asyncio.Task[bytes]":
-        """Has a line answered once it has come, which is a step too."""
+        """Begins the answer to a line once it has arrived, which is a step too."""
         client: Any = SimpleNamespace()
         places: Any = SimpleNamespace()
         request = Request(client, b"a", line.encode().split(b" "), places)
@@ -191,7 +192,7 @@ class Server:
         return asyncio.ensure_future(answered())
 
     async def ask(self, line: str) -> bytes:
-        """The answer to a line that is alone."""
+        """The answer to a single line."""
         return await asyncio.wait_for(self.begin(line), 10)
 
 
@@ -207,7 +208,7 @@ class Outcome:
         return all(it in self.answers for it in cut.answers if it[1] is not None)
 
     def is_stricter(self, legal: "Outcome") -> bool:
-        """Whether nobody gets in who doesn't in the legal one."""
+        """Whether this outcome lets nobody in whom the legal one keeps out."""
         pairs = zip(self.probes, legal.probes)
         return all(RANKS.get(is_, 0) <= RANKS.get(ought, 0) for is_, ought in pairs)
 
@@ -217,8 +218,8 @@ ENDS_DUE = {"change", "reset", "disable", "delete", "rename"}
 
 
 def broken_law(beginning: Beginning, lines: tuple[str, ...], outcome: Outcome) -> str:
-    """The facts that hold in each order of the lines: a locked user isn't let in, nor a password
-    that must be changed, but by a line that ends that."""
+    """The facts that hold in each order of the lines: no login succeeds for a locked user, or with
+    a password that must be changed, except after a line that ends that."""
     operations = {it.split(" ")[0] for it in lines if not it.endswith(f"{SECRET} {SECRET}")}
     known, right = outcome.probes[:2]
     has_lock = (beginning.row or "").startswith("!")
@@ -233,7 +234,7 @@ def broken_law(beginning: Beginning, lines: tuple[str, ...], outcome: Outcome) -
 
 @dataclass
 class Play:
-    """Lines about ada, over what there was at a beginning."""
+    """Lines about ada, from a beginning."""
 
     path: str
     beginning: Beginning
@@ -248,7 +249,7 @@ class Play:
         return self.known[state]
 
     async def in_turn(self, lines: tuple[str, ...]) -> Outcome:
-        """The results of lines one behind the other."""
+        """The results of lines one after the other."""
         left = self.beginning.left()
         server = Server(self.path, left, NoSteps())
         answers = tuple([(it, await server.ask(it)) for it in lines])
@@ -257,7 +258,7 @@ class Play:
     async def at_once(
         self, lines: tuple[str, ...], choices: list[int], most: float
     ) -> tuple[Outcome, list[int]]:
-        """The results of lines that are open together, with a kill behind so many steps."""
+        """The results of lines that are open together, with a kill after this many steps."""
         left = self.beginning.left()
         server = Server(self.path, left, Steps())
         tasks = [server.begin(it) for it in lines]
@@ -270,8 +271,7 @@ class Play:
         return Outcome(tuple(sorted(answers)), await self.probes(kept)), counts
 
     def orders(self, lines: tuple[str, ...], most: float = float("inf")) -> Iterator[Outcome]:
-        """The outcomes of all orders in which the book and the disk may do what they are asked
-        for."""
+        """The outcomes of all orders in which the book and the disk may run their requests."""
         choices = list[int]()
         while True:
             outcome, counts = asyncio.run(self.at_once(lines, choices, most))
@@ -308,7 +308,7 @@ class Orders(ForeignCase):
         return Play(str(path), beginning, self.known[beginning.fields])
 
     def test_two_lines(self) -> None:
-        """Whatever their orders, they end as one behind the other does."""
+        """Whatever the order of steps, two lines end as one after the other does."""
         tried = 0
         pairs = itertools.combinations_with_replacement(LINES, 2)
         for beginning, lines in itertools.product(BEGINNINGS, pairs):
@@ -322,8 +322,8 @@ class Orders(ForeignCase):
         self.assertGreater(tried, 5000)
 
     def check_kills(self, beginning: Beginning, lines: tuple[str, ...]) -> int:
-        """Behind a kill at each step of each order there is what lines have left: those that were
-        answered, and of the others some. Returns how many kills that were."""
+        """After a kill at each step of each order the state is that of the answered lines and some
+        of the others. Returns the number of kills."""
         play, tried = self.play(beginning), 0
         subsets = [it for n in range(len(lines) + 1) for it in itertools.combinations(lines, n)]
         legal = [outcome for it in subsets for outcome in play.legal(it)]
@@ -341,7 +341,7 @@ class Orders(ForeignCase):
                 return tried
 
     def test_kills(self) -> None:
-        """A lock isn't lost, nor that a password must be changed, nor a user."""
+        """A kill loses no lock, no mark of a password that must be changed, and no user."""
         pairs = [*((it,) for it in LINES), *itertools.combinations(KILLED, 2)]
         tried = 0
         for beginning, lines in itertools.product(BEGINNINGS, pairs):

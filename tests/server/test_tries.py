@@ -49,8 +49,7 @@ class Tries(Case):
         )
 
     def test_what_counts(self) -> None:
-        """Each answer that a try failed counts, and none does after a right one, or a new
-        password."""
+        """Each failed try counts, until a right password or a new one ends the count."""
         service = self.serving("--tries", "2", clocked=True).enrol(ada="secret")
         admin = service.client("admin")
         for row in (
@@ -85,7 +84,7 @@ class Tries(Case):
             admin.talk("forgive ada -> forgiven\nverify ada {secret} -> yes")
 
     def test_guesses_at_once(self) -> None:
-        """Of guesses that are sent together as many are judged as may fail, and one after each
+        """Of guesses that are sent together only as many are judged as may fail, and one after each
         wait."""
         for operation in "verify", "change", "login":
             service = self.serving("--at-once", "20", clocked=True).enrol(ada="secret")
