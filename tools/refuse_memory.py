@@ -37,7 +37,7 @@ def sweep(test):
 
 
 def tests_of(crate, word):
-    """Those of a crate's tests that have the word in their names, each as a command."""
+    """The tests of a crate with the word in their names, each as a command."""
     program = CRATES / crate / "out" / f"{crate}_tests"
     if not program.exists():
         sys.exit(f"{program} isn't there: run rt test in its crate, or rt ci")

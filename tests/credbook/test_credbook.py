@@ -193,7 +193,7 @@ class RunsTest(unittest.TestCase):
 
     @each((1, (0,)), (2, (1, 2)), (4, (3, 4)), (64, (3, 4)))
     def test_threads(self, workers: int, wanted: Any) -> None:
-        """As many threads hash as --threads sets: the caller's thread waits for them, or is one of
+        """As many threads hash as --workers sets: the caller's thread waits for them, or is one of
         them."""
         script = SCRIPT.replace("m=256,t=2,p=1", "m=1024,t=4,p=4").rpartition("show")[0]
         script += f"begin 2 verify a {PASSWORD}\ncommit 2\n"

@@ -74,8 +74,8 @@ class OthersTest(ImportTest):
         self.assertEqual(self.book.accounts(), {"ann": RECORD, "bob": "", "cat": ""})
 
     def test_records_of_dovecot(self) -> None:
-        """As text they are imported; in hexadecimal and base64 once docs/MIGRATING.md's command
-        wrote them out."""
+        """The import accepts Dovecot's records as text, and those in hexadecimal and base64 once
+        docs/MIGRATING.md's command has converted them."""
         need("doveadm", "perl")
         command = of_the_page("perl -MMIME::Base64")
         forms = [f"{it}{end}" for it in ("ARGON2ID", "ARGON2I") for end in ("", ".HEX", ".B64")]
@@ -142,8 +142,8 @@ class OthersTest(ImportTest):
         self.assertEqual(dovecot, lines_of(lines))
 
     def test_exports_of_locked_names(self) -> None:
-        """By the page's commands a name that is locked, or whose password must be changed, in the
-        book or by an old file of its server, has no record for Dovecot and Django."""
+        """The page's commands export no record to Dovecot or Django of a name that is locked, or
+        whose password must be changed, in the book or in an old file of its server."""
         accounts = {"ann": RECORD, "ann.x": SCRYPT, "bob": OTHER, "cat": RECORD, "dan": ""}
         accounts |= {"eve": RECORD, "fay": RECORD}
         self.begun(accounts)

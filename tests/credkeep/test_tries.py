@@ -78,8 +78,8 @@ class TriesTest(BookTest):
                 self.assertEqual(found, ["t no"] * LIMIT + ["t later 1"])
 
     def test_many_at_once(self) -> None:
-        """Of many wrong tries at once the limit fails, and the others get `later`; right ones at
-        once all get yes."""
+        """If many wrong tries come at once, as many fail as the limit allows, and the others get
+        `later`. Right ones at once all get yes."""
         few = {"no": LIMIT, "later 1": 40 - LIMIT}
         for password, wanted in ((WRONG, few), (RIGHT, {"yes": 40})):
             with self.subTest(wanted), self.limited() as service:

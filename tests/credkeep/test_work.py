@@ -31,7 +31,7 @@ class ThreadsTest(BookTest):
 
     @each(1, 3)
     def test_workers_of_tagged_lines(self, count: int) -> None:
-        """As many threads hash as lines at once were asked for. One more reads."""
+        """A service hashes on as many threads as it serves lines at once; one more thread reads."""
         command = self.book.command(*SERVE, "--at-once", str(count))
         done, found = counts(command, "t verify nobody -\n")
         self.assertEqual(done, (0, "t noaccount\n", ""))
@@ -135,8 +135,8 @@ class HashesTest(BookTest):
                 self.assertEqual(found, hashes)
 
     def test_equal_work(self) -> None:
-        """As many instructions whichever byte of the tag differs, so that no time tells how far
-        two tags agree."""
+        """A check takes the same number of instructions whichever byte of the tag differs, so that
+        no time shows how far two tags agree."""
         need("valgrind")
         for order, given in (
             ("check", "password"),

@@ -165,7 +165,7 @@ class Folders(helpers.Case):
         return sorted(str(it.relative_to(self.top)) for it in self.top.rglob("*"))
 
     def test_nothing_is_left(self):
-        """In either order of the parts, and after a second install."""
+        """Uninstall leaves nothing, in either order of the parts, and after a second install."""
         for parts in (self.parts, self.parts[::-1]):
             with self.subTest(parts):
                 self.top.mkdir(exist_ok=True)
@@ -251,7 +251,7 @@ class Debs(helpers.Case):
             run("lintian", "--fail-on", "error,warning", *debs)
 
     def test_library(self):
-        """Of each processor that it is built for: what is packed, and a program over it."""
+        """The library for each processor: its packed files, and a program over it."""
         for arch, built, triplet, emulator in LIBRARIES:
             with self.subTest(arch):
                 need_file(TOP / built / "librigzumal.so.1")

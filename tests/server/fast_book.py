@@ -246,7 +246,7 @@ class Accounts:
 
 
 class Book(Accounts):
-    """The same in a file, which has a change before it is answered."""
+    """The accounts in a file, which stores a change before its answer."""
 
     def __init__(self, path: str, costs: str, limit: int) -> None:
         super().__init__(costs, limit)

@@ -52,7 +52,8 @@ class HostileFields(ClientCase):
                     self.assertIs(getattr(client, call)(*asked), reply)
 
     def test_hostile_fields_by_asyncio(self) -> None:
-        """The same by the client whose tasks share a connection: one by one, and all at once."""
+        """Hostile fields through the client whose tasks share a connection: one by one, and all at
+        once."""
 
         async def used(client: Any) -> None:
             async def ask(what: str, reply: Any, call: str, *asked: Any) -> None:

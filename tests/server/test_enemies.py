@@ -53,8 +53,8 @@ class Guesses(Case):
 class BesideLocks(BesideCase):
     @each(*BESIDE)
     def test_changes(self, beside: str) -> None:
-        """Of 40 connections half lock an account each, beside a change of it by another: whoever is
-        told that it is locked finds nobody who gets in, at either name."""
+        """20 connections lock an account each, while 20 others change it: after the answer `locked`
+        nobody gets in, at either name."""
         answers, stays = BESIDE[beside]
         numbers, form = itertools.count(), beside.replace("{secret}", SECRET)
         form = form.replace("{fresh}", SECRET)

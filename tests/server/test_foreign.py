@@ -18,7 +18,7 @@ SALT = bytes(range(8))
 
 
 def salted_sha1(password: bytes, salt: bytes = SALT) -> str:
-    """As slappasswd makes it."""
+    """A salted SHA-1 record, in slappasswd's form."""
     return "{SSHA}" + base64.b64encode(hashlib.sha1(password + salt).digest() + salt).decode()
 
 
@@ -273,7 +273,7 @@ class Foreign(ForeignCase):
         client.talk("verify ada b2xk -> no\nverify ada {secret} -> yes")
 
     def test_mail_names(self) -> None:
-        """With --mail-names the file has addresses, in any spelling."""
+        """With --mail-names the file has addresses, in the form that their users type."""
         self.add("Ada@Example.org", "-s")
         service = self.over("--mail-names")
         service.talk("login verify Ada@example.ORG {secret} -> yes")

@@ -194,8 +194,8 @@ class Beside(BesideCase):
     """Locks beside other lines."""
 
     def test_beside_a_rename(self) -> None:
-        """Of 40 connections each locks an account beside the rename of another's: whoever is told
-        that it is locked finds nobody who gets in."""
+        """40 connections each lock an account while another connection renames it: after the answer
+        `locked` nobody gets in."""
         names = [f"user{number}" for number in range(CONNECTIONS // 2)]
         service = self.over(**dict.fromkeys(names, "secret"))
         pairs = [(service.client("admin"), service.client("admin")) for _ in names]
@@ -222,8 +222,8 @@ class Beside(BesideCase):
                 )
 
     def test_beside_logins(self) -> None:
-        """From 40 connections comes a right password at both names of an account, which is locked,
-        renamed and unlocked meanwhile: none that was sent behind a lock, and answered before the
+        """40 connections send a right password at both names of an account, which is locked,
+        renamed and unlocked meanwhile. No try that was sent after a lock, and answered before the
         unlock, is right."""
         service = self.over(ada="secret")
         spans, rights = list[tuple[float, float]](), list[tuple[float, float]]()

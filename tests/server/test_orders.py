@@ -110,7 +110,7 @@ class Left:
         return Left(accounts, {*self.moved})
 
     def state(self) -> State:
-        """The same, with a password in the place of its record."""
+        """The state, with a password in the place of its record."""
         rows = {name: stated(row) for name, row in self.accounts.rows.items()}
         return frozenset(rows.items()), frozenset(self.moved)
 
@@ -351,5 +351,5 @@ class Orders(ForeignCase):
 
 
 async def done(act: Any, *fields: Any) -> Any:
-    """In place of a thread that hashes."""
+    """Runs at once, in place of a thread that hashes."""
     return act(*fields)

@@ -70,7 +70,7 @@ class Answers(Case):
         self.assertEqual(found, of_book)
 
     def test_the_book_of_tests(self) -> None:
-        """It has each operation of a book, with as many fields."""
+        """The tests' book has each operation of a book, with as many fields."""
         for word, operation in OPERATIONS.items():
             if operation.is_own or operation.is_transfer or word == b"known":
                 continue
@@ -112,7 +112,7 @@ class Answers(Case):
         self.assertEqual(replies & raised, set())
 
     def test_credkeep_ask(self) -> None:
-        """It ends with the status of each answer."""
+        """credkeep-ask ends with the status of each answer."""
         path = self.room() / "peer"
         for answer in ANSWERS.keys() - OF_OTHERS:
             with self.subTest(answer):

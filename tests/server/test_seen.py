@@ -137,7 +137,7 @@ class Seen(Case):
         self.assertTrue(before <= when <= before + datetime.timedelta(seconds=20), moment)
 
     def test_last_logins_are_bounded(self) -> None:
-        """Of too many right logins the oldest is forgotten."""
+        """If there are too many right logins, the server forgets the oldest."""
         verify = OPERATIONS[b"verify"]
         with mock.patch.object(tally, "REMEMBERED", 2):
             counted = tally.Tally(Options())

@@ -135,8 +135,8 @@ def stands(service: Service, log: Log, name: str) -> Optional[str]:
 
 
 def surely_stood(operations: list[Operation]) -> dict[Optional[str], tuple[float, float]]:
-    """From when until when the record of a password stood in any history of these, of which is
-    known what each of them did."""
+    """The time in which a password's record surely stood, in any history of these operations, whose
+    outcomes are all known."""
     changes = [it for it in operations if it.after != it.before]
     ends = {it.before: it.called for it in changes}
     return {it.after: (it.answered, ends.get(it.after, math.inf)) for it in changes if it.after}

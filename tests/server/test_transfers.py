@@ -241,7 +241,8 @@ class Imports(TransferCase):
         self.assertNotIn("argon2id", audit.read_text())
 
     def test_addresses(self) -> None:
-        """With --mail-names they are hashed as in every operation; an export's names come back."""
+        """With --mail-names an import hashes addresses as every operation does; the names of an
+        export can be imported again."""
         service = self.over("--mail-names")
         text = f"Ann@Example.org:{RECORD}\n@:{RECORD}\n# x@y\nplain:{RECORD}\n"
         done = self.ask(service, "import", "--skip-bad", given=text.encode())

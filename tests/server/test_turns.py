@@ -113,7 +113,8 @@ class Changes(Case):
         self.enterContext(mock.patch.object(time, "monotonic", lambda: self.clock))
 
     def ask(self, letter: str) -> "asyncio.Future[bytes]":
-        """In the book's place: what it answers once it is let; then the change has gone."""
+        """Stands for the book: answers a change once the test lets it; then the change has
+        ended."""
         self.gone += letter
         self.at_book.append(asyncio.get_running_loop().create_future())
         return self.at_book[-1]
@@ -125,7 +126,8 @@ class Changes(Case):
         return asyncio.ensure_future(rounds.ask([letter], letter.islower()))  # type: ignore
 
     def played(self, *scene: tuple[str, int, int, str]) -> None:
-        """Of each step: what comes, how many end after 20 ms, the rest behind these, what went."""
+        """Plays the steps: the changes that arrive, the number that end after 20 ms, the rest after
+        these, and the changes that ran."""
 
         async def run() -> None:
             loop, rounds, tasks = asyncio.get_running_loop(), self.rounds(), []

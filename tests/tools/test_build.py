@@ -72,8 +72,8 @@ class Clock(unittest.TestCase):
         ({"low": 600, "other": 1200}, {}, 1950),
     )
     def test_rest(self, done, running, wanted):
-        """By what those that are done took, of which the last count most, and others run so
-        long."""
+        """The rest is estimated from the times of the finished crates, of which the last count
+        most, and from the running ones."""
         below = {"low": [], "other": [], "high": ["low"], "program": ["low", "other", "high"]}
         self.assertAlmostEqual(self.rest(below, done, running), wanted, delta=20)
 

@@ -46,7 +46,7 @@ def module(level="x86-64-v3", prefetch=EMPTY, inlined=INLINED):
 
 class Build(helpers.Case):
     def built(self, status=0, level="x86-64-v4", text=module(), **env):
-        """Its messages and its output, over a toolchain that does so."""
+        """The script's messages and its output, over a toolchain that behaves so."""
         room = self.room()
         page, clang = f"#!/bin/sh\necho {room}/START-HERE.md\n", "toolchain/bin/clang"
         files = {"rt": page, "bin/rattle": RATTLE, clang: CLANG, "module": text}

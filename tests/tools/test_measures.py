@@ -37,7 +37,7 @@ class Turns(unittest.TestCase):
 
 class Libraries(unittest.TestCase):
     def test_libsodium_is_initialised(self):
-        """Without it libsodium runs slow code."""
+        """The benchmark initialises libsodium, which runs slow code otherwise."""
         found = mock.Mock()
         with mock.patch.object(libraries, "library", return_value=found):
             for answer in (0, 1):  # anew, and already

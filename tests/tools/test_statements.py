@@ -377,7 +377,7 @@ class Statements(Case):
 
     @each(*UNSEEN)
     def test_unseen(self, file: str, old: str, new: str, told: str) -> None:
-        """What may hide an item, or write any, is refused."""
+        """The tool refuses code that may hide an item, or generate any."""
         self.replace(file, old, new)
         self.assertEqual(self.told(), (1, [f"docs/STATEMENTS.txt: {told}"]))
         write_files(self.top, FILES)

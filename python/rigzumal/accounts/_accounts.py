@@ -217,7 +217,7 @@ class Accounts(Operations[Pool]):
 def _awaited(
     method: Callable[Concatenate[Accounts, P], T]
 ) -> Callable[Concatenate[AsyncAccounts, P], Coroutine[Any, Any, T]]:
-    """The same operation as a coroutine."""
+    """Wraps a blocking method: the same operation as a coroutine."""
 
     @functools.wraps(method)
     async def operation(accounts: Any, /, *args: P.args, **kwargs: P.kwargs) -> T:

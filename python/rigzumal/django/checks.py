@@ -36,7 +36,7 @@ OURS = (hashers.Argon2PasswordHasher, hashers.ScryptPasswordHasher)
 _SNAPSHOTS = {"repeatable read", "serializable"}
 _PSYCOPG2_SNAPSHOTS = {2, 3}  # psycopg2's numbers for the same
 _LEVEL = re.compile(r"isolation(?:[ _-]level)?[ =']+(repeatable|serializable)")
-"""Its form in PostgreSQL's `options` and in MySQL's `init_command`."""
+"""The form of a level in PostgreSQL's `options` and in MySQL's `init_command`."""
 
 
 def register() -> None:

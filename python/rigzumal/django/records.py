@@ -192,7 +192,7 @@ def judge_change(
 
 
 def awaited(function: Callable[..., T]) -> Callable[..., Awaitable[T]]:
-    """The same function in a thread, for `await`.
+    """Runs a function in a thread, for `await`.
 
     An error report shows the waiting frames, so none of them has a password: the work has no
     argument, and no coroutine runs it.

@@ -83,7 +83,8 @@ class RowsOfOnesOwn:
         self.assertEqual(self.rows(), [reply])
 
     def test_what_may_pass_is_done_again(self):
-        """From its BEGIN: what the server undid, and what broke with its connection."""
+        """The operation runs again from its BEGIN after the server undid it, or its connection
+        broke."""
         accounts = self.accounts()
 
         def undone(conn):

@@ -87,8 +87,8 @@ class Connections:
                 self.assertEqual(self.stands(), record)
 
     def test_changes_at_any_level(self):
-        """Of eight changes of one record one is stored, whatever the session's level is; of eight
-        logins all are let in, and the record has the higher costs."""
+        """Of eight changes of one record exactly one is stored, whatever the session's level is.
+        Eight logins all succeed, and the record gets the higher costs."""
         for setting in self.levels:
             connect = self.setting(setting)
             self.give("one")

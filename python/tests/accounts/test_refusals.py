@@ -242,7 +242,8 @@ class Errors(Base):
                     self.assertEqual(dialect.gave_up(error), gave_up)
 
     def test_modes_of_sqlite(self):
-        """From Python 3.12 on there is an attribute; -1 means the older way."""
+        """The modes of SQLite: from Python 3.12 on an attribute has them, and its value -1 means
+        the older way."""
         cases = {(True, ""): True, (False, None): False, (-1, None): True, (-1, ""): False}
         for (autocommit, level), wanted in cases.items():
             conn = mock.Mock(in_transaction=False, autocommit=autocommit, isolation_level=level)

@@ -76,7 +76,7 @@ class OldFile:
         return bool(self.last_lines.get(name, Line()).bar(today()))
 
     async def barred(self) -> set[bytes]:
-        """Those names of a book whose users the file's lines bar."""
+        """The names of the users whom the file's lines bar, if a book can have these names."""
         await self.refresh()
         barred = {name for name, line in self.last_lines.items() if line.bar(today())}
         return {name for name in barred if NAME.fullmatch(name)}

@@ -30,7 +30,8 @@ class Metric:
     counts: tuple[str, ...]
 
     def lines(self, counted: dict[str, str]) -> Iterator[str]:
-        """In Prometheus' text format, each sample with its answer if there are several."""
+        """The metric in Prometheus' text format: each sample has its answer as a label if there are
+        several."""
         kind = "counter" if self.name.endswith("_total") else "gauge"
         yield f"# HELP credkeep_{self.name} {self.text}"
         yield f"# TYPE credkeep_{self.name} {kind}"

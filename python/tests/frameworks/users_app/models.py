@@ -14,7 +14,7 @@ class Member(User):
 
 
 class Staff(User):
-    """The same table by another name."""
+    """A proxy: the same table by another name."""
 
     class Meta:
         proxy = True
