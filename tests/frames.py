@@ -51,7 +51,8 @@ def _chain(error: BaseException) -> Iterator[BaseException]:
 
 
 def _has(value: Any, secrets: Collection[str]) -> bool:
-    """Whether a value shows a secret: in what it holds, or in the repr of anything else."""
+    """Whether a value shows a secret: a container or a buffer in its parts, and any other value in
+    its repr."""
     if isinstance(value, (bytes, bytearray, memoryview)):
         value = bytes(value).decode("latin1")
     if isinstance(value, str):

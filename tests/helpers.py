@@ -341,8 +341,8 @@ TOLD = r"(REFUSED|SYNCS|THREADS|PEAK|ASKED) (\d+)\n"
 
 
 def shim_compiler() -> list[str]:
-    """The toolchain's clang, in a folder beside the page whose path `rt doc` prints, or cc where
-    either isn't there; for another processor its own."""
+    """The toolchain's clang, in a folder beside the page whose path `rt doc` prints, or cc if
+    either is missing; for another processor that processor's compiler."""
     if not IS_NATIVE:
         return [f"{TRIPLET}-gcc"]
     if shutil.which("rt") is None:

@@ -107,7 +107,7 @@ class Tap(socketserver.ThreadingUnixStreamServer):
 
 
 def hand_on(one: socket.socket, other: socket.socket) -> None:
-    """Sends what comes from one to the other, until that ends."""
+    """Passes bytes on from one socket to the other, until the input ends."""
     with contextlib.suppress(OSError):  # one of them has gone
         while more := one.recv(65536):
             other.sendall(more)

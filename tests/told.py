@@ -1,4 +1,4 @@
-"""Runs the tests of a module by unittest, and writes down what comes of each, for
+"""Runs the tests of a module by unittest, and writes the outcome of each to a file, for
 tools/run_tests.py.
 
     python3 tests/told.py TOLD MODULE [PART PARTS]

@@ -129,8 +129,7 @@ class BackupTest(CopyTest):
 
 class RestoreTest(CopyTest):
     def test_later_states(self) -> None:
-        """A copy comes back in place of a later state, after kills too, and where the file is gone
-        or damaged."""
+        """A restore replaces a later state, after kills too, and a missing or damaged file."""
         old = {f"u{at:03}": RECORD for at in range(400)}
         book, copy = self.begun(old), self.file("copy.db")
         self.assertEqual(book("backup", str(copy.path)), counted(400, 0))

@@ -10,7 +10,7 @@ from tests.helpers import TIMES
 
 class ServicesTest(BookTest):
     def test_kills(self) -> None:
-        """Every change that was answered is there after a kill, and at most one that wasn't."""
+        """After a kill the book has every answered change, and at most one more."""
         kills = [signal.SIGKILL] * 60 + [signal.SIGTERM] * 10
         start = time.monotonic()
         standing, count = self.book.accounts(), 0

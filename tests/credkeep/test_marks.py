@@ -263,7 +263,7 @@ class MarksTest(BookTest):
                     self.assertEqual(other("check", "ann", given="first\n"), no(wanted))
 
     def test_an_import_ends_no_lock(self) -> None:
-        """An account that is there stays locked, whatever record its line gives it."""
+        """An existing account stays locked in an import, whatever its line's record."""
         self.assertEqual(self.book("lock", "ann"), yes("locked"))
         for record in (RECORD, f"~{RECORD}", f"!{RECORD}", ""):
             for option in ("--update", "--update --keep-locked", "--update --disable-locked"):

@@ -78,8 +78,8 @@ class RefusedCallsTest(BookTest):
 
     @each(*ORDERS)
     def test_orders(self, change: Change, called: str) -> None:
-        """Each refusal and each kill leaves the book before the change or after it. A file that
-        can't be opened is told, and a change that may be kept is named."""
+        """Each refusal and each kill leaves the book before the change or after it. A message
+        reports a file that can't be opened, and names a change that may be kept."""
         self.begun(change.before, "base/users.db").log.unlink(missing_ok=True)
         judge = functools.partial(self.assertStopped, change)
         self.refuse_each(change, WRITES, "signal=KILL", Book.accounts, judge)

@@ -1,5 +1,5 @@
 """Each request for memory of a run is refused in turn: the run ends with a status of its own, and
-what it answered is kept."""
+its answered changes are kept."""
 
 import re
 from collections.abc import Callable

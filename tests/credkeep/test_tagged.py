@@ -117,8 +117,8 @@ class HashesTest(BookTest):
         return int(after["VmHWM"]) - before, int(after["VmRSS"]) - before
 
     def test_memory_of_all_hashes(self) -> None:
-        """All hashes together take no more than --memory. It comes back: a thread keeps no more
-        than a hash with the service's own costs takes."""
+        """All hashes together take no more than --memory. The memory is freed afterwards: a thread
+        keeps no more than a hash of the service's own costs needs."""
         self.enrolled(36_864)
         for memory, least, most in (("36M", 1, 1), ("72M", 2, 2), ("2G", 3, 8)):
             with self.subTest(memory=memory):

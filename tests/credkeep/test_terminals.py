@@ -12,7 +12,8 @@ class TerminalsTest(BookTest):
     def assertAnswered(
         self, rows: list[tuple[str, list[str], int, str]], run: Callable[..., Shown], echoes: bool
     ) -> None:
-        """Words, what is typed at their prompts, which echo or don't, the status and the answer."""
+        """Runs these words, with a typed line at each prompt, which echoes or doesn't, to the
+        status and the answer."""
         for words, typed, status, answer in rows:
             with self.subTest(words=words, typed=typed):
                 shown = run(words.split(), [f"{it}\n".encode() for it in typed])

@@ -233,7 +233,7 @@ class WordsTest(BookTest):
         self.assertFalse(book.path.exists())
 
     def test_commands_are_listed(self) -> None:
-        """Words of which none is a command are told which commands there are, those of the help."""
+        """If no word is a command, the message lists the commands of the help."""
         commands = self.commands()
         self.assertLessEqual({"init", "serve", "verify"}, set(commands))
         for words, are_told in (

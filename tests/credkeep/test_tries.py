@@ -88,7 +88,7 @@ class TriesTest(BookTest):
                 self.assertEqual((done.status, dict(found)), (0, wanted))
 
     def test_nothing_to_guess(self) -> None:
-        """An account without a record never waits, and neither does a name that isn't there."""
+        """An account without a record never waits, nor does an unknown name."""
         for name, answer in (("bob", "absent"), ("dan", "noaccount")):
             with self.subTest(name):
                 found = self.answers_in_turn(*[f"verify {name} {WRONG}"] * (LIMIT + 2))

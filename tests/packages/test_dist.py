@@ -135,8 +135,8 @@ class Dist(Packing):
         self.assertEqual(*built)
 
     def test_listed(self):
-        """The list of what is packed has each compiled file, and each crate of others with its
-        licence or with the word that none is known."""
+        """The list of packed code has each compiled file, and each crate of others with its
+        licence, or the word for an unknown one."""
         with tarfile.open(self.packed(self.packers[0])) as archive:
             files = {it.name: archive.extractfile(it).read() for it in archive.getmembers()}
         listed = json.loads(files[f"{NAME}/{NAME}.spdx.json"])

@@ -199,8 +199,7 @@ class Client(contextlib.AbstractContextManager["Client"]):
 
 @dataclass
 class Given:
-    """The start of a server: over a fast book, with sockets in a folder, if nothing else is
-    said."""
+    """The settings of a server: by default over a fast book, with sockets in a folder."""
 
     folder: pathlib.Path
     options: tuple[str, ...] = ()

@@ -19,7 +19,8 @@ COUNT = 120
 
 class Aging(Case):
     def test_as_pam_unix(self) -> None:
-        """Random dates near today, the borders of a password's age, and what is no number."""
+        """Random dates near today, the borders of a password's age, and texts that are no
+        number."""
         need_root()
         need("pamtester", "unshare", "mount")
         aging = importlib.import_module("daemon.aging")

@@ -100,7 +100,7 @@ class AskServer(Case):
         return " ".join(answer.split()), shown.status
 
     def test_answers(self) -> None:
-        """Each command, with the passwords that it asks for, and what it prints."""
+        """Each command, with its prompts for passwords, and its output."""
         service = self.serving()
         for row in ASKED.strip().splitlines():
             words, typed, answer = (it.strip() for it in row.split("|"))
@@ -191,8 +191,8 @@ class AskServer(Case):
 
     @each(*MISTAKES.items())
     def test_mistakes(self, words: str, said: str) -> None:
-        """Words that aren't meant, and a server that isn't reached, before a password is asked
-        for."""
+        """Impossible words, and an unreachable server, are refused before any prompt for a
+        password."""
         shown, status = self.asked(shlex.split(words))
         self.assertIn(said, shown)
         self.assertEqual(status, 5 if "No such file" in said else 1)

@@ -330,8 +330,8 @@ class OverCredkeep(Case):
         self.assertTrue(service.log().isascii(), "noise in the log")
 
     def test_unknown_names(self) -> None:
-        """A name that isn't there, and one without a record, cost the processor what a wrong
-        password costs."""
+        """An unknown name, and one without a record, cost as much processor time as a wrong
+        password."""
         service = self.over("--tries", "0", costs=SLOW).enrol(ada="secret")
         service.client("admin").talk("account bob -> ok")
 

@@ -95,7 +95,7 @@ class Earlier(Case):
         self.assertFalse(self.marks(folder).exists())
 
     def test_nobody_is_let_in_before(self) -> None:
-        """A socket is there once the book has all marks."""
+        """The sockets exist only once the book has all marks."""
         folder = self.begun()
         service = self.serving(folder=folder, faults="mute=lock", waits=False)
         self.assertIn("lock ada", asked(service))
@@ -110,8 +110,8 @@ class Earlier(Case):
 
     @each("dies", "killed", "kills")
     def test_kills(self, fault: str) -> None:
-        """A book that ends, or a server that is killed, in place of each answer: the file is there
-        until the book has all, and the next start goes on."""
+        """In place of each answer the book ends, or the server is killed: the file stays until the
+        book has all marks, and the next start goes on."""
         folder, is_started = self.begun(), False
         whole = (folder / "users.db").read_bytes()
         for answers in range(MOST_LINES):
@@ -230,6 +230,6 @@ class Earlier(Case):
 
 
 def asked(service: Service) -> list[str]:
-    """The lines that came to the book, once it is asked for a lock."""
+    """The lines that the book got, once it has got a `lock`."""
     until(lambda: any(it.startswith("lock ") for it in service.asked()), "a mark")
     return service.asked()

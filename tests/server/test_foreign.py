@@ -102,8 +102,8 @@ class Foreign(ForeignCase):
         service.talk("login verify ada {secret} -> absent\nlogin known ada -> absent")
 
     def test_ended_before_they_move(self) -> None:
-        """disable, delete and reset of a user whom the file alone has; the second and third of a
-        name that the book has too."""
+        """disable, delete and reset of a user who is only in the file; delete and reset of a name
+        that the book has too."""
         for name in ("ada", "bob", "cid", "dan", "eve"):
             self.add(name, "-s")
         folder = self.room()
@@ -294,8 +294,8 @@ class Foreign(ForeignCase):
         self.assertNotRegex(path.read_text(), f"{SECRET}|secret|SHA")
 
     def test_no_room(self) -> None:
-        """While .moved can't be written users log in, and nobody is said to be disabled; the log
-        says so once."""
+        """While .moved can't be written, users log in, no answer is `disabled`, and the log has one
+        line about it."""
         need("prlimit")
         self.add("ada", "-s")
         self.moved.write_text("bob 2026-11-28T05:00:00Z\n" * 80)

@@ -1,4 +1,5 @@
-"""Tests of bin/credkeep-server: users of an old file whom dates, or fields of Dovecot, shut out."""
+"""Tests of bin/credkeep-server: users of an old file who are barred by dates, or by fields of
+Dovecot."""
 
 from foreign_case import MAKERS, ForeignCase, made_by
 from served import TOP

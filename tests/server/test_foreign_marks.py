@@ -127,8 +127,7 @@ class ForeignMarks(ForeignCase):
         service.talk("admin marks - 10 -> marks bob:! eve:!")
 
     def test_pages_of_marks(self) -> None:
-        """Users whom the file bars are among the marked ones, each once, and no page is longer than
-        it may be."""
+        """The pages of marks list each user whom the file bars once, and no page is too long."""
         record = made_by(MAKERS["sha1"], "secret")
         barred = ("bo", "cy", "fay", "gus", "not a name")
         self.file.write_text("".join(f"{it}:{record}:::::::nologin\n" for it in barred))
@@ -149,8 +148,8 @@ class ForeignMarks(ForeignCase):
         self.assertEqual(asked, (0, lines.replace(" ", "\n") + "\n", ""))
 
     def test_no_room(self) -> None:
-        """While HTPASSWD.moved can't be written nobody is said to be expired, and who must change
-        can't move; a lock is the book's."""
+        """While HTPASSWD.moved can't be written, no answer is `expired`, and users who must change
+        the password can't move. A lock is in the book."""
         need("prlimit")
         record = made_by(MAKERS["sha1"], "secret")
         self.file.write_text(f"ada:{record}\nbob:{record}:0:0:99999:7:::\n")

@@ -79,8 +79,8 @@ class ForeignTries(ForeignCase):
         self.assertEqual((said.count(b"a no"), said.count(b"a later")), (4, 46))
 
     def test_who_is_barred(self) -> None:
-        """A right password of whom the file bars counts as a wrong one, before the move and after
-        it: else a guess would tell by the next answer that it is right."""
+        """A barred user's right password counts as a wrong one, before the move and after it.
+        Otherwise the next answer would show that the guess was right."""
         record = made_by(MAKERS["sha512crypt"], "secret")
         self.file.write_text(f"ada:{record}\nbob:{record}:::::::nologin\n")
         service = self.over("--tries", "2", clocked=True)

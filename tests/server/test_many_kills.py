@@ -173,7 +173,7 @@ class Importer:
 
 
 def kill(service: Service, kind: str) -> None:
-    """Kills the server, what it has started, or both, until it has ended."""
+    """Kills the server, its child processes, or both, until the server has ended."""
     children = pathlib.Path(f"/proc/{service.process.pid}/task/{service.process.pid}/children")
     started = children.read_text().split()
     if kind in ("server", "both"):

@@ -160,7 +160,7 @@ class NoSteps(Steps):
 
 
 class Server:
-    """A server over what is on the disks, which take its steps."""
+    """A server over the state on the disks, which run its steps."""
 
     def __init__(self, path: str, left: Left, steps: Steps) -> None:
         self.steps = steps

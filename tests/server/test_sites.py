@@ -148,8 +148,8 @@ class Sites(Case):
 
     @in_namespaces
     def test_nginx_cache(self, room: pathlib.Path) -> None:
-        """Forty pictures cost one hash; a wrong password isn't kept; what is kept is nginx's
-        alone."""
+        """Forty pictures cost one hash. The cache keeps no wrong password, and only nginx can read
+        it."""
         server = run_nginx(room, "cached", 8081)
         before = server.stats()
         self.assertEqual(fetched("ada:secret", 8081), {200: 40})
@@ -191,7 +191,7 @@ class Sites(Case):
 
     @in_namespaces
     def test_apache_cache(self, room: pathlib.Path) -> None:
-        """Forty pictures cost one hash or so; who is disabled is out at once."""
+        """Forty pictures cost about one hash; a disabled user gets no page any more, at once."""
         server = run_apache(room, "cached.conf", "authnz_pam authn_socache socache_shmcb")
         before = server.stats()
         self.assertEqual(fetched("ada:secret", 80), {200: 40})

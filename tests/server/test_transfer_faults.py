@@ -52,7 +52,7 @@ class Faults(TransferCase):
         service.stop()
 
     def test_a_book_that_is_shut(self) -> None:
-        """If the book can't be opened again nobody waits, and the service is there once it can."""
+        """If the book can't be opened again, no line waits, and the service goes on once it can."""
         for is_stopped in (False, True):
             shut = self.room() / "shut"
             service = self.over(program=FAST_BOOK, faults=f"shut={shut}")
@@ -114,8 +114,8 @@ class Faults(TransferCase):
         self.serves(again)
 
     def test_a_book_that_dies_before(self) -> None:
-        """The book's process ends by a fault as it is told to end: nothing is imported, and the
-        next one serves."""
+        """The book's process fails at its end before the import: nothing is imported, and the next
+        process serves."""
         service = self.over(program=FAST_BOOK, faults="slow=0.4")
         client, admin = service.client(), service.client("admin")
         client.send(f"a verify ada {SECRET}\n")
@@ -153,7 +153,8 @@ class Faults(TransferCase):
         service.stop()
 
     def test_a_program_that_is_gone(self) -> None:
-        """While credkeep isn't there an import fails, and no line is answered; then all goes on."""
+        """While credkeep is missing, an import fails, and no line is answered; afterwards the
+        service goes on."""
         program, away = self.room() / "credkeep", self.room() / "away"
         program.write_text(f'#!/bin/sh\nexec {FAST_BOOK} "$@"\n')
         program.chmod(0o755)
@@ -170,7 +171,7 @@ class Faults(TransferCase):
         service.stop()
 
     def test_a_watchdog(self) -> None:
-        """systemd is told that the server goes on while an import has the book."""
+        """The server sends its watchdog notices to systemd while an import has the book."""
         path = self.room() / "notify"
         with socket.socket(socket.AF_UNIX, socket.SOCK_DGRAM) as notices:
             notices.bind(str(path))

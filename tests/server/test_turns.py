@@ -36,15 +36,15 @@ class Waiting(IsolatedAsyncioTestCase):
         return "".join(taken)
 
     async def test_places(self) -> None:
-        """A user takes places while there are some, but for the last, and then as one comes
-        back."""
+        """A user takes all free places but the last, and then each one that is released."""
         places = Places(3)
         self.assertEqual(self.take(places, 1, "abcd"), "ab")
         self.assertEqual([self.released(places, it) for it in "abcd"], ["c", "d", "", ""])
         self.assertEqual(self.take(places, 1, "efg"), "ef")
 
     async def test_the_last_place(self) -> None:
-        """A user who has none takes it at once, and whoever has fewest the next."""
+        """A user without a place takes the last one at once; the user with the fewest gets the
+        next."""
         places = Places(4)
         self.assertEqual(self.take(places, 1, "abcdefg"), "abc")
         self.assertEqual(self.take(places, 2, "xyz"), "x")
@@ -62,7 +62,7 @@ class Waiting(IsolatedAsyncioTestCase):
         self.assertEqual(said, "-Ax!ByC")
 
     async def test_an_end(self) -> None:
-        """A user who is cancelled in the wait gets no place."""
+        """A user whose wait is cancelled gets no place."""
         places = Places(3)
         self.take(places, 1, "abcde")
         for letter in "cd":

@@ -1,4 +1,4 @@
-"""Tests of the units by systemd-analyze, and of what they forbid by what strace sees of a server.
+"""Tests of the units by systemd-analyze, and of the calls that they forbid by strace of a server.
 
 test_booted.py runs them.
 """

@@ -282,8 +282,8 @@ class Web(Case):
 
     @in_namespaces
     def test_nginx_names(self, room: pathlib.Path) -> None:
-        """However an address is typed, an application gets one name; $remote_user is what was
-        typed."""
+        """However a user types an address, an application gets one name; $remote_user is the typed
+        text."""
         shown = "add_header X-Account $user; add_header X-Typed $remote_user;"
         server = self.run_nginx(room, "--mail-names", more=shown)
         server.enrol(**{"ann@example.org": "secret"})

@@ -1,5 +1,5 @@
-"""tools/compile_proved.py over a toolchain of stand-ins: what is changed in the proved module, and
-when nothing is compiled."""
+"""tools/compile_proved.py over a toolchain of stand-ins: its changes of the proved module, and its
+refusals."""
 
 import re
 import sys

@@ -1,4 +1,4 @@
-"""tools/debian_packages.py: what it leaves behind on a machine."""
+"""tools/debian_packages.py: the state in which it leaves a machine."""
 
 import signal
 import subprocess

@@ -128,7 +128,8 @@ class DefinitionsPage(Case):
         path.write_text(path.read_text().replace(old, new))
 
     def test_printed(self) -> None:
-        """Each block has what it asks for, and what the one above it has isn't there twice."""
+        """Each block has the definitions that its line names, and none of an earlier block
+        again."""
         blocks = ["high.Boxes.IsBox", "high.Boxes.IsItem, low.Sizes.limit"]
         self.assertEqual(self.told(), (1, [f"docs/DEFINITIONS.md: {it} {ANEW}" for it in blocks]))
         self.assertEqual(self.told("--write"), (0, []))
@@ -146,7 +147,7 @@ class DefinitionsPage(Case):
         ("low/specs/Sizes.antt", "limit = 64", "limit = 65", 1),
     )
     def test_changed(self, file: str, old: str, new: str, block: int) -> None:
-        """A definition that changes is told, by the block that has it."""
+        """The tool reports a changed definition by the block that has it."""
         self.write_and_change(file, old, new)
         said = ["high.Boxes.IsBox", "high.Boxes.IsItem, low.Sizes.limit"][block]
         self.assertEqual(self.told(), (1, [f"docs/DEFINITIONS.md: {said} {ANEW}"]))
@@ -174,7 +175,7 @@ class DefinitionsPage(Case):
         ("definitions of", "names of", "docs/DEFINITIONS.md asks for no definitions"),
     )
     def test_lost(self, old: str, new: str, wrong: str) -> None:
-        """A name that isn't there is told, and a page without blocks."""
+        """The tool reports a missing name, and a page without blocks."""
         write_files(self.top, {"docs/DEFINITIONS.md": PAGE.replace(old, new)})
         status, [told] = self.told()
         self.assertEqual(status, 1)

@@ -68,7 +68,7 @@ class Pages(Case):
                 return [it for it in pages.order() if it]
 
     def test_statements(self) -> None:
-        """The promises are among what is compared."""
+        """The tool compares the promises too."""
         self.assertIn(pages.statements.check, pages.OF_TREE)
 
     def test_two_in_a_row(self) -> None:

@@ -1,5 +1,5 @@
-"""tools/promises.py: the clause that a call is said to have, and which crates of the toolchain the
-list of what is trusted has to name."""
+"""tools/promises.py: the clauses named with a call, and the toolchain's crates that the list of
+trusted code must name."""
 
 import sys
 from unittest import mock
@@ -81,8 +81,8 @@ class Trusted(Case):
             self.assertEqual(promises.reached(room), CRATES)
 
     def test_list(self):
-        """A crate that the list lacks is told, and one that no crate is built on; other names in
-        code are no crates."""
+        """The tool reports a crate that the list lacks, and a listed one that no crate uses; other
+        names in code are no crates."""
         whole = "- `std`, `os`: the prover.\n- `sha2`: SHA-256, and not `hex`.\n"
         whole += "- `serve` of a file: that.\n- `sqlite`, `sqlite_*`: files.\n"
         for text, wrong in (

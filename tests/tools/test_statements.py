@@ -1,4 +1,4 @@
-"""tools/statements.py: which lines a change of two crates changes, each change alone."""
+"""tools/statements.py: the lines that each change of two crates changes."""
 
 import re
 import sys
@@ -383,7 +383,7 @@ class Statements(Case):
         write_files(self.top, FILES)
 
     def test_lost_definition(self) -> None:
-        """A name that leads to no definition is told, and no traceback."""
+        """The tool reports a name that leads to no definition, without a traceback."""
         self.replace("low/specs/Bounds.antt", "pub data Size ", "pub data Sizes ")
         told = "docs/STATEMENTS.txt: Rattle.low.specs.Bounds.Size.Small is named, and isn't there"
         self.assertEqual(self.told(), (1, [told]))

@@ -70,7 +70,8 @@ class WithoutRt(helpers.Case):
 
     @each(*NEEDING)
     def test_needing(self, command: str, status: int, heads: list[str]) -> None:
-        """A few lines say what is missing, that it isn't published, and what works without it."""
+        """A few lines report that rt is missing and isn't published, and which commands work
+        without it."""
         done = self.ended(command)
         lines = [it for it in (done.written + done.faults).splitlines() if it]
         found = [line[: len(head)] for line, head in zip(lines, self.filled(heads))]

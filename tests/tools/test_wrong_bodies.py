@@ -1,5 +1,5 @@
-"""tools/wrong_bodies.py over a stand-in of the toolchain: which wrong bodies it tries, how many at
-once, and what it says of each."""
+"""tools/wrong_bodies.py over a stand-in of the toolchain: the wrong bodies that it tries, those at
+once, and its verdicts."""
 
 import os
 import shutil

@@ -344,8 +344,8 @@ class MariaServer(OfMySql):
 class MySqlServer(OfMySql):
     """A server of MySQL, whose files are in a root of their own.
 
-    RIGZUMAL_MYSQL names that folder: Debian's mysql-server-core of a later suite and what it
-    depends on, each unpacked there by `dpkg -x`.
+    RIGZUMAL_MYSQL names that folder: Debian's mysql-server-core of a later suite and its
+    dependencies, each unpacked there by `dpkg -x`.
     """
 
     user = "root"  # only root enters another root, whose users aren't this machine's
