@@ -363,8 +363,8 @@ def shim(name: str = "calls") -> str:
 
 
 def before_libc(library: str) -> dict[str, str]:
-    """The environment of a program that has this library before the C library. An emulator hands
-    the library on, and has none itself."""
+    """The environment of a program that has this library before the C library. An emulator passes
+    the library on to the program, and doesn't load it itself."""
     preload = {"LD_PRELOAD": library} if IS_NATIVE else {"QEMU_SET_ENV": f"LD_PRELOAD={library}"}
     return {**os.environ, **preload}
 

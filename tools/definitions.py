@@ -160,7 +160,7 @@ class Definitions:
                 current += found
 
     def add_constant(self, crate: str, modules: Place, name: str, text: Text) -> Place:
-        """Adds a constant of the code, and gives the path by which definitions name it."""
+        """Adds a constant of the code, and returns the path by which definitions name it."""
         place = ("declared", *modules, "TheConstants", name)
         self.found[(crate, *place)] = text
         return ("Rattle", crate, "specs", *place)

@@ -156,7 +156,7 @@ class File:
         return self.tokens[at].text == "pub" and self.tokens[at + 1].text != "("
 
     def with_body(self, item: Item, at: int, end: int) -> int:
-        """Reads the contract and the body of an item, and gives its end."""
+        """Reads the contract and the body of an item, and returns its end."""
         stop = self.until(at, end, ENDS_HEAD[item.kind])
         while stop < end and self.tokens[stop].text in CLAUSES:
             opens = self.until(stop, end, {"{"})

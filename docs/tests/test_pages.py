@@ -289,7 +289,7 @@ assert hasher.check_needs_rehash(record) is {is_old}
         self.assertRegex(manage("test"), r"Ran [1-9]\d* tests? in")
 
     def begin_django(self):
-        """Begins a project, and gives the pieces of docs/DJANGO.md."""
+        """Begins a project, and returns the pieces of docs/DJANGO.md."""
         need_module("django")
         need("django-admin")
         run("django-admin", "startproject", "service", ".", at=self.folder, env=OVER_PACKAGE)

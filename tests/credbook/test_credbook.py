@@ -215,8 +215,8 @@ class RunsTest(unittest.TestCase):
 
 
 class LauncherTest(unittest.TestCase):
-    """The installed command runs the program with huge pages, unless GLIBC_TUNABLES says something
-    of them: same words, input and end."""
+    """The installed command runs the program with huge pages, unless GLIBC_TUNABLES sets them: with
+    the same words, input and end."""
 
     def launched(self, inner: str, *words: str, **options: Any) -> Ended:
         with tempfile.TemporaryDirectory(prefix="credbook-") as folder:

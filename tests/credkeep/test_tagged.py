@@ -164,8 +164,8 @@ class HashesTest(BookTest):
             self.assertEqual(service.end(), DONE)
 
     def test_threads_that_cannot_start(self) -> None:
-        """If too few threads can be started the service says so; with enough of them it serves.
-        Root has no such limit, so a user without other processes runs it."""
+        """If the system starts too few threads, the service reports it; with enough threads it
+        serves. Root has no such limit, so a user without other processes runs it."""
         self.enrolled(8)
         options: dict[str, Any] = {}
         if os.getuid() == 0:

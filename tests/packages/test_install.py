@@ -285,7 +285,7 @@ class Debs(helpers.Case):
         run(*emulator, room / "program", env={"LD_LIBRARY_PATH": str(room / libraries)})
 
     def test_symbols(self):
-        """The package says the library's symbols, each since a version that there was."""
+        """The package lists the library's symbols, each with an existing version."""
         head, *lines = (TOP / "packaging/librigzumal1/symbols").read_text().splitlines()
         self.assertEqual(head, "librigzumal.so.1 librigzumal1 #MINVER#")
         since = dict(re.fullmatch(r" (\S+) (\d+\.\d+\.\d+)", line).groups() for line in lines)

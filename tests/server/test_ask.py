@@ -105,7 +105,7 @@ class CredkeepAsk(Case):
     )
     def test_asked(self, operation: str, account: Account, typed: list[bytes], given: str) -> None:
         """Each operation asks for the passwords that it reads, the account's present one first, and
-        hands them on by a pipe."""
+        passes them on by a pipe."""
         shown = self.asked(f"users.db|{operation}|ada", typed, account)
         self.assertEqual((shown.status, shown.echoes), (7, [*[False] * len(typed), True]))
         prompts = b"Password: |\r\n" * (typed[0] in ONE)

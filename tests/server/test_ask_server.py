@@ -224,7 +224,8 @@ class AskServer(Case):
         self.assertEqual(self.asked([admin, "list"]), ("", 0))
 
     def test_a_closed_pipe(self) -> None:
-        """Names that read as refusals are names, and an answer that can't be written says so."""
+        """Names that read as refusals are names, and a message reports an answer that can't be
+        written."""
         service = self.serving()
         service.talk("admin account no -> ok")
         words = [str(ASK), "--server", str(service.path("admin")), "list"]

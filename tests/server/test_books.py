@@ -369,8 +369,8 @@ class OverCredkeep(Case):
             self.assertNotRegex(log, "start:|Traceback")
 
     def test_busy_file(self) -> None:
-        """While another process has the file, the server waits for it; then it says why it can't
-        start."""
+        """While another process has the file, the server waits for the file; then it logs why it
+        can't start."""
         room = self.room()
         self.over(folder=room)
         words = f"--credkeep {real_book()} --wait 1 --socket a {room}/second 0600 - all"

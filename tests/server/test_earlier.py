@@ -130,7 +130,7 @@ class Earlier(Case):
 
     @each("lock", "expire")
     def test_a_book_that_refuses(self, operation: str) -> None:
-        """The server doesn't start, says why, and keeps the file."""
+        """The server doesn't start, logs the reason, and keeps the file."""
         folder = self.begun()
         service = self.serving(folder=folder, faults=f"refuses={operation}", waits=False)
         status, log = service.ended()

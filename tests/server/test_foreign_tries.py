@@ -35,8 +35,8 @@ class ForeignTries(ForeignCase):
         self.assertEqual(self.gone(), ["ada"])
 
     def test_what_ends_a_wait(self) -> None:
-        """An administrator, who forgives also where nothing is counted, or gives a new password. A
-        name that leaves the file is unknown, and waits no more."""
+        """An administrator ends a wait, by `forgive`, which also works without failed tries, or by
+        a new password. A name that leaves the file is unknown, and waits no more."""
         for name in ("ada", "bob", "cid", "dan"):
             self.add(name, "-s")
         folder = self.room()

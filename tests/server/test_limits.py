@@ -34,8 +34,8 @@ class Limits(Case):
         self.assertEqual(len(service.asked()), asked + 2)
 
     def test_pieces_and_many_in_one(self) -> None:
-        """Bytes may come one by one, and many lines at once; a client that ends sending gets its
-        answers."""
+        """Bytes may arrive one by one, and many lines at once; a client that stops sending still
+        gets its answers."""
         service = self.serving("--tries", "0", faults="late").enrol(ada="secret")
         client = service.client()
         for letter in f"a verify ada {SECRET}\n":

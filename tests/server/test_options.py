@@ -165,8 +165,8 @@ class Mistakes(Case):
             self.assertFalse(noted.exists())
 
     def test_bounds(self) -> None:
-        """A line's record may need sixteen times the memory and the work of new ones, or what an
-        option says.
+        """A line's record may need sixteen times the memory and the work of new ones, or as much as
+        an option allows.
 
         Memory and work are those of ERRORS.md: m KiB, and m t; 128 r p 2^ln bytes, and twice that.
         """

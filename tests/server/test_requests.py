@@ -1,4 +1,4 @@
-"""Tests of bin/credkeep-server: the rights of sockets, and the tags of answers."""
+"""Tests of bin/credkeep-server: the rights of its sockets, and the tags of its answers."""
 
 import grp
 import pathlib

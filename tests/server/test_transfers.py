@@ -284,7 +284,8 @@ class Copies(TransferCase):
         service.stop()
 
     def test_a_closed_pipe(self) -> None:
-        """An export that can't be written says so, and one that is cut isn't taken for whole."""
+        """credkeep-ask reports an export that it can't write, and doesn't take a truncated one for
+        whole."""
         service = self.over()
         with open("/dev/full", "w") as full:
             done = ended([ASK, "--server", str(service.path("admin")), "export"], stdout=full)

@@ -17,7 +17,7 @@ NOT_ASKED = "E203,E402,E501,E704,E731,E741,W503"
 
 
 def files() -> list[pathlib.Path]:
-    """All Python of the tree: programs without an ending too."""
+    """All Python files of the tree, also programs without a suffix."""
     found = [it for it in TOP.rglob("*.py") if not BUILT & {*it.relative_to(TOP).parts}]
     for program in (TOP / "bin").iterdir():
         if "python3" in program.read_text().partition("\n")[0]:

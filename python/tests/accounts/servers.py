@@ -234,7 +234,7 @@ class PostgresServer(OfPostgres):
 
 
 class PooledPostgres(OfPostgres):
-    """A PostgreSQL behind PgBouncer, which gives sessions out for a transaction each."""
+    """A PostgreSQL behind PgBouncer, which lends a session for one transaction."""
 
     mode = "transaction"
 

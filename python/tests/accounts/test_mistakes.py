@@ -118,7 +118,7 @@ class InPython(Base):
                 self.assertEqual(PasswordHasher(memory_cost=memory).memory_cost, memory)
 
     def test_the_order_of_two_records_is_no_mistake(self):
-        """A password that looks like a record is a wrong one."""
+        """A password that looks like a record is a wrong password."""
         self.assertFalse(support.is_right(RECORD, RECORD))
         self.assertRaisesRegex(InvalidRecordError, "^(?!.*first)", LOW.verify, "one", "two")
 

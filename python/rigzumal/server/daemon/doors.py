@@ -72,7 +72,7 @@ class Door:
         self.lock()
 
     def socket_of_systemd(self) -> socket.socket:
-        """The socket that systemd hands over under this name."""
+        """The socket that systemd passes under this name."""
         names = os.environ.get("LISTEN_FDNAMES", "").split(":")
         if self.name in names:
             found = socket.socket(fileno=FIRST_OF_SYSTEMD + names.index(self.name))

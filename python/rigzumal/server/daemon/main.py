@@ -112,8 +112,8 @@ async def serve_clients(service: Service) -> None:
 
 
 async def notify_once_answered(book: Book, beat: float) -> None:
-    """Tells systemd in each beat that the server is alive: the book answers, or an import has its
-    file."""
+    """Tells systemd that the server is alive, in each beat in which the book answers or an import
+    has the book's file."""
     answer = book.ask(b"show", b"-")
     while not answer.done():
         await asyncio.wait([answer], timeout=beat)
