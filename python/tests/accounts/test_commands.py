@@ -23,8 +23,7 @@ class Answers(Commands):
     has_table = False
 
     def test_answers_and_statuses(self):
-        """The answer and status of each command, in order; with each status of 1 to 6 but 4,
-        standard error has the reason."""
+        """Each command's answers and statuses; with 1 to 6 but 4 standard error has the reason."""
         one, two, bad = (
             pathlib.Path(self.file(line)).rename(f"{self.server.path}.{place}")
             for place, line in enumerate((f"bob {RECORD}", f"bob {LOW.hash('two')}", "cid garbage"))
