@@ -179,7 +179,10 @@ class Tries(Case):
         for now, line, ought in (
             *((0, "ada {wrong} -> no", ""), (0, "ada {secret} -> later", " ada:1")),
             *((0.5, "bob {wrong} -> no", " ada:1"), (1, "ada {wrong} -> no", "")),
-            *((1, "ada {secret} -> later", " ada:2"), (1.2, "bob {wrong} -> later", " ada:2 bob:1")),
+            *(
+                (1, "ada {secret} -> later", " ada:2"),
+                (1.2, "bob {wrong} -> later", " ada:2 bob:1"),
+            ),
             *((2.5, "ada {secret} -> later", " ada:1"), (3, "ada {wrong} -> no", "")),
             *((4, "ada {secret} -> later", " ada:3"), (5.5, "bob {secret} -> yes", " ada:2")),
         ):
@@ -206,7 +209,11 @@ class Tries(Case):
         clock = self.enterContext(mock.patch.object(tally.time, "monotonic", return_value=100.0))
         for name in "abcabde":
             counted.count(verify, name, "later", 900)
-        for now, ought in ((100.0, " a:900 b:900 more=2"), (999.5, " a:1 b:1 more=2"), (1000.0, "")):
+        for now, ought in (
+            (100.0, " a:900 b:900 more=2"),
+            (999.5, " a:1 b:1 more=2"),
+            (1000.0, ""),
+        ):
             clock.return_value = now
             self.assertEqual(counted.answer(b"waits", ""), f"waits{ought}")
 
