@@ -12,13 +12,13 @@ a C compiler links the program's object in c/proved/programs, which a tarball of
 standard error it says every half minute, and as each library is proved, how many are, and about how
 long the rest will take. Standard output has the program's output alone, and the script's status is
 the program's. The script reuses earlier builds of unchanged sources; with --built it does nothing
-else, and the status is 1 if the program isn't built for LEVEL. With --object it is built again
-unless its object was kept (crates/NAME/out/objects), for `make dist`. What each crate took is what
-it is expected to take the next time (crates/NAME/out/seconds), and with --note by those who build
-it first, too: tools/build_seconds.json, of four idle processors. `rt run` alone does the same in
-more time: one rt at a time may work above a library, so libraries that don't use each other are
-worked here in two copies of the sources, and what was proved is copied back. The variable RT names
-another rt.
+else, and the status is 1 if the program isn't built for LEVEL. With --object, which `make dist`
+uses, the program is built again unless its object was kept (crates/NAME/out/objects). What each
+crate took is what it is expected to take the next time (crates/NAME/out/seconds), and with --note
+by those who build it first, too: tools/build_seconds.json, of four idle processors. `rt run` alone
+does the same in more time: one rt at a time may work above a library, so libraries that don't use
+each other are worked here in two copies of the sources, and what was proved is copied back. The
+variable RT names another rt.
 """
 
 import argparse
@@ -51,8 +51,8 @@ ARM64, TARGET = programs.ARM64, "aarch64-unknown-linux-gnu"
 
 
 def folders(room):
-    """Folders with the sources, each for one rt at a time. The first that is free is the repository
-    itself."""
+    """Folders with the sources, each for one rt at a time. The repository itself is used before the
+    copies if it is free."""
     free = queue.PriorityQueue()
     free.put((0, TOP))
     for number in range(1, AT_ONCE):

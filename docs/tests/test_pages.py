@@ -179,8 +179,7 @@ assert hasher.check_needs_rehash(record) is {is_old}
         self.check_logins(code, services.FLASK)
 
     def check_c(self, code, rehashes):
-        """A sample of C lets in by the right password alone, and rehashes old records alone
-        then."""
+        """A sample of C accepts only the right password, and then rehashes only old records."""
         self.assertEqual(code.count("RIGZUMAL_ARGON2_COSTS"), 1 + rehashes)
         code = code.replace("RIGZUMAL_ARGON2_COSTS", "costs", 1)
         source, program = self.folder / "sample.c", self.folder / "sample"
@@ -203,7 +202,7 @@ assert hasher.check_needs_rehash(record) is {is_old}
         self.check_c(f"{made}\n{TYPED}\n{checked}", rehashes=False)
 
     def test_sample_of_the_header(self):
-        """The C at the head of rigzumal.h."""
+        """The sample of C in the comment at the head of rigzumal.h."""
         head = (TOP / "c/include/rigzumal.h").read_text().partition("*/")[0]
         code = "\n".join(re.findall(r"^ \*     (.*)$", head, re.M))
         self.assertEqual(code.count("..."), 1)

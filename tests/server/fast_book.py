@@ -246,7 +246,7 @@ class Accounts:
 
 
 class Book(Accounts):
-    """The accounts in a file, which stores a change before its answer."""
+    """The accounts in a file: each change is stored there before it is answered."""
 
     def __init__(self, path: str, costs: str, limit: int) -> None:
         super().__init__(costs, limit)

@@ -274,7 +274,7 @@ class OverCredkeep(Case):
             service.stop()
 
     def test_costs_if_none_are_given(self) -> None:
-        """The bounds are those of credkeep's own costs of new records."""
+        """The bounds follow from the costs that credkeep itself gives new records."""
         service = self.serving(program=real_book())
         service.talk("admin account ada -> ok\nadmin enrol ada {secret} -> enrolled")
         self.assertTrue(service.client("admin").ask("show ada").startswith(f"{USUAL}$"))

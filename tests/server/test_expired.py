@@ -36,7 +36,7 @@ class Expired(Case):
         return server
 
     def check(self, program: str, user: str, *typed: str) -> None:
-        """A user is let in by typing so much and no more."""
+        """A user is let in after typing exactly these lines."""
         words = [it.format(user) for it in PROGRAMS[program]]
         shown = at_a_terminal(words, [f"{it}\n".encode() for it in typed])
         said = f"{program} of {user}: {shown.text!r}"

@@ -222,8 +222,8 @@ class OverABook(Case):
     """Failed tries over credkeep itself, if it is built, by its own clock."""
 
     def test_a_wait(self) -> None:
-        """A right password is too early too, at this name alone, and an administrator ends the
-        wait."""
+        """A right password has to wait too, but only for this name, and an administrator can end
+        the wait."""
         service = self.serving("--setting", CHEAP, "--tries", "2", program=chosen_book())
         service.enrol(ada="secret", bob="other")
         service.guess("ada", 5)

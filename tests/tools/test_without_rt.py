@@ -1,5 +1,5 @@
 """The messages of the tree's commands without the toolchain, in a clean copy: each that needs rt
-looks for it first. tests/packages tries what a C compiler builds then."""
+looks for it first. tests/packages tests what a C compiler builds without rt."""
 
 import os
 import pathlib

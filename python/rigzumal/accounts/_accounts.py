@@ -64,9 +64,10 @@ class Accounts(Operations[Pool]):
     is called in the operation's transaction, while the account's row is locked and before
     its record is written. So your own rows, such as a session, are committed with the
     reply or not at all. If the server undoes the transaction, `also` is called again in
-    the next; for CHANGED it isn't called. Its exceptions undo all and reach the caller,
-    but for its connection's errors that mean "again". `also` leaves the transaction open
-    and the record alone, and calls no operation on the same table.
+    the next; for CHANGED it isn't called. An exception of `also` undoes everything and
+    reaches the caller, unless it is an error of the connection that means "again". `also`
+    leaves the transaction open and the record alone, and calls no operation on the same
+    table.
 
     Every operation may raise:
         TypeError: the key is of another type than its column, or a password is neither

@@ -218,7 +218,7 @@ class _Command:
         while isinstance(copy, str):
             line = line_of(key, copy)
             if self.args.show and not (line or self.args.json):
-                raise Refusal("the name or the record fits no line: add --json")
+                raise Refusal("the name or the record can't be written as a line: add --json")
             ticket = Ticket(Request(Kind.REMOVE, key), copy)
             answer = self.accounts.commit(Worked(ticket, Reply.REMOVED, None))
             if answer.reply is Reply.REMOVED:

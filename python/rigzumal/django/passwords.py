@@ -48,8 +48,8 @@ def verify_password(user: Any, password: Any) -> bool:
 def change_password(user: Any, old_password: Any, new_password: Any) -> bool:
     """Writes the new password if the old one is right; False if it is wrong.
 
-    The old password is judged at the record that the new one replaces, so a reset that
-    came meanwhile stays. The call runs no validator, but calls their `password_changed`.
+    The old password is checked against the record that the new one replaces, so a reset
+    that came meanwhile stays. The call runs no validator, but calls their `password_changed`.
     The call writes one column and sends no signal; a model with its own `set_password`
     is saved whole.
     """

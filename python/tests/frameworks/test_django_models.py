@@ -21,7 +21,7 @@ from rigzumal.django import passwords, users
 
 
 def beside(expected):
-    """A test that a scenario has this end, with the mixin and without it."""
+    """A test that a scenario returns `expected`, with the mixin and without it."""
 
     def decorated(scenario):
         def test(self):

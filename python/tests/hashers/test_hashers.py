@@ -202,7 +202,7 @@ class Opaque(unittest.TestCase):
         *("\ud7fb", "\ufe0d", "\uffa0", "\U000e01ef"),
     )
     def test_what_nobody_types(self, odd):
-        """Characters that nobody types are refused, and the exception shows no text."""
+        """Characters that nobody types are refused, and the exception doesn't show the password."""
         with self.assertRaises(ValueError) as raised:
             opaque_string(f"hunter{odd}2")
         self.assertNotIn("hunter", str(raised.exception))
