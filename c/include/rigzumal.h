@@ -44,7 +44,7 @@
  *   call. The memory of a hash is not on the stack, whatever its costs.
  * - No call is made in a signal handler, nor in the child of a process of several threads that
  *   forked and has not called exec. A child that is forked in a handler and goes on with its
- * parent's call returns a right answer, or ends by abort.
+ *   parent's call returns a right answer, or ends by abort.
  * - No call is left by longjmp or by asynchronous cancellation: its memory, with what is in it,
  *   would stay mapped for ever.
  *
