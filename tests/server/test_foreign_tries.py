@@ -68,6 +68,42 @@ class ForeignTries(ForeignCase):
         self.assertEqual(lines[0], "ada has to wait after 1 failed tries")
         self.assertEqual(len(lines), 7, lines)
 
+    def test_a_record_in_the_book(self) -> None:
+        """A record that an administrator stores in the book ends the wait at the file, and is
+        judged from then on; an import ends no wait of others."""
+        for name in ("ada", "bob", "cid"):
+            self.add(name, "-s")
+        service = self.over("--tries", "1", clocked=True)
+        for name in ("ada", "bob", "cid"):
+            service.talk(f"login verify {name} {{wrong}} -> no\nlogin verify {name} !! -> later")
+        service.talk("admin account zoe -> ok\nadmin enrol zoe {fresh} -> enrolled")
+        record = service.client("admin").ask("show zoe")
+        service.talk(
+            f"""
+            admin lock ada -> locked
+            admin load ada {record} -> ok
+            admin waits -> waits bob:1 cid:1
+            admin unlock ada -> unlocked
+            login verify ada {{wrong}} -> no
+            login verify ada {{fresh}} -> later
+            admin load ada {record} -> ok
+            admin waits -> waits bob:1 cid:1 ada:1
+            """
+        )
+        admin, text = service.client("admin"), f"bob:{record}\n".encode()
+        admin.send(b"i import %d\n" % len(text))
+        self.assertEqual(admin.line(), b"i send %d" % len(text))
+        admin.send(text)
+        self.assertTrue(admin.line().startswith(b"i ended 0 "))
+        service.talk(
+            """
+            admin waits -> waits cid:1
+            login verify cid {secret} -> later
+            login verify bob {fresh} -> yes
+            login verify ada {fresh} -> yes
+            """
+        )
+
     def test_guesses_at_once(self) -> None:
         """Of guesses that arrive together only as many are judged as may fail."""
         self.file.write_text(f"ada:{made_by('htpasswd -niBC 6 u', 'secret')}\n")

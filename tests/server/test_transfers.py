@@ -70,6 +70,24 @@ class Imports(TransferCase):
         self.assertEqual(self.ask(service, "import", given=LINE.encode()).status, 0)
         service.talk("login verify ada {wrong} -> no\n" * 2)
 
+    def test_waits(self) -> None:
+        """No name is listed that had to wait at the process before, whether the import is done or
+        refused; a try on a copy ends no wait."""
+        service = self.over("--tries", "1", clocked=True, program=FAST_BOOK)
+        for options, text, status, left in (
+            ("--dry-run", LINE, 0, " ada:1"),
+            ("", LINE, 0, ""),
+            ("", "x y\n", 6, ""),
+        ):
+            service.talk("admin forgive ada -> forgiven\nlogin verify ada {wrong} -> no")
+            service.talk("login verify ada {secret} -> later\nadmin waits -> waits ada:1")
+            done = self.ask(service, "import", *options.split(), given=text.encode())
+            self.assertEqual(done.status, status, done)
+            service.talk(f"admin waits -> waits{left}")
+            self.assertEqual(service.stats()["waits"], bool(left))
+        service.talk("login verify ada {secret} -> yes")
+        self.assertEqual(service.log().count("1 names have to wait no more"), 2)
+
     def test_ten_thousand(self) -> None:
         """One import adds ten thousand accounts while users log in; the next start has them too."""
         folder = self.room()

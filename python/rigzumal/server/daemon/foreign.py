@@ -86,6 +86,21 @@ class Foreign:
             self.tries.forgive(name)
         return answer
 
+    def rest(self, name: str) -> int:
+        """The seconds of a wait at a user whom the file judges."""
+        return self.tries.rest(name.encode(errors="replace"))
+
+    async def end_waits(self) -> None:
+        """Ends the waits of users who have a record in the book after an import."""
+        for name in list(self.tries.failed):
+            if has_record(await self.service.book.row(name)):
+                self.end_wait(name)
+
+    def end_wait(self, name: bytes) -> None:
+        """Forgets a user's failed tries, as the book judges the next one."""
+        self.tries.forgive(name)
+        self.service.tally.end_wait(name.decode(errors="replace"), "the book has a record")
+
     async def with_locks(self, text: BinaryIO) -> BinaryIO:
         """An export, with a lock at users whom the file bars."""
         return await asyncio.to_thread(with_locks, text, await self.file.barred())
@@ -123,6 +138,8 @@ class Foreign:
             return answer
         if answer in LACKS:
             return await self.answer_of_file(request, line, answer)
+        if word == b"load" and answer == b"ok" and not has_record(row):
+            self.end_wait(name)
         await self.note_move(request, answer)
         return answer
 

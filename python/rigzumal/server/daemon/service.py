@@ -256,6 +256,12 @@ class Service:
         await self.note(replace(request, words=list(words)), answer)
         return answer
 
+    async def end_waits(self) -> None:
+        """Ends the waits of failed tries that the book's last process counted."""
+        self.tally.end_waits(self.foreign.rest if self.foreign else lambda _: 0)
+        if self.foreign:
+            await self.foreign.end_waits()
+
     async def upgrade(self, request: Request) -> None:
         """Upgrades a record of other costs after a right password; upgrades run one at a time."""
         if self.upgrading.locked() or not self.has_room():

@@ -5,7 +5,7 @@ import re
 import socket
 import time
 from collections import Counter, OrderedDict
-from collections.abc import Iterator
+from collections.abc import Callable, Iterator
 from dataclasses import dataclass
 from typing import TypeVar
 
@@ -119,6 +119,16 @@ class Tally:
         self.early.pop(name, None)
         if forget_message((LATER, name)):
             log.info("%s has to wait no more: %s", name, why)
+
+    def end_waits(self, staying: Callable[[str], int]) -> None:
+        """Notes that a new process of the book has the file, which knows no failed tries: each wait
+        has ended but those of names with seconds that stay."""
+        ended = [name for name in self.early if not staying(name)]
+        for name in ended:
+            del self.early[name]
+            forget_message((LATER, name))
+        if ended:
+            log.info("%d names have to wait no more: the book's process is new", len(ended))
 
     def waits(self) -> list[str]:
         """The names with a try that was too early, a wait that isn't over, and no login or

@@ -195,12 +195,15 @@ class Transfers:
         """Imports the text into the book, whose lines wait meanwhile."""
         words = self.import_words(request)
         text = await self.with_names_of_book(text)
-        async with self.service.book.lent() as status:
-            if status:
-                return Result(status, faults=ENDING)
-            log.info("an import has the book: lines wait")
-            result = await self.run(self.file, *words, text=text)
-            log.info("the import has ended with status %d", result.status)
+        try:
+            async with self.service.book.lent() as status:
+                if status:
+                    return Result(status, faults=ENDING)
+                log.info("an import has the book: lines wait")
+                result = await self.run(self.file, *words, text=text)
+                log.info("the import has ended with status %d", result.status)
+        finally:
+            await self.service.end_waits()
         self.service.tally.counts["changes"] += not result.status
         return result
 
