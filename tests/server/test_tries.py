@@ -248,6 +248,22 @@ class OverABook(Case):
         until(lambda: client.ask(f"verify ada {SECRET}") == "yes", "the end of the wait")
         client.talk("verify ada {wrong} -> no\nverify ada {secret} -> yes")
 
+    def test_renamed(self) -> None:
+        """Failed tries stay at their name: the account has those of its new name, which has
+        none."""
+        service = self.serving("--setting", CHEAP, "--tries", "2", program=chosen_book())
+        service.enrol(ada="secret")
+        service.guess("ada", 3)
+        service.talk(
+            """
+            login verify ada {secret} -> later
+            admin rename ada eve -> renamed
+            login verify eve {wrong} -> no
+            login verify eve {secret} -> yes
+            login verify ada {secret} -> noaccount
+            """
+        )
+
     def test_no_limit(self) -> None:
         """With --tries 0 nobody has to wait."""
         service = self.serving("--setting", CHEAP, "--tries", "0", program=chosen_book())
