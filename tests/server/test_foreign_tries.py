@@ -70,7 +70,8 @@ class ForeignTries(ForeignCase):
 
     def test_a_record_in_the_book(self) -> None:
         """A record that an administrator stores in the book ends the wait at the file, and is
-        judged from then on; an import ends no wait of others."""
+        judged from then on. So does the end of the user's record; an import ends no wait of
+        others."""
         for name in ("ada", "bob", "cid"):
             self.add(name, "-s")
         service = self.over("--tries", "1", clocked=True)
@@ -90,6 +91,10 @@ class ForeignTries(ForeignCase):
             admin waits -> waits bob:1 cid:1 ada:1
             """
         )
+        for name, end in (("dan", "disable dan -> disabled"), ("eve", "delete eve -> deleted")):
+            self.add(name, "-s")
+            service.talk(f"login verify {name} {{wrong}} -> no\nlogin verify {name} !! -> later")
+            service.talk(f"admin {end}\nadmin waits -> waits bob:1 cid:1 ada:1")
         admin, text = service.client("admin"), f"bob:{record}\n".encode()
         admin.send(b"i import %d\n" % len(text))
         self.assertEqual(admin.line(), b"i send %d" % len(text))

@@ -97,9 +97,10 @@ class Foreign:
                 self.end_wait(name)
 
     def end_wait(self, name: bytes) -> None:
-        """Forgets a user's failed tries, as the book judges the next one."""
-        self.tries.forgive(name)
-        self.service.tally.end_wait(name.decode(errors="replace"), "the book has a record")
+        """Forgets a user's failed tries, as the file judges no further one."""
+        if name in self.tries.failed:
+            self.tries.forgive(name)
+            self.service.tally.end_wait(name.decode(errors="replace"), "the book decides now")
 
     async def with_locks(self, text: BinaryIO) -> BinaryIO:
         """An export, with a lock at users whom the file bars."""
@@ -138,7 +139,7 @@ class Foreign:
             return answer
         if answer in LACKS:
             return await self.answer_of_file(request, line, answer)
-        if word == b"load" and answer == b"ok" and not has_record(row):
+        if word == b"load" and answer == b"ok":
             self.end_wait(name)
         await self.note_move(request, answer)
         return answer
@@ -154,8 +155,10 @@ class Foreign:
         if has_record(row) and self.file.is_expired(name) and word not in (b"show", *MARKS):
             if refusal := await self.finish_move(request):
                 return refusal
-        if ends_record(word, row) and not await self.file.note_moved(name):
-            return UNAVAILABLE  # otherwise the file decides, also once it is readable again
+        if ends_record(word, row):
+            if not await self.file.note_moved(name):
+                return UNAVAILABLE  # otherwise the file decides, also once it is readable again
+            self.end_wait(name)
         return b""
 
     async def finish_move(self, request: Request) -> bytes:
