@@ -15,25 +15,14 @@ lines_of (c ∷ cs) = if c == 10 then [] ∷ lines_of cs else onto_first c (line
 abbrev pub events_of : List ℕ → List Event
 events_of bytes = map event_of (lines_of bytes)
 
--- a script at its start: the book, its bytes, what was written before it, and the events that its
--- lines come to
+-- a script at its start: the book, its bytes, and what was written before it
 pub record ScriptStart : Type 0 where
   pub book : Accounts
   pub bytes : List ℕ
   pub before : Option (List ℕ)
-  pub events : List Event
 
-abbrev pub start_as : Accounts → List ℕ → Option (List ℕ) → List Event → ScriptStart
-start_as book bytes before events =
-    record { book = book; bytes = bytes; before = before; events = events }
-
--- each line comes to what it asks for
 abbrev pub script_start : Accounts → List ℕ → Option (List ℕ) → ScriptStart
-script_start book bytes before = start_as book bytes before (events_of bytes)
-
--- its lines come to other events
-abbrev pub with_events : ScriptStart → List Event → ScriptStart
-with_events script events = start_as script.book script.bytes script.before events
+script_start book bytes before = record { book = book; bytes = bytes; before = before }
 
 -- the answers to the first events, a line each
 unfoldable pub answers_before : ℕ → Accounts → List Event → ℕ → List ℕ
