@@ -11,6 +11,5 @@ pub mod Readings
 pub mod Runs
 pub mod Simulation
 pub mod StepLemmas
-pub mod Unended
 pub mod Basis
 pub mod Writes

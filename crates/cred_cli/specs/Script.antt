@@ -1,5 +1,5 @@
 -- What a script is answered.
-use Rattle.std.specs.Prelude.{ℕ, zero, suc, ◌==◌, if◌then◌else◌, List, [], ◌∷◌, ◌++◌, length, map, Option, drop, take}
+use Rattle.std.specs.Prelude.{ℕ, zero, suc, ◌==◌, if◌then◌else◌, List, [], ◌∷◌, ◌++◌, length, map, Option}
 use Rattle.cred_book.specs.Accounts.{Accounts}
 use Rattle.cred_cli.specs.{declared.event.Event.Event, Events.event_of, History.answer_at, Texts.line_of}
 
@@ -38,8 +38,3 @@ out capacity book bytes = answers_before capacity book (events_of bytes) (length
 abbrev pub line_ends : List ℕ → ℕ
 line_ends [] = 0
 line_ends (c ∷ cs) = if c == 10 then suc (line_ends cs) else line_ends cs
-
--- what the lines of these bytes come to, of which the last one comes to something else if it has no
--- end
-unfoldable pub with_unended : {A : Type 0} → (A → A) → List ℕ → List A → List A
-with_unended f bytes lines = take (line_ends bytes) lines ++ map f (drop (line_ends bytes) lines)

@@ -1,7 +1,7 @@
 //! A script that is being run: its bytes are read and taken in turn, and each whole line is
 //! answered.
 
-ghost use Rattle.std.specs.Prelude.{◌≡◌, ◌+◌, ◌≤◌, true, [], ◌∷◌, length, Some, IfErr, IfSome, OnOk};
+ghost use Rattle.std.specs.Prelude.{◌≡◌, ◌+◌, ◌≤◌, false, true, [], ◌∷◌, length, Some, IfErr, IfSome, OnOk};
 ghost use Rattle.cred_cli.specs.{Events.IsSound, Outcome.HasCause, Outcome.longest_script, declared.progress.Progress.Progress};
 ghost use Rattle.cred_cli.specs.Feeding.{Finishes, IsAt, Plays, Takes, TakesLine, standing, standing_at};
 ghost use Rattle.cred_cli.specs.{Script.ScriptStart, Script.script_start, Scripts.ScriptEnds};
