@@ -1,9 +1,9 @@
 -- What a run's calls of its reader find, and how many there are.
-use Rattle.std.proofs.Common.{◌≡◌, ℕ, ◌+◌, ◌≤◌, ◌<◌, arith, List, [], ◌∷◌, ◌++◌, length, Option, Some, None, IfSome, Result, Err, MatchResult, append-nil, refl, sym, ap, ◌∙◌}
+use Rattle.std.proofs.Common.{◌≡◌, ℕ, ◌+◌, ◌≤◌, ◌<◌, arith, List, [], ◌∷◌, ◌++◌, length, Option, Some, None, IfSome, Result, Ok, Err, append-nil, refl, sym, ap, ◌∙◌}
 use Rattle.std.proofs.lemmas.List.{append_cancel_right, length-append}
 use Rattle.std.specs.Io.KnownBytes.{Consumes}
 use Rattle.cred_book.specs.Accounts.{Accounts}
-use Rattle.cred_cli.specs.{Feeding.Breaks, Feeding.Finishes, Feeding.IsAt, Feeding.Standing, Script.ScriptStart, Script.answers_before, Script.events_of, Script.line_ends, Script.script_start, Scripts.ScriptEnds}
+use Rattle.cred_cli.specs.{Feeding.Finishes, Feeding.GoesOn, Feeding.IsAt, Feeding.Standing, Script.ScriptStart, Script.answers_before, Script.events_of, Script.line_ends, Script.script_start, Scripts.ScriptEnds}
 use Rattle.cred_cli.specs.{Calls.Call, History.book_at, Outcome.IsAnswered, Prompt.HasFewer, Prompt.IsPrompt, Prompt.IsPromptAt, Prompt.left_length, Watched.Reading, Watched.Writing, declared.fault.ScriptFault.ScriptFault}
 use Rattle.cred_cli.proofs.Readings.{HasCome, cut_behind, if_known}
 
@@ -50,24 +50,26 @@ module _ {capacity : ℕ} {script : ScriptStart} {name : ℕ} {left : Option (Li
   )
 
   -- and where it gave bytes that are taken, the script is read behind them
-  pub read_on : {now : Option (List ℕ)} {new : Standing} (bytes : List ℕ) → HasCome read.rest bytes now → 0 < length bytes → IsAt capacity script (read.front ++ bytes) new → IsReadTo capacity script name now new calls
+  pub read_on : {now : Option (List ℕ)} {new : Standing} (bytes : List ℕ) → HasCome read.rest bytes now → 0 < length bytes
+      → GoesOn {A = Unit {0}} capacity script (λ _. IsAt capacity script (read.front ++ bytes) new) new (Ok tt) → IsReadTo capacity script name now new calls
   read_on bytes more some fed = record {
     front = read.front ++ bytes;
     rest = more.left;
     cut = cut_behind script.bytes read.front read.rest bytes more.left read.cut more.cut;
     left_is = more.now_is;
-    at = fed;
+    at = fed.ended;
     prompt = prompt_call;
     fewer = rw (called.are, called.left_is, read.left_is) (omega (arith, some, ap length more.cut, length-append bytes more.left));
   }
 
   -- a fault comes of it
-  pub run_breaks : {new : Standing} (r : Reading) (w : Writing) (e : ScriptFault) → r.log ≡ calls → w.name ≡ name → w.now ≡ new.written → Breaks capacity script new e → ScriptEnds capacity script r w new.accounts (Err e)
-  run_breaks r w e log named now broken = record { done = tt; fault = rw now (broken r.left); short = tt; prompt = rw (named, log) prompt_call }
+  pub run_breaks : {A : Type 0} {new : Standing} {done : A → Type 0} (r : Reading) (w : Writing) (e : ScriptFault) → r.log ≡ calls → w.name ≡ name → w.now ≡ new.written
+      → GoesOn capacity script done new (Err e) → ScriptEnds capacity script r w new.accounts (Err e)
+  run_breaks r w e log named now broken = record { done = tt; fault = rw now (broken.ended r.left); short = tt; prompt = rw (named, log) prompt_call }
 
 -- the end was met, and the last line is answered
 pub run_ends : {capacity : ℕ} {script : ScriptStart} {name : ℕ} {left : Option (List ℕ)} {s new : Standing} {earlier : List Call} {r : Result ℕ ScriptFault} (read : IsReadTo capacity script name left s earlier)
-    → read.rest ≡ [] → Finishes capacity s new r → MatchResult r (λ lines. IsAnswered capacity script new.written new.accounts lines) (Breaks capacity script new)
+    → read.rest ≡ [] → Finishes capacity s new r → GoesOn capacity script (λ lines. IsAnswered capacity script new.written new.accounts lines) new r
 run_ends {script = script} read none finishes =
     let whole : read.front ≡ script.bytes = sym (rw (none, append-nil) at read.cut) in
     finishes script (rw whole at read.at)

@@ -45,23 +45,28 @@ abbrev pub Breaks : ℕ → ScriptStart → Standing → ScriptFault → Type 0
 Breaks capacity script new e =
     (left : Option (List ℕ)) → ScriptFails capacity script left new.written new.accounts e
 
--- from wherever the next line asks for this event, it is answered too, or a fault ends the run
+-- it is done so, or a fault ends the run
+pub record GoesOn {A : Type 0} (capacity : ℕ) (script : ScriptStart) (done : A → Type 0)
+    (new : Standing) (r : Result A ScriptFault) : Type 0 where
+  pub ended : MatchResult r done (Breaks capacity script new)
+
+-- from wherever the next line asks for this event, it is answered too
 abbrev pub TakesLine : ℕ → Event → Standing → Standing → Result (Unit {0}) ScriptFault → Type 0
 TakesLine capacity event old new r = (script : ScriptStart) (i : ℕ)
     → IsAtLine capacity script i old → slice_get (events_of script.bytes) i ≡ Some event
-    → MatchResult r (λ _. IsAtLine capacity script (suc i) new) (Breaks capacity script new)
+    → GoesOn capacity script (λ _. IsAtLine capacity script (suc i) new) new r
 
--- from wherever a script's next bytes are these, they are taken, or a fault ends the run
+-- from wherever a script's next bytes are these, they are taken
 abbrev pub Takes : ℕ → List ℕ → Standing → Standing → Result (Unit {0}) ScriptFault → Type 0
 Takes capacity bytes old new r = (script : ScriptStart) (front rest : List ℕ)
     → script.bytes ≡ front ++ bytes ++ rest → IsAt capacity script front old
-    → MatchResult r (λ _. IsAt capacity script (front ++ bytes) new) (Breaks capacity script new)
+    → GoesOn capacity script (λ _. IsAt capacity script (front ++ bytes) new) new r
 
--- from the end of a script, its last line is answered too, or a fault ends the run
+-- from the end of a script, its last line is answered too
 abbrev pub Finishes : ℕ → Standing → Standing → Result ℕ ScriptFault → Type 0
 Finishes capacity old new r = (script : ScriptStart) → IsAt capacity script script.bytes old
-    → MatchResult r (λ lines. IsAnswered capacity script new.written new.accounts lines)
-    (Breaks capacity script new)
+    → GoesOn capacity script (λ lines. IsAnswered capacity script new.written new.accounts lines)
+    new r
 
 -- from the start of the script that a reader has: each line is answered, or a fault ends the run
 abbrev pub Plays : ℕ → Reading → Writing → Standing → Standing → Result End ScriptFault → Type 0

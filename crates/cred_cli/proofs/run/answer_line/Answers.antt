@@ -7,7 +7,7 @@ use Rattle.cred_cli.proofs.run.answer_line.Goals as goal
 pub returns-in_err-answer-clause-answered : goal.returns-in_err-answer-clause-answered
 returns-in_err-answer-clause-answered g c = λ basis progress script i at here.
     let told = err_from_is_err_and c.from_residual.result c.from_residual.ensures.1 in
-    rw (told.1, told.2, c.in_err-answer.ensures.refused) (λ left. (i, inl (slice_get_within (events_of script.bytes) i c.args.event here), at.stands))
+    record { ended = rw (told.1, told.2, c.in_err-answer.ensures.refused) (λ left. (i, inl (slice_get_within (events_of script.bytes) i c.args.event here), at.stands)) }
 
 pub returns-clause-answered : goal.returns-clause-answered
 returns-clause-answered g c = λ basis progress script i at here.

@@ -25,7 +25,7 @@ returns-in-Ok-eq0-clause-ended g c = λ basis fits script known at.
     let done = run_ends read none (c.in_ok-lines-in-Ok-eq0.ensures.answered basis) in
     let size = ap length (sym (rw (none, append-nil) at read.cut)) in
     record {
-      done = done;
+      done = done.ended;
       fault = tt;
       short = omega (arith, size, read.at.taken_is, c.loop-call.self.progress.not_too_long);
       prompt = prompt_call read called;
