@@ -1,8 +1,8 @@
 //! The library of the program `credbook`: the script engine, with lines that ask for operations on
 //! a book and an answer line for each, and the program's words.
 //!
-//! [`run_script`] runs a script on any keeper of a book, and [`command`] is the program: a script on
-//! an empty book, or one record made or judged. The book itself is `cred_book`'s.
+//! [`run_script`] runs a script on any keeper of a book, and [`command`] is the program: a script
+//! on an empty book, or one record made or judged. The book itself is `cred_book`'s.
 #![tactic(auto)]
 
 mod answer;
