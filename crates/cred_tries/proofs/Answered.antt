@@ -1,5 +1,5 @@
 -- Answers that are counted as they are given.
-use Rattle.std.proofs.Common.{◌≡◌, ◌⊎◌, inl, inr, ◌≤◌, ◌<◌, ℕ, ◌+◌, ◌-◌, Bool, true, false, if◌then◌else◌, List, [], ◌∷◌, ◌++◌, Option, Some, None, is_none, refl, sym, ap, ◌∙◌, arith, subst}
+use Rattle.std.proofs.Common.{◌≡◌, inl, inr, ◌≤◌, ◌<◌, ℕ, ◌+◌, Bool, true, false, if◌then◌else◌, List, [], ◌∷◌, ◌++◌, Option, Some, None, is_none, refl, sym, ap, ◌∙◌, arith, subst}
 use Rattle.std.specs.Prelude.{nat_le, nat_lt, unwrap_or}
 use Rattle.std.specs.List.{All}
 use Rattle.std.proofs.lemmas.Bool.Decides.{nat_tests}
@@ -10,7 +10,7 @@ use Rattle.cred_tries.specs.Answers.{AreInTurn, Ascend, HasCounted, IsIdle, IsSe
 use Rattle.cred_tries.specs.Clocks.{after_reading, moment}
 use Rattle.cred_tries.specs.Counts.{count_begun, count_ended, count_ended_as, day, most_tries, nothing, place_of, remembered_failures, rest_of}
 use Rattle.cred_tries.specs.Histories.{Begin, Call, End, Event, Begun, Forgive, Forgiven, HasWaited, IsLimited, MayBegin, Right, Sent, Wrong, begin_event, begun_if, count_after, end_event, failures, history, last_failure, with_event as call_event}
-use Rattle.cred_tries.specs.Limits.{IsFree, IsLimit, Limits, after_end, after_try, begin_outcome, count_at, counts_at, forgive_outcome, forgiveness, new_limits, place_at, seen, sending, sending_at, turn_at}
+use Rattle.cred_tries.specs.Limits.{IsFree, IsLimit, Limits, after_try, begin_outcome, count_at, counts_at, forgive_outcome, forgiveness, new_limits, place_at, seen, sending, sending_at, turn_at}
 use Rattle.cred_tries.specs.Steps.{Asks, Ends, Forgives, Step, calls_at, clock_after, events_at, is_name_of, limits_after, turn_event, with_call_if}
 use Rattle.cred_tries.specs.Stretches.{FailsSeldom, judgements}
 use Rattle.cred_tries.specs.declared.clock.SteadyClock.{SteadyClock}
@@ -59,7 +59,7 @@ module _ (l : Limits) (name : List ℕ) where
       by_tie false tie = ap (λ (c : Count). c.running) (apart_stays l q (Forgives name) tie) ∙ idle q
 
   -- so a try is too early, or it may be judged
-  free_if : (count : Count) (now reading : ℕ) (p : Place) → count.running ≡ 0 → place_of l.limit count now ≡ p → (sending_at l reading p).0 ≡ false → p ≡ Free
+  free_if : (count : Count) (now reading : ℕ) (p : Place) → count.running ≡ 0 → place_of l.limit count now ≡ p → (sending_at l reading p).0 ≡ None → p ≡ Free
   free_if count now reading Free none is sent = refl
   free_if count now reading Taken none is sent = absurd (not_taken (nat_lt _ l.limit) (nat_lt _ l.limit) (nat_lt 0 count.running) (nat_lt 0 _) refl refl refl is)
     where
@@ -72,7 +72,7 @@ module _ (l : Limits) (name : List ℕ) where
       not_taken false b false false one two three is = cc
   free_if count now reading (Early seconds) none is sent = absurd cc
 
-  pub open_unless : (now : ℕ) → IsIdle l → (sending l name now).0 ≡ false → IsFree l name now
+  pub open_unless : (now : ℕ) → IsIdle l → (sending l name now).0 ≡ None → IsFree l name now
   open_unless now idle sent = free_if (count_at l name) (moment l.clock now) now (place_at l name now) (idle name) refl sent
 
 -- ---- a limiter that goes on by steps
@@ -220,10 +220,10 @@ module _ (limit : ℕ) (times : List ℕ) (told : List ℕ → List Event) (step
       nothing_begins Taken t rest = refl
       nothing_begins (Early seconds) t rest = refl
 
-      early_of : (p : Place) → (sending_at limits now p).0 ≡ true → (seconds : ℕ) × (p ≡ Early seconds)
-      early_of Free is = absurd cc
-      early_of Taken is = absurd cc
-      early_of (Early seconds) is = (seconds, refl)
+      early_of : (p : Place) (seconds : ℕ) → (sending_at limits now p).0 ≡ Some seconds → p ≡ Early seconds
+      early_of Free seconds is = absurd cc
+      early_of Taken seconds is = absurd cc
+      early_of (Early other) seconds is = let same : other ≡ seconds = cc in ap Early same
 
       abbrev seen_passed : ℕ
       seen_passed = (seen limits now).clock.passed
@@ -231,38 +231,37 @@ module _ (limit : ℕ) (times : List ℕ) (told : List ℕ → List Event) (step
       seen_is : seen_passed ≡ at
       seen_is = ap (λ c. moment c now) clock_is
 
-      module _ (sent : (sending limits name now).0 ≡ true) where
-        early : (seconds : ℕ) × (place_at limits name now ≡ Early seconds)
-        early = early_of (place_at limits name now) sent
+      module _ (seconds : ℕ) (sent : (sending limits name now).0 ≡ Some seconds) where
+        early : place_at limits name now ≡ Early seconds
+        early = early_of (place_at limits name now) seconds sent
 
-        later_is : (begin_outcome limits name now).0 ≡ turn.Later early.0
-        later_is = ap (turn_at name) early.1
+        later_is : (begin_outcome limits name now).0 ≡ turn.Later seconds
+        later_is = ap (turn_at name) early
 
         same_limits : seen limits now ≡ (begin_outcome limits name now).1
-        same_limits = sym (ap (λ p. record (seen limits now) { counts = counts_at limits.counts name (count_at limits name) p }) early.1)
+        same_limits = sym (ap (λ p. record (seen limits now) { counts = counts_at limits.counts name (count_at limits name) p }) early)
 
-        must_wait : MustWait limit seen_passed (told name)
-        must_wait = subst (λ t. MustWait limit t (told name)) (sym seen_is) must_at
+        must_wait : MustWait limit seen_passed seconds (told name)
+        must_wait = subst (λ t. MustWait limit t seconds (told name)) (sym seen_is) must_at
           where
-            must_at : MustWait limit at (told name)
+            must_at : MustWait limit at seconds (told name)
             must_at =
                 let h = events_at limit name steps in
-                let (many, until_then) = rw (same_failures h at, same_last h) at (early_behind limit name steps now early.0 k.some later_is) in
-                let (some_left, short) = later_is_short limits name now early.0 later_is in
-                rw (same_failed name at, same_late name) (many, omega (arith, until_then, some_left))
+                let (some_left, short) = later_is_short limits name now seconds later_is in
+                (some_left, short, rw (same_failed name at, same_late name) (rw (same_failures h at, same_last h) at (early_behind limit name steps now seconds k.some later_is)))
 
         abbrev told_sent : List ℕ → List Event
-        told_sent q = with_told (if is_name_of q name then Some (Sent seen_passed) else None) (told q)
+        told_sent q = with_told (if is_name_of q name then Some (Sent seen_passed seconds) else None) (told q)
 
         pub counted_sent : HasCounted limit (seen limits now) (times ++ seen_passed ∷ []) told_sent
         counted_sent = goes_on (seen limits now) (Asks name now ∷ steps) told_sent same_limits (λ q. told_at q (is_name_of q name) refl) (λ q. turn_at_name q (is_name_of q name) refl) forward
           where
-            told_at : (q : List ℕ) (b : Bool) → is_name_of q name ≡ b → judgements (history limit (with_call_if b (Begin at) (calls_at q steps))) ≡ judgements (with_told (if b then Some (Sent seen_passed) else None) (told q))
+            told_at : (q : List ℕ) (b : Bool) → is_name_of q name ≡ b → judgements (history limit (with_call_if b (Begin at) (calls_at q steps))) ≡ judgements (with_told (if b then Some (Sent seen_passed seconds) else None) (told q))
             told_at q true tie = nothing_begins _ at (history limit (calls_at q steps)) ∙ k.told_are q
             told_at q false tie = k.told_are q
 
-            turn_at_name : (q : List ℕ) (b : Bool) → is_name_of q name ≡ b → AreInTurn limit (with_told (if b then Some (Sent seen_passed) else None) (told q))
-            turn_at_name q true tie = subst (λ p. AreInTurn limit (Sent seen_passed ∷ told p)) (sym (same_name q name tie)) (must_wait, k.in_turn name)
+            turn_at_name : (q : List ℕ) (b : Bool) → is_name_of q name ≡ b → AreInTurn limit (with_told (if b then Some (Sent seen_passed seconds) else None) (told q))
+            turn_at_name q true tie = subst (λ p. AreInTurn limit (Sent seen_passed seconds ∷ told p)) (sym (same_name q name tie)) (must_wait, k.in_turn name)
             turn_at_name q false tie = k.in_turn q
 
             forward : limits.clock.passed ≤ seen_passed
@@ -338,8 +337,8 @@ module _ (limit : ℕ) (l : Limits) (times : List ℕ) (told : List ℕ → List
   pub after_nothing : After l None
   after_nothing = subst (λ m. After m None) (sym c.limits_are) (counted_nothing limit times told c.steps kept name)
 
-  pub after_sending : (sending l name now).0 ≡ true → After (seen l now) (Some (Sent (seen l now).clock.passed))
-  after_sending sent = subst (λ m. (sending m name now).0 ≡ true → After (seen m now) (Some (Sent (seen m now).clock.passed))) (sym c.limits_are) (λ is. counted_sent limit times told c.steps kept name now is) sent
+  pub after_sending : (seconds : ℕ) → (sending l name now).0 ≡ Some seconds → After (seen l now) (Some (Sent (seen l now).clock.passed seconds))
+  after_sending seconds sent = subst (λ m. (sending m name now).0 ≡ Some seconds → After (seen m now) (Some (Sent (seen m now).clock.passed seconds))) (sym c.limits_are) (λ is. counted_sent limit times told c.steps kept name now seconds is) sent
 
 -- ---- the limit is kept
 
@@ -425,20 +424,20 @@ tried_clock_is l name now how = read_again l.clock now
 -- ---- what a call says that may send a try away
 
 module _ (l : Limits) (name : List ℕ) (now : ℕ) where
-  sent_at : (p : Place) → (sending_at l now p).0 ≡ true → (sending_at l now p).1 ≡ seen l now
-  sent_at Free is = absurd cc
-  sent_at Taken is = absurd cc
-  sent_at (Early seconds) is = refl
+  sent_at : (p : Place) (seconds : ℕ) → (sending_at l now p).0 ≡ Some seconds → (sending_at l now p).1 ≡ seen l now
+  sent_at Free seconds is = absurd cc
+  sent_at Taken seconds is = absurd cc
+  sent_at (Early other) seconds is = refl
 
-  same_at : (p : Place) → (sending_at l now p).0 ≡ false → (sending_at l now p).1 ≡ l
+  same_at : (p : Place) → (sending_at l now p).0 ≡ None → (sending_at l now p).1 ≡ l
   same_at Free is = refl
   same_at Taken is = refl
   same_at (Early seconds) is = absurd cc
 
-  pub sent_seen : (sending l name now).0 ≡ true → (sending l name now).1 ≡ seen l now
-  sent_seen is = sent_at (place_at l name now) is
+  pub sent_seen : (seconds : ℕ) → (sending l name now).0 ≡ Some seconds → (sending l name now).1 ≡ seen l now
+  sent_seen seconds is = sent_at (place_at l name now) seconds is
 
-  pub sent_same : (sending l name now).0 ≡ false → (sending l name now).1 ≡ l
+  pub sent_same : (sending l name now).0 ≡ None → (sending l name now).1 ≡ l
   sent_same is = same_at (place_at l name now) is
 
   pub idle_seen : IsIdle l → IsIdle (seen l now)

@@ -1,16 +1,14 @@
 -- A try that begins and ends at one reading.
-use Rattle.std.proofs.Common.{◌≡◌, ◌≤◌, ℕ, ◌+◌, ◌-◌, Bool, true, false, cond, if◌then◌else◌, List, Option, Some, None, is_none, refl, sym, ap, ◌∙◌, arith}
-use Rattle.std.specs.Prelude.{min, nat_lt, unwrap_or}
+use Rattle.std.proofs.Common.{◌≡◌, ℕ, ◌+◌, ◌-◌, true, cond, List, Option, Some, None, is_none, refl, sym, ap, ◌∙◌, arith}
+use Rattle.std.specs.Prelude.{min, unwrap_or}
 use Rattle.std.specs.Cmp.Lexicographic.{nat_list_cmp_total}
 use Rattle.std.specs.FinMap as map
-use Rattle.std.proofs.lemmas.Bool.Decides.{nat_tests}
 use Rattle.cred_book.proofs.Rows.{row_again, row_over}
-use Rattle.cred_tries.specs.Clocks.{after_reading, end_of_time, moment}
+use Rattle.cred_tries.specs.Clocks.{after_reading, end_of_time}
 use Rattle.cred_tries.specs.CountMaps.{CountMap}
-use Rattle.cred_tries.specs.Counts.{count_begun, count_ended, nothing}
+use Rattle.cred_tries.specs.Counts.{count_begun, nothing}
 use Rattle.cred_tries.specs.Limits.{IsFree, Limits, after_end, after_try, begin_outcome, count_at, counts_at, counts_ended, seen}
 use Rattle.cred_tries.specs.declared.clock.SteadyClock.{SteadyClock}
-use Rattle.cred_tries.specs.declared.count.Place.{Place}
 use Rattle.cred_tries.specs.declared.turn.Ending.TheVariants as ending
 use Rattle.cred_tries.proofs.Counted.{itself}
 

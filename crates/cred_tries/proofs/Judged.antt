@@ -27,7 +27,7 @@ cut (Right t ∷ rest) xs ys is = cut_behind (Right t) rest xs ys (λ later. ref
 cut (Wrong t ∷ rest) xs ys is = cut_behind (Wrong t) rest xs ys (λ later. refl) (λ more. cut rest more ys) is
 cut (Forgiven t ∷ rest) xs ys is = cut_behind (Forgiven t) rest xs ys (λ later. refl) (λ more. cut rest more ys) is
 cut (Begun t ∷ rest) xs ys is = let (later, before, whole, one, two) = cut rest xs ys is in (Begun t ∷ later, before, ap (λ l. Begun t ∷ l) whole, one, two)
-cut (Sent t ∷ rest) xs ys is = let (later, before, whole, one, two) = cut rest xs ys is in (Sent t ∷ later, before, ap (λ l. Sent t ∷ l) whole, one, two)
+cut (Sent t seconds ∷ rest) xs ys is = let (later, before, whole, one, two) = cut rest xs ys is in (Sent t seconds ∷ later, before, ap (λ l. Sent t seconds ∷ l) whole, one, two)
 cut (Unjudged t ∷ rest) xs ys is = let (later, before, whole, one, two) = cut rest xs ys is in (Unjudged t ∷ later, before, ap (λ l. Unjudged t ∷ l) whole, one, two)
 
 same_failed : (stretch : List Event) → failed (judgements stretch) ≡ failed stretch
@@ -36,7 +36,7 @@ same_failed (Wrong t ∷ rest) = ap (λ n. n + 1) (same_failed rest)
 same_failed (Right t ∷ rest) = same_failed rest
 same_failed (Forgiven t ∷ rest) = same_failed rest
 same_failed (Begun t ∷ rest) = same_failed rest
-same_failed (Sent t ∷ rest) = same_failed rest
+same_failed (Sent t seconds ∷ rest) = same_failed rest
 same_failed (Unjudged t ∷ rest) = same_failed rest
 
 pub same_failures : (history : List Event) (now : ℕ) → failures now (judgements history) ≡ failures now history
@@ -45,7 +45,7 @@ same_failures (Wrong t ∷ rest) now = ap (λ n. if nat_le (t + day) now then 0 
 same_failures (Right t ∷ rest) now = refl
 same_failures (Forgiven t ∷ rest) now = refl
 same_failures (Begun t ∷ rest) now = same_failures rest now
-same_failures (Sent t ∷ rest) now = same_failures rest now
+same_failures (Sent t seconds ∷ rest) now = same_failures rest now
 same_failures (Unjudged t ∷ rest) now = same_failures rest now
 
 pub same_last : (stretch : List Event) → last_failure (judgements stretch) ≡ last_failure stretch
@@ -54,7 +54,7 @@ same_last (Wrong t ∷ rest) = refl
 same_last (Right t ∷ rest) = refl
 same_last (Forgiven t ∷ rest) = refl
 same_last (Begun t ∷ rest) = same_last rest
-same_last (Sent t ∷ rest) = same_last rest
+same_last (Sent t seconds ∷ rest) = same_last rest
 same_last (Unjudged t ∷ rest) = same_last rest
 
 same_first : (stretch : List Event) → first_failure (judgements stretch) ≡ first_failure stretch
@@ -63,7 +63,7 @@ same_first (Wrong t ∷ rest) = rw (same_failed rest, same_first rest) refl
 same_first (Right t ∷ rest) = same_first rest
 same_first (Forgiven t ∷ rest) = same_first rest
 same_first (Begun t ∷ rest) = same_first rest
-same_first (Sent t ∷ rest) = same_first rest
+same_first (Sent t seconds ∷ rest) = same_first rest
 same_first (Unjudged t ∷ rest) = same_first rest
 
 uncleared : (stretch : List Event) → IsUncleared (judgements stretch) → IsUncleared stretch
@@ -72,7 +72,7 @@ uncleared (Wrong t ∷ rest) is = uncleared rest is
 uncleared (Right t ∷ rest) is = absurd is
 uncleared (Forgiven t ∷ rest) is = absurd is
 uncleared (Begun t ∷ rest) is = uncleared rest is
-uncleared (Sent t ∷ rest) is = uncleared rest is
+uncleared (Sent t seconds ∷ rest) is = uncleared rest is
 uncleared (Unjudged t ∷ rest) is = uncleared rest is
 
 pub ends_seldom : (limit : ℕ) (history : List Event) → FailsSeldom limit history → FailsSeldom limit (judgements history)

@@ -15,7 +15,7 @@ in_a_row (Wrong t ∷ before) = (if nat_le (last_failure before + day) t then 0 
 in_a_row (Begun t ∷ before) = in_a_row before
 in_a_row (Right t ∷ before) = in_a_row before
 in_a_row (Unjudged t ∷ before) = in_a_row before
-in_a_row (Sent t ∷ before) = in_a_row before
+in_a_row (Sent t seconds ∷ before) = in_a_row before
 in_a_row (Forgiven t ∷ before) = in_a_row before
 
 -- what is kept of a stretch: the failures, with those that may still come before the longest wait
@@ -75,7 +75,7 @@ module _ (before : List Event) where
   in_row t (Forgiven s ∷ rest) is = absurd is
   in_row t (Begun s ∷ rest) is = in_row t rest is
   in_row t (Unjudged s ∷ rest) is = in_row t rest is
-  in_row t (Sent s ∷ rest) is = in_row t rest is
+  in_row t (Sent s seconds ∷ rest) is = in_row t rest is
 
   same_last : (stretch : List Event) → IsUncleared stretch → 0 < failed stretch → last_failure (stretch ++ before) ≡ last_failure stretch
   same_last [] is some = absurd (omega (arith, some))
@@ -84,7 +84,7 @@ module _ (before : List Event) where
   same_last (Forgiven t ∷ rest) is some = absurd is
   same_last (Begun t ∷ rest) is some = same_last rest is some
   same_last (Unjudged t ∷ rest) is some = same_last rest is some
-  same_last (Sent t ∷ rest) is some = same_last rest is some
+  same_last (Sent t seconds ∷ rest) is some = same_last rest is some
 
   module _ (limit : ℕ) (few : limit ≤ most_tries) where
     -- a failure behind a stretch
@@ -126,7 +126,7 @@ module _ (before : List Event) where
     all_kept (Forgiven t ∷ rest) is limited = absurd is
     all_kept (Begun t ∷ rest) is limited = all_kept rest is limited.1
     all_kept (Unjudged t ∷ rest) is limited = all_kept rest is limited.1
-    all_kept (Sent t ∷ rest) is limited = all_kept rest is limited.1
+    all_kept (Sent t seconds ∷ rest) is limited = all_kept rest is limited.1
 
 rest_limited : (limit : ℕ) (later before : List Event) → IsLimited limit (later ++ before) → IsLimited limit before
 rest_limited limit [] before is = is

@@ -30,7 +30,7 @@ module _ (before : List Event) where
   fails now (Forgiven t ∷ rest) is = absurd is
   fails now (Begun t ∷ rest) is = fails now rest is
   fails now (Unjudged t ∷ rest) is = fails now rest is
-  fails now (Sent t ∷ rest) is = fails now rest is
+  fails now (Sent t seconds ∷ rest) is = fails now rest is
 
   -- the tries of a stretch failed, or run
   runs : (now : ℕ) (stretch : List Event) → IsFailing now stretch → begun stretch ≤ failed stretch + running (stretch ++ before)
@@ -40,7 +40,7 @@ module _ (before : List Event) where
   runs now (Forgiven t ∷ rest) is = absurd is
   runs now (Begun t ∷ rest) is = omega (arith, runs now rest is)
   runs now (Unjudged t ∷ rest) is = omega (arith, runs now rest is)
-  runs now (Sent t ∷ rest) is = runs now rest is
+  runs now (Sent t seconds ∷ rest) is = runs now rest is
 
   -- where a stretch has failures its last is the last
   last : (now : ℕ) (stretch : List Event) → IsFailing now stretch → 0 < failed stretch → last_failure (stretch ++ before) ≡ last_failure stretch
@@ -50,7 +50,7 @@ module _ (before : List Event) where
   last now (Forgiven t ∷ rest) is some = absurd is
   last now (Begun t ∷ rest) is some = last now rest is some
   last now (Unjudged t ∷ rest) is some = last now rest is some
-  last now (Sent t ∷ rest) is some = last now rest is some
+  last now (Sent t seconds ∷ rest) is some = last now rest is some
 
   behind : (limit now : ℕ) (stretch : List Event) → 0 < limit → MayBegin limit now (stretch ++ before) → IsFailing now stretch
       → (limit ≤ failed stretch) ⊎ (limit ≤ begun stretch)
@@ -102,5 +102,5 @@ few_begin limit t before none not = at (leb_tells limit (running before))
     at (inr few) = absurd (not (inl (omega (arith, none, few.1))))
 
 pub quiet_begins : (limit : ℕ) (history : List Event) → IsLimited limit history → QuietBegins limit history
-quiet_begins limit history limited later before t is none =
-    few_begin limit t before none (part limit later (Sent t) before (subst (λ h. IsLimited limit h) is limited))
+quiet_begins limit history limited later before t seconds is none =
+    few_begin limit t before none (part limit later (Sent t seconds) before (subst (λ h. IsLimited limit h) is limited))

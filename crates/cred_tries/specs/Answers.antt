@@ -1,12 +1,12 @@
 -- How answers that tell of tries keep a limit, and what a limiter counts of them: each try begins and
 -- ends as it is answered.
-use Rattle.std.specs.Prelude.{◌≡◌, ◌⊎◌, ⊤, ℕ, ◌+◌, ◌-◌, ◌<◌, ◌≤◌, List, [], ◌∷◌, All, Option, Some, None}
+use Rattle.std.specs.Prelude.{◌≡◌, ◌⊎◌, ⊤, ℕ, ◌<◌, ◌≤◌, List, [], ◌∷◌, All, Option, Some, None}
 use Rattle.cred_tries.specs.Clocks.{after_reading, end_of_time, new_clock}
-use Rattle.cred_tries.specs.Counts.{most_tries, wait}
-use Rattle.cred_tries.specs.Histories.{Event, Begun, Sent, Right, Wrong, Unjudged, Forgiven, HasWaited, failures, last_failure}
+use Rattle.cred_tries.specs.Counts.{longest_wait, most_tries}
+use Rattle.cred_tries.specs.Histories.{Event, Begun, Sent, Right, Wrong, Unjudged, Forgiven, HasWaited, failures}
 use Rattle.cred_tries.specs.Limits.{Limits, count_at}
 use Rattle.cred_tries.specs.Steps.{Step, events_at, limits_after}
-use Rattle.cred_tries.specs.Stretches.{FailsSeldom, judgements}
+use Rattle.cred_tries.specs.Stretches.{FailsSeldom, IsEarly, judgements}
 use Rattle.cred_tries.specs.declared.clock.SteadyClock.{SteadyClock}
 
 -- what an answer tells, if anything, before which this was told; the latest comes first
@@ -16,20 +16,22 @@ with_told (Some event) before = event ∷ before
 
 -- ---- what is asked of the events at a name
 
--- so many failures as the limit says, and the wait behind the last isn't over
-abbrev pub MustWait : ℕ → ℕ → List Event → Type 0
-MustWait limit t before = (limit ≤ failures t before)
-    × (t < last_failure before + wait (failures t before - limit))
+-- A try has to wait for so many seconds, and for no more than the longest wait: as many failures
+-- count as the limit says, and the wait behind the last of them is over then, and not before.
+abbrev pub MustWait : ℕ → ℕ → ℕ → List Event → Type 0
+MustWait limit t seconds before =
+    (0 < seconds) × (seconds ≤ longest_wait) × IsEarly limit t seconds before
 
--- Each password that is told right or wrong is told when no wait is left, and each try that is sent
--- away is sent away in a wait.
+-- Each password that is told right or wrong is told when no wait is left. Each try that is sent away
+-- is sent away in a wait, and told the seconds that are left of it.
 abbrev pub AreInTurn : ℕ → List Event → Type 0
 AreInTurn limit [] = ⊤
 AreInTurn limit (Right t ∷ before) =
     (limit ≤ failures t before → HasWaited limit t before) × AreInTurn limit before
 AreInTurn limit (Wrong t ∷ before) =
     (limit ≤ failures t before → HasWaited limit t before) × AreInTurn limit before
-AreInTurn limit (Sent t ∷ before) = MustWait limit t before × AreInTurn limit before
+AreInTurn limit (Sent t seconds ∷ before) =
+    MustWait limit t seconds before × AreInTurn limit before
 AreInTurn limit (Forgiven t ∷ before) = AreInTurn limit before
 AreInTurn limit (Begun t ∷ before) = AreInTurn limit before
 AreInTurn limit (Unjudged t ∷ before) = AreInTurn limit before

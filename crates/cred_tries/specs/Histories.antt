@@ -3,15 +3,15 @@ use Rattle.std.specs.Prelude.{◌≡◌, ◌⊎◌, ◌≤◌, ◌<◌, ⊤, ℕ
 use Rattle.cred_tries.specs.Counts.{count_begun, count_ended, count_forgiven, day, nothing, place_of, wait}
 use Rattle.cred_tries.specs.declared.count.Count.{Count}
 use Rattle.cred_tries.specs.declared.count.Place.{Place}
-use Rattle.cred_tries.specs.declared.count.Place.TheVariants.{Free}
+use Rattle.cred_tries.specs.declared.count.Place.TheVariants.{Free, Taken, Early}
 use Rattle.cred_tries.specs.declared.turn.Ending.{Ending}
 use Rattle.cred_tries.specs.declared.turn.Ending.TheVariants as ending
 
 -- each at a moment in seconds
 pub data Event : Type 0 where
-  -- a try begins, or is sent away
+  -- a try begins, or is sent away and told how many seconds it is too early, or 0 where it isn't
   Begun : ℕ → Event
-  Sent : ℕ → Event
+  Sent : ℕ → ℕ → Event
   -- a try ends: the password was right, or wrong, or wasn't judged
   Right : ℕ → Event
   Wrong : ℕ → Event
@@ -28,7 +28,7 @@ running (Begun t ∷ before) = running before + 1
 running (Right t ∷ before) = running before - 1
 running (Wrong t ∷ before) = running before - 1
 running (Unjudged t ∷ before) = running before - 1
-running (Sent t ∷ before) = running before
+running (Sent t seconds ∷ before) = running before
 running (Forgiven t ∷ before) = running before
 
 -- the failures in a row at a moment: those behind the last right answer, the last forgiving, and
@@ -40,7 +40,7 @@ failures now (Right t ∷ before) = 0
 failures now (Forgiven t ∷ before) = 0
 failures now (Begun t ∷ before) = failures now before
 failures now (Unjudged t ∷ before) = failures now before
-failures now (Sent t ∷ before) = failures now before
+failures now (Sent t seconds ∷ before) = failures now before
 
 -- the moment of the last failure behind the last right answer and the last forgiving
 abbrev pub last_failure : List Event → ℕ
@@ -50,7 +50,7 @@ last_failure (Right t ∷ before) = 0
 last_failure (Forgiven t ∷ before) = 0
 last_failure (Begun t ∷ before) = last_failure before
 last_failure (Unjudged t ∷ before) = last_failure before
-last_failure (Sent t ∷ before) = last_failure before
+last_failure (Sent t seconds ∷ before) = last_failure before
 
 -- the wait behind the last failure is over
 abbrev pub HasWaited : ℕ → ℕ → List Event → Type 0
@@ -66,7 +66,7 @@ MayBegin limit now before =
 -- what an event asks of those before it
 abbrev pub IsRightAfter : ℕ → Event → List Event → Type 0
 IsRightAfter limit (Begun t) before = MayBegin limit t before
-IsRightAfter limit (Sent t) before = MayBegin limit t before → ⊥
+IsRightAfter limit (Sent t seconds) before = MayBegin limit t before → ⊥
 IsRightAfter limit (Right t) before = 0 < running before
 IsRightAfter limit (Wrong t) before =
     (0 < running before)
@@ -107,7 +107,8 @@ count_after limit (call ∷ before) = count_after_call limit (count_after limit 
 
 abbrev pub begin_event : Place → ℕ → Event
 begin_event Free t = Begun t
-begin_event _ t = Sent t
+begin_event Taken t = Sent t 0
+begin_event (Early seconds) t = Sent t seconds
 
 abbrev pub end_event : Ending → ℕ → Event
 end_event ending.Right t = Right t

@@ -1,5 +1,5 @@
 -- A limiter as contracts see it, and what its calls do.
-use Rattle.std.specs.Prelude.{ℕ, ◌≡◌, ◌<◌, ◌≤◌, Bool, true, false, List, Option, Some, None, filter_map, refl}
+use Rattle.std.specs.Prelude.{ℕ, ◌≡◌, ◌<◌, ◌≤◌, Bool, false, List, Option, Some, None, filter_map, refl}
 use Rattle.std.specs.Coded.{Coded, code_by, coded×, coded_ℕ}
 use Rattle.std.specs.FinMap as map
 use Rattle.cred_tries.specs.contracts.clock.SteadyClock as clock_contract
@@ -86,12 +86,12 @@ IsFree limits name now = place_at limits name now ≡ Free
 abbrev pub after_try : Limits → List ℕ → ℕ → Ending → Limits
 after_try limits name now how = after_end (begin_outcome limits name now).1 name now how
 
--- a try that is too early is sent away, and there is no other
-abbrev pub sending_at : Limits → ℕ → Place → Bool × Limits
-sending_at limits now (Early seconds) = (true, seen limits now)
-sending_at limits now _ = (false, limits)
+-- a try that is too early is sent away, with the seconds that are left, and there is no other
+abbrev pub sending_at : Limits → ℕ → Place → Option ℕ × Limits
+sending_at limits now (Early seconds) = (Some seconds, seen limits now)
+sending_at limits now _ = (None, limits)
 
-abbrev pub sending : Limits → List ℕ → ℕ → Bool × Limits
+abbrev pub sending : Limits → List ℕ → ℕ → Option ℕ × Limits
 sending limits name now = sending_at limits now (place_at limits name now)
 
 -- ---- the failures at a name are forgiven

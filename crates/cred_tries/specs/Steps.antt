@@ -61,10 +61,11 @@ calls_at name (Forgives other ∷ before) =
 abbrev pub events_at : ℕ → List ℕ → List Step → List Event
 events_at limit name steps = history limit (calls_at name steps)
 
--- a try that `begin` gives has begun, and any other is sent away
+-- a try that `begin` gives has begun, and any other is sent away, with what is told of its wait
 abbrev pub turn_event : Turn → ℕ → Event
 turn_event (turn.Begun name) t = Begun t
-turn_event _ t = Sent t
+turn_event turn.Waits t = Sent t 0
+turn_event (turn.Later seconds) t = Sent t seconds
 
 -- asked for a try at the name, the limiter answers what happens there
 abbrev pub TellsTurn : ℕ → List ℕ → List Step → ℕ → Type 0

@@ -10,7 +10,7 @@ failed (Wrong t ∷ before) = failed before + 1
 failed (Begun t ∷ before) = failed before
 failed (Right t ∷ before) = failed before
 failed (Unjudged t ∷ before) = failed before
-failed (Sent t ∷ before) = failed before
+failed (Sent t seconds ∷ before) = failed before
 failed (Forgiven t ∷ before) = failed before
 
 -- how many tries began in it, less those that weren't judged
@@ -20,7 +20,7 @@ begun (Begun t ∷ before) = begun before + 1
 begun (Unjudged t ∷ before) = begun before - 1
 begun (Right t ∷ before) = begun before
 begun (Wrong t ∷ before) = begun before
-begun (Sent t ∷ before) = begun before
+begun (Sent t seconds ∷ before) = begun before
 begun (Forgiven t ∷ before) = begun before
 
 -- the moment of its first failure
@@ -30,7 +30,7 @@ first_failure (Wrong t ∷ before) = if nat_lt 0 (failed before) then first_fail
 first_failure (Begun t ∷ before) = first_failure before
 first_failure (Right t ∷ before) = first_failure before
 first_failure (Unjudged t ∷ before) = first_failure before
-first_failure (Sent t ∷ before) = first_failure before
+first_failure (Sent t seconds ∷ before) = first_failure before
 first_failure (Forgiven t ∷ before) = first_failure before
 
 -- no right answer and no forgiving, for however long
@@ -41,7 +41,7 @@ IsUncleared (Forgiven t ∷ before) = ⊥
 IsUncleared (Begun t ∷ before) = IsUncleared before
 IsUncleared (Wrong t ∷ before) = IsUncleared before
 IsUncleared (Unjudged t ∷ before) = IsUncleared before
-IsUncleared (Sent t ∷ before) = IsUncleared before
+IsUncleared (Sent t seconds ∷ before) = IsUncleared before
 
 -- Between two right answers or forgivings at most as many tries fail as the limit says and as there
 -- are short waits, and one more for each longest wait that fits between the first and the last.
@@ -60,7 +60,7 @@ judgements (Wrong t ∷ before) = Wrong t ∷ judgements before
 judgements (Forgiven t ∷ before) = Forgiven t ∷ judgements before
 judgements (Begun t ∷ before) = judgements before
 judgements (Unjudged t ∷ before) = judgements before
-judgements (Sent t ∷ before) = judgements before
+judgements (Sent t seconds ∷ before) = judgements before
 
 -- no right answer and no forgiving, and less than a day from each failure to the next, and from the
 -- last to `now`
@@ -71,7 +71,7 @@ IsFailing now (Right t ∷ before) = ⊥
 IsFailing now (Forgiven t ∷ before) = ⊥
 IsFailing now (Begun t ∷ before) = IsFailing now before
 IsFailing now (Unjudged t ∷ before) = IsFailing now before
-IsFailing now (Sent t ∷ before) = IsFailing now before
+IsFailing now (Sent t seconds ∷ before) = IsFailing now before
 
 -- Behind a stretch of failing in which as many tries failed as may, or began, the next begins only
 -- when all of them have failed, and the wait behind the last failure is over.
@@ -92,7 +92,7 @@ FailsBehind limit history =
 -- first failure, behind a right answer or a forgiving, and once a day has passed without a failure.
 abbrev pub QuietBegins : ℕ → List Event → Type 0
 QuietBegins limit history =
-    (later before : List Event) (t : ℕ) → history ≡ later ++ (Sent t ∷ before)
+    (later before : List Event) (t seconds : ℕ) → history ≡ later ++ (Sent t seconds ∷ before)
     → failures t before ≡ 0 → limit ≤ running before
 
 -- A try is too early by so many seconds: as many failures count as the limit says, and the wait

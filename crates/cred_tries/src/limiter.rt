@@ -98,17 +98,20 @@ impl Limiter {
         self.clock = self.clock.after(now);
     }
 
-    /// Whether a try at a name is too early, at a reading of the clock in seconds. Then it is sent
-    /// away; otherwise nothing happens.
-    pub fn sends_away(&mut self, name: &Name, now: u64) -> bool
+    /// By how many seconds a try at a name is too early, 1 to 900, at a reading of the clock in
+    /// seconds. Then it is sent away; a try that isn't too early has no such number, and nothing
+    /// happens.
+    pub fn sends_away(&mut self, name: &Name, now: u64) -> Option<u64>
         ensures { (result, self.new) ≡ sending self.old name.now now }
     {
         let moment = self.clock.moment(now);
-        let is_early = matches!(self.count(name).place(self.limit, moment), Place::Early(_));
-        if is_early {
-            self.clock = self.clock.after(now);
+        match self.count(name).place(self.limit, moment) {
+            Place::Early(seconds) => {
+                self.clock = self.clock.after(now);
+                Some(seconds)
+            }
+            Place::Free | Place::Taken => None,
         }
-        is_early
     }
 
     /// Counts a try whose password was right, which began and ended at this reading of the clock.
