@@ -122,4 +122,4 @@ module _ (capacity : ℕ) (book : MarkedBook) (name : List ℕ) where
   done_stays (Login key pw setting) ne = tried_stays (request.Upgrade key pw setting) (ne 0 [] (omega arith))
   done_stays (Reset key pw setting) ne = reset_stays key (new_record setting pw) (map.get book.accounts key) (ne 0 [] (omega arith))
   done_stays (Forgive key) ne = (refl, refl)
-  done_stays (Later key) ne = (refl, refl)
+  done_stays (Later key seconds) ne = (refl, refl)

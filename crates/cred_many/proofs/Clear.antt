@@ -1,18 +1,16 @@
 -- Changes at names where nothing is counted.
-use Rattle.std.proofs.Common.{◌≡◌, ◌<◌, ℕ, ◌+◌, ◌-◌, Bool, true, false, if◌then◌else◌, List, [], ◌∷◌, ◌++◌, Option, Some, None, IfSome, is_none, refl, sym, ap, ◌∙◌, arith, subst}
-use Rattle.std.specs.FinMap as map
+use Rattle.std.proofs.Common.{◌≡◌, ℕ, Bool, true, false, List, [], ◌∷◌, ◌++◌, Option, Some, None, IfSome, sym, ap, ◌∙◌}
 use Rattle.cred_phc.specs.Values.{RecordValue}
-use Rattle.cred_book.specs.{Accounts.Accounts, Commits.judgement, Commits.judgement_at, Commits.judgement_if, Works.Task, Works.makes_change, Works.name_of, Works.same, Works.whole, declared.reply.Reply.Reply, declared.request.Request.Request}
+use Rattle.cred_book.specs.{Accounts.Accounts, Commits.judgement, Commits.judgement_at, Commits.judgement_if, Works.Task, Works.makes_change, Works.name_of, Works.same, Works.whole, declared.reply.Reply.Reply}
 use Rattle.cred_book.specs.declared.request.Request.TheVariants.{Enrol, Verify, Change, Upgrade, Remove}
 use Rattle.cred_book.specs.declared.reply.Reply.TheVariants as reply
 use Rattle.cred_book.specs.declared.request.Request.TheVariants as request
-use Rattle.cred_admin.specs.{Marked.MarkedBook, Marked.tried, declared.verdict.Verdict.Verdict, declared.verdict.Verdict.TheVariants.Told}
+use Rattle.cred_admin.specs.{Marked.MarkedBook, Marked.tried, declared.verdict.Verdict.TheVariants.Told}
 use Rattle.cred_tries.specs.{Answers.IsSettled, Limits.Limits}
 use Rattle.cred_many.proofs.Limiting.{still_clear}
 use Rattle.cred_many.specs.{Asks.Entry, Asks.hashed_for, Asks.is_reset, declared.ask.Ask.Ask}
 use Rattle.cred_many.specs.declared.ask.Ask.TheVariants.{Quick, Whole, Login, Reset, Forgive, Later}
-use Rattle.cred_many.specs.{Scribe.AreCounted, Scribe.HasEffect, Scribe.IsCounted, Scribe.is_clear, Served.book_after, Served.done, Served.effect_of, Served.name_asked, Tries.effect_by, Tries.is_try_request}
-use Rattle.cred_many.specs.declared.tries.Effect.{Effect}
+use Rattle.cred_many.specs.{Scribe.AreCounted, Scribe.IsCounted, Scribe.is_clear, Served.book_after, Served.done, Tries.effect_by, Tries.is_try_request}
 use Rattle.cred_many.specs.declared.tries.Effect.TheVariants as effect
 
 -- ---- one line more
@@ -63,4 +61,4 @@ change_counted limits here (Login name pw setting) work found stored settled job
 change_counted limits here (Reset name pw setting) work found stored settled job kept told book is clear = absurd cc
 change_counted limits here (Quick ask) work found stored settled job kept told book is clear = absurd cc
 change_counted limits here (Forgive name) work found stored settled job kept told book is clear = absurd cc
-change_counted limits here (Later name) work found stored settled job kept told book is clear = absurd cc
+change_counted limits here (Later name seconds) work found stored settled job kept told book is clear = absurd cc

@@ -6,7 +6,7 @@ use Rattle.cred_book.specs.declared.request.Request.TheVariants.{Enrol, Verify, 
 use Rattle.cred_book.specs.declared.reply.Reply.TheVariants as reply
 use Rattle.cred_cli.specs.{History.Answer, History.Changed, Steps.reply_answer, Texts.reply_line}
 use Rattle.cred_cli.proofs.Simulation.{whole_replies}
-use Rattle.cred_many.specs.{Asks.IsJobOf, Asks.IsSound, Asks.hashed_for, Asks.is_reset, declared.ask.Ask.TheVariants.Whole, declared.ask.Ask.TheVariants.Login, declared.ask.Ask.TheVariants.Reset, declared.ask.Ask.TheVariants.Quick, declared.ask.Ask.TheVariants.Forgive, declared.ask.Ask.TheVariants.Later, Served.done, Served.effect_of, Served.login_verdict, Served.record_at, Served.told_verdict, declared.ask.Ask.Ask}
+use Rattle.cred_many.specs.{Asks.IsJobOf, Asks.IsSound, Asks.hashed_for, Asks.is_reset, declared.ask.Ask.TheVariants.Whole, declared.ask.Ask.TheVariants.Login, declared.ask.Ask.TheVariants.Reset, declared.ask.Ask.TheVariants.Quick, declared.ask.Ask.TheVariants.Forgive, declared.ask.Ask.TheVariants.Later, Served.done, Served.NeedsMemory, Served.effect_of, Served.login_verdict, Served.record_at, Served.told_verdict, declared.ask.Ask.Ask}
 use Rattle.cred_admin.specs.{Commands.reset_step, Marked.HeedsMarks, Marked.MarkedBook, Marked.barred, Marked.due, Marked.is_outdated, Marked.keeps_password, Marked.marked_book, Marked.marks_after, Marked.shut, Marked.tried, Marked.tried_at, Marked.tried_if, Statuses.verdict_line}
 use Rattle.cred_admin.specs.declared.verdict.Verdict.{Verdict}
 use Rattle.cred_admin.specs.declared.verdict.Verdict.TheVariants.{Told, Expired, Same}
@@ -195,7 +195,7 @@ commit_counted ask book new work v old later now is kept commits current has = o
         (now, subst (λ e. HasEffect now old later name e) same (subst (λ n. HasEffect now old later n (effect_by (is_try (Reset name pw setting)) v)) named has))
     of (Quick a) is same has = absurd cc
     of (Forgive name) is same has = absurd cc
-    of (Later name) is same has = absurd cc
+    of (Later name seconds) is same has = absurd cc
 
 -- a try may be judged where its password is told
 pub has_place : (ask : Ask) (v : Verdict) (limits : Option Limits) (name : List ℕ) (now : ℕ) → (is_try ask ≡ true → IsOpenTo limits name now) → HasPlace (effect_by (is_try ask) v) limits name now
@@ -229,7 +229,16 @@ sound_current (Login name pw setting) r sound is = let same : request.Upgrade na
 sound_current (Reset name pw setting) r sound is = let same : request.Enrol name pw setting ≡ r = cc in ap is_for_current (sym same) ∙ sound
 sound_current (Quick a) r sound is = absurd cc
 sound_current (Forgive name) r sound is = absurd cc
-sound_current (Later name) r sound is = absurd sound
+sound_current (Later name seconds) r sound is = absurd sound
+
+-- and needs memory for its hash
+pub hash_needs : (capacity : ℕ) (book : MarkedBook) (ask : Ask) (r : Request) → hashed_for ask ≡ Some r → NeedsMemory capacity book ask
+hash_needs capacity book (Whole q) r is = tt
+hash_needs capacity book (Login name pw setting) r is = tt
+hash_needs capacity book (Reset name pw setting) r is = tt
+hash_needs capacity book (Quick a) r is = absurd cc
+hash_needs capacity book (Forgive name) r is = absurd cc
+hash_needs capacity book (Later name seconds) r is = absurd cc
 
 -- ---- a reset
 

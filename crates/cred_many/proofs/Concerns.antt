@@ -159,7 +159,7 @@ module _ (capacity : ℕ) (book : MarkedBook) (name : List ℕ) (m : Mark) where
   done_same (Login key pw setting) ne plain = ap (λ (o : Verdict × MarkedBook). (verdict_line (login_verdict o.0), o.1)) (tried_same (request.Upgrade key pw setting) (ne 0 [] (omega arith)))
   done_same (Reset key pw setting) ne plain = ap (λ (o : Reply × MarkedBook). (reply_line o.0, o.1)) (reset_same key (ne 0 [] (omega arith)) (new_record setting pw) (map.get book.accounts key))
   done_same (Forgive key) ne plain = refl
-  done_same (Later key) ne plain = refl
+  done_same (Later key seconds) ne plain = refl
 
 -- lines one after another
 pub book_same : (capacity : ℕ) (book : MarkedBook) (name : List ℕ) (m : Mark) (lines : List Entry) → All (λ e. IsApart name e.ask) lines

@@ -1,10 +1,10 @@
 -- What the limiter counts of answers, if there is a limit.
-use Rattle.std.proofs.Common.{◌≡◌, ◌⊎◌, inl, inr, ℕ, Bool, true, false, if◌then◌else◌, List, [], ◌∷◌, ◌++◌, Option, Some, None, Result, Ok, Err, OnOk, OnErr, is_err, IfSome, option_map, is_none, refl, sym, ap, ◌∙◌, subst}
+use Rattle.std.proofs.Common.{◌≡◌, ◌⊎◌, inl, inr, ℕ, Bool, true, false, if◌then◌else◌, List, [], ◌∷◌, ◌++◌, Option, Some, None, Result, Ok, Err, OnOk, OnErr, is_err, IfSome, option_map, refl, sym, ap, ◌∙◌, subst}
 use Rattle.cred_book.specs.declared.reply.Reply.{Reply}
 use Rattle.cred_tries.specs.Answers.{HasCounted, IsIdle, IsReadBy, IsSettled, KeepLimit, clock_of, with_told}
 use Rattle.cred_tries.specs.Clocks.{after_reading}
 use Rattle.cred_tries.specs.Histories.{Event, Sent}
-use Rattle.cred_tries.specs.Limits.{IsFree, IsLimit, Limits, after_try, forgive_outcome, new_limits, seen, sending}
+use Rattle.cred_tries.specs.Limits.{IsFree, IsLimit, Limits, after_try, forgive_outcome, new_limits, sending}
 use Rattle.cred_tries.specs.Steps.{is_name_of}
 use Rattle.cred_tries.specs.declared.turn.Ending.TheVariants as ending
 use Rattle.cred_tries.proofs.Answered.{after_forgiving, after_nothing, after_right, after_sending, after_wrong, forgiven_clock_is, free, forgiven_is, idle_forgiven, idle_new, idle_seen, idle_tried, keep_limit, none_counted, open_unless, right_is, sent_same, sent_seen, settled_by, tried_clock_is}
@@ -31,12 +31,12 @@ module _ (times : List ℕ) (told : List ℕ → List Event) (name : List ℕ) (
   keeps_effect None (Some l) new e k is = absurd k
   keeps_effect (Some limit) None new e k is = absurd k
 
-  pub keeps_away : (t : Option ℕ) (old new : Option Limits) → KeepsCount t old times told → IsSentAway now old new name
-      → KeepsCount t new (times ++ passed_of new ∷ []) (λ q. with_told (if is_name_of q name then Some (Sent (passed_of new)) else None) (told q))
-  keeps_away None None new k is = absurd is
-  keeps_away (Some limit) (Some l) new k (sent, is) = subst (λ m. KeepsCount (Some limit) m (times ++ passed_of m ∷ []) (λ q. with_told (if is_name_of q name then Some (Sent (passed_of m)) else None) (told q))) (sym is) (after_sending limit l times told name now k sent)
-  keeps_away None (Some l) new k is = absurd k
-  keeps_away (Some limit) None new k is = absurd k
+  pub keeps_away : (t : Option ℕ) (old new : Option Limits) (seconds : ℕ) → KeepsCount t old times told → IsSentAway now old new name seconds
+      → KeepsCount t new (times ++ passed_of new ∷ []) (λ q. with_told (if is_name_of q name then Some (Sent (passed_of new) seconds) else None) (told q))
+  keeps_away None None new seconds k is = absurd is
+  keeps_away (Some limit) (Some l) new seconds k (sent, is) = subst (λ m. KeepsCount (Some limit) m (times ++ passed_of m ∷ []) (λ q. with_told (if is_name_of q name then Some (Sent (passed_of m) seconds) else None) (told q))) (sym is) (after_sending limit l times told name now k seconds sent)
+  keeps_away None (Some l) new seconds k is = absurd k
+  keeps_away (Some limit) None new seconds k is = absurd k
 
 -- ---- the limit is kept
 
@@ -74,7 +74,7 @@ still_clear (Some l) name settled clear e other = (l.clock.reading, still_at l n
 pub idle_none : AreIdle None
 idle_none = tt
 
-pub open_to : (l : Limits) (name : List ℕ) (now : ℕ) → IsIdle l → (sending l name now).0 ≡ false → IsFree l name now
+pub open_to : (l : Limits) (name : List ℕ) (now : ℕ) → IsIdle l → (sending l name now).0 ≡ None → IsFree l name now
 open_to l name now idle is = open_unless l name now idle is
 
 -- ---- the clock
@@ -89,31 +89,31 @@ pub read_by_effect : (now : ℕ) (old new : Option Limits) (name : List ℕ) (e 
 read_by_effect now None new name e is = inl (ap clock_of is)
 read_by_effect now (Some l) new name e (place, is) = subst (IsReadBy now (Some l)) (sym is) (read_with e l name now)
 
-pub read_by_sending : (now : ℕ) (old new : Option Limits) (name : List ℕ) → IsSentAway now old new name → IsReadBy now old new
-read_by_sending now None new name is = absurd is
-read_by_sending now (Some l) new name (sent, is) = subst (IsReadBy now (Some l)) (sym is) (inr refl)
+pub read_by_sending : (now : ℕ) (old new : Option Limits) (name : List ℕ) (seconds : ℕ) → IsSentAway now old new name seconds → IsReadBy now old new
+read_by_sending now None new name seconds is = absurd is
+read_by_sending now (Some l) new name seconds (sent, is) = subst (IsReadBy now (Some l)) (sym is) (inr refl)
 
 -- ---- what a call says that may send a try away
 
-module _ (now : ℕ) (l new : Limits) (name : List ℕ) (ask : Ask) (r : Bool) (idle : IsIdle l) (named : name ≡ name_asked ask) (is : (r, new) ≡ sending l name now) where
-  told : (b : Bool) → r ≡ b → (sending l name now).0 ≡ b
-  told b result = ap (λ o. o.0) (sym is) ∙ result
+module _ (now : ℕ) (l new : Limits) (name : List ℕ) (ask : Ask) (r : Option ℕ) (idle : IsIdle l) (named : name ≡ name_asked ask) (is : (r, new) ≡ sending l name now) where
+  told : (o : Option ℕ) → r ≡ o → (sending l name now).0 ≡ o
+  told o result = ap (λ o. o.0) (sym is) ∙ result
 
   after_is : new ≡ (sending l name now).1
   after_is = ap (λ o. o.1) is
 
-  pub sends_early : r ≡ true → IsSentAway now (Some l) (Some new) (name_asked ask)
-  sends_early result = subst (IsSentAway now (Some l) (Some new)) named (told true result, ap Some (after_is ∙ sent_seen l name now (told true result)))
+  pub sends_early : (seconds : ℕ) → r ≡ Some seconds → IsSentAway now (Some l) (Some new) (name_asked ask) seconds
+  sends_early seconds result = subst (λ n. IsSentAway now (Some l) (Some new) n seconds) named (told (Some seconds) result, ap Some (after_is ∙ sent_seen l name now seconds (told (Some seconds) result)))
 
-  pub sends_none : r ≡ false → ◌≡◌ {A = Option Limits} (Some new) (Some l)
-  sends_none result = ap Some (after_is ∙ sent_same l name now (told false result))
+  pub sends_none : r ≡ None → ◌≡◌ {A = Option Limits} (Some new) (Some l)
+  sends_none result = ap Some (after_is ∙ sent_same l name now (told None result))
 
-  pub sends_open : r ≡ false → IsOpenTo (Some l) (name_asked ask) now
-  sends_open result = subst (λ n. IsFree l n now) named (open_unless l name now idle (told false result))
+  pub sends_open : r ≡ None → IsOpenTo (Some l) (name_asked ask) now
+  sends_open result = subst (λ n. IsFree l n now) named (open_unless l name now idle (told None result))
 
-pub sends_idle : (now : ℕ) (l new : Limits) (name : List ℕ) (r : Bool) → IsIdle l → (r, new) ≡ sending l name now → IsIdle new
-sends_idle now l new name true idle is = subst IsIdle (sym (ap (λ o. o.1) is ∙ sent_seen l name now (ap (λ o. o.0) (sym is)))) (idle_seen l name now idle)
-sends_idle now l new name false idle is = subst IsIdle (sym (ap (λ o. o.1) is ∙ sent_same l name now (ap (λ o. o.0) (sym is)))) idle
+pub sends_idle : (now : ℕ) (l new : Limits) (name : List ℕ) (r : Option ℕ) → IsIdle l → (r, new) ≡ sending l name now → IsIdle new
+sends_idle now l new name (Some seconds) idle is = subst IsIdle (sym (ap (λ o. o.1) is ∙ sent_seen l name now seconds (ap (λ o. o.0) (sym is)))) (idle_seen l name now idle)
+sends_idle now l new name None idle is = subst IsIdle (sym (ap (λ o. o.1) is ∙ sent_same l name now (ap (λ o. o.0) (sym is)))) idle
 
 -- ---- no try runs, once a call is done
 
@@ -143,8 +143,8 @@ pub nothing_held : (now : ℕ) (limits : Option Limits) (name : List ℕ) → Ha
 nothing_held now None name = refl
 nothing_held now (Some l) name = (tt, refl)
 
-pub asked_as : (now : ℕ) (old new : Option Limits) (a b : Ask) → a ≡ b → (is_try a ≡ true) × IsSentAway now old new (name_asked a) → (is_try b ≡ true) × IsSentAway now old new (name_asked b)
-asked_as now old new a b same sent = subst (λ ask. (is_try ask ≡ true) × IsSentAway now old new (name_asked ask)) same sent
+pub asked_as : (now : ℕ) (old new : Option Limits) (a b : Ask) (seconds : ℕ) → a ≡ b → (is_try a ≡ true) × IsSentAway now old new (name_asked a) seconds → (is_try b ≡ true) × IsSentAway now old new (name_asked b) seconds
+asked_as now old new a b seconds same sent = subst (λ ask. (is_try ask ≡ true) × IsSentAway now old new (name_asked ask) seconds) same sent
 
 pub counted_ok : {A E : Type 0} (r : Result A E) (P : Type 0) → OnOk r P → is_err r ≡ false → P
 counted_ok (Ok x) P has is = has

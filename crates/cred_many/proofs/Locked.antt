@@ -206,7 +206,7 @@ module _ (capacity : ℕ) (book : MarkedBook) (name : List ℕ) (is : IsLocked b
   step (Reset key pw setting) ends =
       put_at (Reset key pw setting) key refl (λ same. same) (λ same. subst (λ k. IsLocked (done capacity book (Reset k pw setting)).1 name) same (reset_locked (new_record setting pw) (map.get book.accounts name)))
   step (Forgive key) ends = kept (Forgive key) holds
-  step (Later key) ends = kept (Later key) holds
+  step (Later key seconds) ends = kept (Later key seconds) holds
 
 -- whatever lines come
 pub stays_locked : (capacity : ℕ) (book : MarkedBook) (name : List ℕ) (lines : List Entry) → IsLocked book name → All (λ e. EndsLock name e.ask → ⊥) lines → IsLocked (book_after capacity book lines) name

@@ -1,5 +1,5 @@
 -- A history that goes on: what is written, what may stand in it, why nothing more is answered, and what is told of it.
-use Rattle.std.proofs.Common.{◌≡◌, ◌≢◌, ◌⊎◌, inl, inr, true, codes, ℕ, suc, ◌+◌, ◌-◌, ◌<◌, ◌≤◌, List, [], ◌∷◌, ◌++◌, Bool, Option, Some, None, IfSome, get_or, subst, refl, sym, ap, ◌∙◌, append_assoc, append-nil, arith, take, drop, slice_get, length, take-append-drop}
+use Rattle.std.proofs.Common.{◌≡◌, ◌≢◌, ◌⊎◌, inl, inr, true, ℕ, suc, ◌+◌, ◌-◌, ◌<◌, ◌≤◌, List, [], ◌∷◌, ◌++◌, Bool, Option, Some, None, IfSome, get_or, subst, refl, sym, ap, ◌∙◌, append_assoc, append-nil, arith, take, drop, slice_get, length, take-append-drop}
 use Rattle.std.proofs.{Math.Logic.∥∥₁_map, Math.Seq.take-append-add, lemmas.Bool.cases_lt, lemmas.Option.IfSome_then, lemmas.Option.get_or_from_slice_get, lemmas.Option.slice_get_within, lemmas.List.Elements.All-nil, lemmas.List.Elements.All-push, lemmas.List.Elements.All-same}
 use Rattle.std.proofs.{lemmas.List.drop-map, lemmas.List.get_or-append-add, lemmas.List.get_or_append_left, lemmas.List.length-append, lemmas.List.map-append, lemmas.List.map-id, lemmas.List.take-append-le, lemmas.List.take-map, lemmas.List.take_all, lemmas.List.FromFn.map-range_with_len_more}
 use Rattle.std.proofs.lemmas.List.Sorted.{IsPermutation-append_left, IsPermutation-append_right, IsPermutation-cons, IsPermutation-refl, IsPermutation-remove, IsPermutation-sym, IsPermutation-trans}
@@ -13,7 +13,7 @@ use Rattle.cred_many.specs.{declared.ask.Ask.Ask, declared.fault.ServiceFault.Se
 use Rattle.cred_many.specs.Service.{IsLine, Service, asked, asked_from, cut_line}
 use Rattle.cred_many.proofs.{Seen.answers-append, Seen.book_after-append, Seen.looked_numbers, Seen.watched_looked, Seen.watched_on, Seen.watched_rest, Seen.worn, Transcripts.takes_both, Transcripts.takes_none}
 use Rattle.cred_tries.specs.Limits.{Limits}
-use Rattle.cred_many.specs.{Scribe.IsCounted, Scribe.IsSentAway, Scribe.KeepsCount, Scribe.passed_of, Served.name_asked, Served.told_at, Tries.is_try, declared.ask.Ask.TheVariants.Later}
+use Rattle.cred_many.specs.{Scribe.IsCounted, Scribe.IsSentAway, Scribe.KeepsCount, Scribe.passed_of, Served.later_line, Served.name_asked, Served.told_at, Tries.is_try, declared.ask.Ask.TheVariants.Later}
 use Rattle.cred_many.proofs.{Limiting.limit_kept, Telling.counts_one, Telling.has_limit, Telling.nothing_counted, Telling.told_more}
 use Rattle.cred_cli.specs.declared.refusal.Refusal.{Refusal}
 use Rattle.cred_book.specs.declared.error.BookError.TheVariants as error
@@ -190,9 +190,9 @@ module _ (capacity : ℕ) (s : Service) (old now : Written) (book later : Marked
   given_up same is busy idle = answered_as (refused refusal.Busy) same is (λ h. inr (inr (inl (refl, worn capacity s.opening h.list left place line.ask h.seen busy)))) (not_counted refusal.Busy idle)
 
   -- or since its try is too early
-  pub sent_away : (clock : ℕ) → later ≡ book → answer ≡ codes "later\n" → is_try line.ask ≡ true → IsSentAway clock limits later_limits (name_asked line.ask) → ∥ History capacity s now later f rest came later_limits ∥₁
-  sent_away clock same is tries early = answered_as (Later (name_asked line.ask)) same is
-      (λ h. inr (inr (inr (refl, tries, has_limit s.tries limits later_limits h.times (told_at capacity s.opening h.list h.times) (name_asked line.ask) clock h.counted early)))) (clock, early)
+  pub sent_away : (clock seconds : ℕ) → later ≡ book → answer ≡ later_line seconds → is_try line.ask ≡ true → IsSentAway clock limits later_limits (name_asked line.ask) seconds → ∥ History capacity s now later f rest came later_limits ∥₁
+  sent_away clock seconds same is tries early = answered_as (Later (name_asked line.ask) seconds) same is
+      (λ h. inr (inr (inr ((seconds, refl), tries, has_limit s.tries limits later_limits h.times (told_at capacity s.opening h.list h.times) (name_asked line.ask) clock seconds h.counted early)))) (clock, early)
 
 module _ (capacity : ℕ) (s : Service) (now : Written) (book : MarkedBook) (left : List Open) (came : ℕ) (limits : Option Limits) (was : Option ServiceFault) where
   -- the lines stay

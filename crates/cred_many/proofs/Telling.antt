@@ -1,13 +1,13 @@
 -- What is told of tries by the answers to lines, and by those to more of them.
-use Rattle.std.proofs.Common.{◌≡◌, ℕ, IfSome, option_map, suc, ◌+◌, is_some, append-nil, append_assoc, Bool, true, false, if◌then◌else◌, List, [], ◌∷◌, ◌++◌, Option, Some, None, length, refl, sym, ap, ◌∙◌, arith, subst}
+use Rattle.std.proofs.Common.{◌≡◌, ℕ, IfSome, option_map, suc, ◌+◌, is_some, append-nil, append_assoc, Bool, true, false, List, [], ◌∷◌, ◌++◌, Option, Some, None, length, refl, sym, ap, ◌∙◌, arith, subst}
 use Rattle.std.proofs.lemmas.List.{length-append}
 use Rattle.cred_admin.specs.Marked.{MarkedBook}
 use Rattle.cred_tries.specs.{Answers.with_told, Histories.Event, Limits.IsLimit, Limits.Limits, Limits.new_limits}
 use Rattle.std.specs.FinMap.{contains_key}
-use Rattle.cred_many.specs.{Asks.Entry, Served.book_after, Served.done, Served.effect_of, Served.forgiven_line, Served.name_asked, Served.told_at, Served.told_by, Served.told_on, declared.ask.Ask.Ask}
+use Rattle.cred_many.specs.{Asks.Entry, Served.book_after, Served.done, Served.forgiven_line, Served.name_asked, Served.told_at, Served.told_by, Served.told_on, declared.ask.Ask.Ask}
 use Rattle.cred_many.specs.declared.ask.QuickAsk.{QuickAsk}
 use Rattle.cred_many.specs.declared.ask.Ask.TheVariants.{Quick, Whole, Login, Reset, Forgive, Later}
-use Rattle.cred_many.specs.{Scribe.AreCounted, Scribe.HasEffect, Scribe.IsCounted, Scribe.IsSentAway, Scribe.KeepsCount, Scribe.passed_of, Tries.event_of, Tries.forgiving_effect}
+use Rattle.cred_many.specs.{Scribe.AreCounted, Scribe.HasEffect, Scribe.IsCounted, Scribe.IsSentAway, Scribe.KeepsCount, Scribe.passed_of, Tries.forgiving_effect}
 use Rattle.cred_many.specs.declared.tries.Effect.TheVariants as effect
 use Rattle.cred_many.proofs.Seen.{book_after-append}
 use Rattle.cred_many.proofs.Limiting.{counted_none, keeps_away, keeps_effect}
@@ -37,7 +37,7 @@ module _ (tries : Option ℕ) (times : List ℕ) (told : List ℕ → List Event
   -- an answer is counted
   pub counts_one : (ask : Ask) → KeepsCount tries old times told → IsCounted old new book ask → KeepsCount tries new (times ++ passed_of new ∷ []) (λ name. with_told (told_by book name ask (passed_of new)) (told name))
   counts_one (Forgive name) k (now, is) = keeps_effect times told name now tries old new _ k is
-  counts_one (Later name) k (now, is) = keeps_away times told name now tries old new k is
+  counts_one (Later name seconds) k (now, is) = keeps_away times told name now tries old new seconds k is
   counts_one (Quick ask) k (now, is) = keeps_effect times told (name_asked (Quick ask)) now tries old new _ k is
   counts_one (Whole r) k (now, is) = keeps_effect times told (name_asked (Whole r)) now tries old new _ k is
   counts_one (Login name pw setting) k (now, is) = keeps_effect times told (name_asked (Login name pw setting)) now tries old new _ k is
@@ -73,10 +73,10 @@ nothing_counted None name = (0, refl)
 nothing_counted (Some l) name = (0, (tt, refl))
 
 -- there is a limit where a try is sent away
-pub has_limit : (tries : Option ℕ) (old new : Option Limits) (times : List ℕ) (told : List ℕ → List Event) (name : List ℕ) (now : ℕ) → KeepsCount tries old times told → IsSentAway now old new name → is_some tries ≡ true
-has_limit None None new times told name now k is = absurd is
-has_limit None (Some l) new times told name now k is = absurd k
-has_limit (Some limit) old new times told name now k is = refl
+pub has_limit : (tries : Option ℕ) (old new : Option Limits) (times : List ℕ) (told : List ℕ → List Event) (name : List ℕ) (now seconds : ℕ) → KeepsCount tries old times told → IsSentAway now old new name seconds → is_some tries ≡ true
+has_limit None None new times told name now seconds k is = absurd is
+has_limit None (Some l) new times told name now seconds k is = absurd k
+has_limit (Some limit) old new times told name now seconds k is = refl
 
 -- a line that needs no hash tells nothing
 pub quick_counted : (limits : Option Limits) (book : MarkedBook) (quick : QuickAsk) (ask : Ask) → Quick quick ≡ ask → IsCounted limits limits book ask

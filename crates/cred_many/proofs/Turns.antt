@@ -7,7 +7,7 @@ use Rattle.std.specs.{Bool.◌==◌, List.remove, List.sum_by, Str.bytes_eq}
 use Rattle.cred_phc.specs.Values.{RecordValue}
 use Rattle.cred_book.specs.Works.{same}
 use Rattle.cred_book.proofs.Equality.{same-Decides}
-use Rattle.cred_many.specs.{Scribe.HasSeen, Scribe.IsAnswered, Scribe.IsLooked, Scribe.IsPending, Scribe.IsReady, Scribe.Notes, Scribe.counted, Scribe.is_sight, Scribe.numbers, Scribe.unseen, Served.change_from, Served.tries, declared.fault.ServiceFault.ServiceFault, declared.open.Open.Open, declared.open.Sight.Sight}
+use Rattle.cred_many.specs.{Scribe.HasSeen, Scribe.IsAnswered, Scribe.IsLooked, Scribe.IsPending, Scribe.IsReady, Scribe.Notes, Scribe.counted, Scribe.is_sight, Scribe.numbers, Scribe.unseen, Served.tries, declared.fault.ServiceFault.ServiceFault, declared.open.Open.Open, declared.open.Sight.Sight}
 use Rattle.cred_many.specs.Turns.{Call, Follow, IsCall, KeepsTurns, OpenOthers, UsesTurn, has_number, open_after, seen_by, turns_left, turns_of, with_opened, works_of}
 use Rattle.cred_many.proofs.Serving.{answered_at}
 

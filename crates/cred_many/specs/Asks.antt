@@ -90,11 +90,11 @@ hashed_for (Whole r) = Some r
 hashed_for (Login name pw setting) = Some (request.Upgrade name pw setting)
 hashed_for (Reset name pw setting) = Some (request.Enrol name pw setting)
 hashed_for (Forgive name) = None
-hashed_for (Later name) = None
+hashed_for (Later name seconds) = None
 
 -- A setting isn't of the version of old records. No line asks to be told that its try is too early.
 abbrev pub IsSound : Ask → Type 0
-IsSound (Later name) = ⊥
+IsSound (Later name seconds) = ⊥
 IsSound ask = IfSome (hashed_for ask) (λ r. is_for_current r ≡ true)
 
 -- what a line asks for that is refused
@@ -111,7 +111,7 @@ is_costly most (Whole r) = request_exceeds most r
 is_costly most (Login name pw setting) = false
 is_costly most (Reset name pw setting) = exceeds most setting.scheme
 is_costly most (Forgive name) = false
-is_costly most (Later name) = false
+is_costly most (Later name seconds) = false
 
 -- such a line is refused
 abbrev pub within : CostBounds → Ask → Ask

@@ -146,10 +146,11 @@ HasEffect now None new name e = new ≡ None
 HasEffect now (Some l) new name e =
     HasPlace e (Some l) name now × (new ≡ Some (limits_with e l name now))
 
--- a try at the name was too early at this reading
-abbrev pub IsSentAway : ℕ → Option Limits → Option Limits → List ℕ → Type 0
-IsSentAway now None new name = ⊥
-IsSentAway now (Some l) new name = ((sending l name now).0 ≡ true) × (new ≡ Some (seen l now))
+-- a try at the name was too early at this reading, by so many seconds
+abbrev pub IsSentAway : ℕ → Option Limits → Option Limits → List ℕ → ℕ → Type 0
+IsSentAway now None new name seconds = ⊥
+IsSentAway now (Some l) new name seconds =
+    ((sending l name now).0 ≡ Some seconds) × (new ≡ Some (seen l now))
 
 -- nothing is counted at the name
 abbrev pub is_clear : Option Limits → List ℕ → Bool
@@ -158,7 +159,7 @@ is_clear (Some l) name = is_none (fin.get l.counts name)
 
 -- the answer to this line at this book is counted
 abbrev pub IsCounted : Option Limits → Option Limits → MarkedBook → Ask → Type 0
-IsCounted old new book (Later name) = (now : ℕ) × IsSentAway now old new name
+IsCounted old new book (Later name seconds) = (now : ℕ) × IsSentAway now old new name seconds
 IsCounted old new book (Forgive name) =
     (now : ℕ) × HasEffect now old new name (effect_of book (Forgive name))
 IsCounted old new book ask = (now : ℕ) × HasEffect now old new (name_asked ask) (effect_of book ask)

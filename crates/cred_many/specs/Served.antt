@@ -1,6 +1,6 @@
 -- What a service stands for at every moment: one list of lines, each done whole, one after another.
 use Rattle.std.specs.{List.range_with_len, List.Sorted.IsPermutation, Option.option_map}
-use Rattle.std.specs.Prelude.{◌≡◌, ◌≢◌, ◌⊎◌, ℕ, ◌<◌, ◌≤◌, ◌+◌, ◌-◌, ◌^◌, List, [], ◌∷◌, ◌++◌, Bool, true, false, if◌then◌else◌, IfSome, is_some, nat_lt, Option, Some, None, length, map, take, slice_get, slice_index_or, unwrap_or, codes}
+use Rattle.std.specs.Prelude.{◌≡◌, ◌≢◌, ◌⊎◌, ℕ, ◌<◌, ◌≤◌, ◌+◌, ◌-◌, ◌^◌, List, [], ◌∷◌, ◌++◌, Bool, true, false, if◌then◌else◌, IfSome, is_some, nat_lt, Option, Some, None, length, map, take, slice_get, slice_index_or, unwrap_or, codes, decimal}
 use Rattle.cred_phc.specs.{Text.record_text, Values.RecordValue}
 use Rattle.cred_file.specs.{Cells.cell, Cells.is_blank, Cells.is_marked, Cells.mark_text, declared.mark.Mark.Mark}
 use Rattle.cred_book.specs.{Works.name_of, Works.new_record, Works.same, declared.reply.Reply.Reply}
@@ -68,6 +68,10 @@ abbrev pub forgiven_line : Bool → List ℕ
 forgiven_line true = codes "forgiven\n"
 forgiven_line false = edit_line edit.NoAccount
 
+-- a try is too early by so many seconds
+abbrev pub later_line : ℕ → List ℕ
+later_line seconds = codes "later " ++ decimal seconds ++ 10 ∷ []
+
 -- the answer to what is asked, with its line end, done whole on the book, and the book after
 abbrev pub done : ℕ → MarkedBook → Ask → List ℕ × MarkedBook
 done capacity book (Quick (Account name)) =
@@ -104,7 +108,7 @@ done capacity book (Reset name pw setting) = (
   (reset_step book name (new_record setting pw)).1,
 )
 done capacity book (Forgive name) = (forgiven_line (fin.contains_key book.accounts name), book)
-done capacity book (Later name) = (codes "later\n", book)
+done capacity book (Later name seconds) = (later_line seconds, book)
 
 -- the answer to a line at this book, as it is written: `TAG ANSWER`
 abbrev pub line_at : ℕ → MarkedBook → Entry → List ℕ
@@ -152,13 +156,14 @@ effect_of book (Reset name pw setting) =
     reset_effect (reset_step book name (new_record setting pw)).0
 effect_of book (Quick ask) = effect.Nothing
 effect_of book (Forgive name) = forgiving_effect (fin.contains_key book.accounts name)
-effect_of book (Later name) = effect.Nothing
+effect_of book (Later name seconds) = effect.Nothing
 
 -- what it tells of the tries at a name, given at this moment
 abbrev pub told_by : MarkedBook → List ℕ → Ask → ℕ → Option Event
 told_by book name (Forgive other) t =
     if is_name_of name other then event_of (effect_of book (Forgive other)) t else None
-told_by book name (Later other) t = if is_name_of name other then Some (Sent t) else None
+told_by book name (Later other seconds) t =
+    if is_name_of name other then Some (Sent t seconds) else None
 told_by book name ask t =
     if is_name_of name (name_asked ask) then event_of (effect_of book ask) t else None
 
@@ -190,7 +195,7 @@ NeedsMemory capacity book (Quick (Change change)) =
 NeedsMemory capacity book (Quick (DisableShown name)) = is_some (record_at book name) ≡ true
 NeedsMemory capacity book (Quick (Bad why)) = ⊥
 NeedsMemory capacity book (Forgive name) = ⊥
-NeedsMemory capacity book (Later name) = ⊥
+NeedsMemory capacity book (Later name seconds) = ⊥
 NeedsMemory capacity book _ = Unit {0}
 
 -- so many changes of its account's record, and a line is given up
@@ -205,7 +210,9 @@ IsGivenUp capacity s before line told =
     × NeedsMemory capacity (book_after capacity s.opening before) line)
     ⊎ ((told ≡ refused refusal.Busy)
     × (tries ≤ changes capacity s.opening (name_asked line) before))
-    ⊎ ((told ≡ Later (name_asked line)) × (is_try line ≡ true) × (is_some s.tries ≡ true))
+    ⊎ (((seconds : ℕ) × (told ≡ Later (name_asked line) seconds))
+    × (is_try line ≡ true)
+    × (is_some s.tries ≡ true))
 
 -- ---- at every moment
 

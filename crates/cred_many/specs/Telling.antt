@@ -30,7 +30,7 @@ names_in (Whole r) = name_of r ∷ []
 names_in (Login name pw setting) = name ∷ []
 names_in (Reset name pw setting) = name ∷ []
 names_in (Forgive name) = name ∷ []
-names_in (Later name) = name ∷ []
+names_in (Later name seconds) = name ∷ []
 
 -- the name has the same record and the same mark in both
 abbrev pub AreAlikeAt : List ℕ → MarkedBook → MarkedBook → Type 0
@@ -70,7 +70,7 @@ with_passwords other (Whole r) = Whole (book.with_passwords other r)
 with_passwords other (Login name pw setting) = Login name (other pw) setting
 with_passwords other (Reset name pw setting) = Reset name (other pw) setting
 with_passwords other (Forgive name) = Forgive name
-with_passwords other (Later name) = Later name
+with_passwords other (Later name seconds) = Later name seconds
 
 -- a change to the same password stays one, and another stays another
 abbrev pub KeepsSame : (List ℕ → List ℕ) → Ask → Type 0

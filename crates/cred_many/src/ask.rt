@@ -21,9 +21,9 @@ pub(crate) enum Ask {
     Reset(Name, Password, Setting),
     /// Forgives the failed tries at an account.
     Forgive(Name),
-    /// A try at this account is too early. No line asks for it: a line that tries a password there
-    /// is answered so.
-    Later(Name),
+    /// A try at this account is too early by this many seconds. No line asks for it: a line that
+    /// tries a password there is answered so.
+    Later(Name, u64),
 }
 
 /// An operation that needs no hash, or the fault of the line.
@@ -83,7 +83,7 @@ impl Ask {
             Ask::Whole(Request::Enrol { .. }) => None,
             Ask::Whole(request) => Some(request.name()),
             Ask::Login(name, ..) => Some(*name),
-            Ask::Quick(_) | Ask::Reset(..) | Ask::Forgive(_) | Ask::Later(_) => None,
+            Ask::Quick(_) | Ask::Reset(..) | Ask::Forgive(_) | Ask::Later(..) => None,
         }
     }
 
@@ -94,7 +94,7 @@ impl Ask {
             Ask::Quick(QuickAsk::Load(_, stored)) => exceeds(most, &stored.setting()),
             Ask::Whole(request) => request_exceeds(most, request),
             Ask::Reset(_, _, setting) => exceeds(most, setting),
-            Ask::Quick(_) | Ask::Login(..) | Ask::Forgive(_) | Ask::Later(_) => false,
+            Ask::Quick(_) | Ask::Login(..) | Ask::Forgive(_) | Ask::Later(..) => false,
         }
     }
 }

@@ -1,8 +1,8 @@
 //! The output of answers.
 
-ghost use Rattle.std.specs.{List.remove, Prelude.◌≡◌, Prelude.◌∷◌, Prelude.◌++◌, Prelude.IfSome, Prelude.OnErr, Prelude.OnOk, Prelude.None, Prelude.codes, Prelude.true};
+ghost use Rattle.std.specs.{List.remove, Prelude.◌≡◌, Prelude.◌∷◌, Prelude.◌++◌, Prelude.IfSome, Prelude.OnErr, Prelude.OnOk, Prelude.None, Prelude.true};
 ghost use Rattle.cred_cli.specs.Watched.{failed_of};
-ghost use Rattle.cred_many.specs.{Scribe.IsConcluded, Scribe.IsReady, Service.IsLine};
+ghost use Rattle.cred_many.specs.{Scribe.IsConcluded, Scribe.IsReady, Served.later_line, Service.IsLine};
 ghost use Rattle.cred_many.specs.Transcript.{TakesFront, TakesMore, written_of};
 
 use crate::fault::ServiceFault;
@@ -10,6 +10,7 @@ use crate::line::Line;
 use crate::open::OpenLines;
 use crate::service_id::ServiceId;
 use cred_cli::{ScriptFault, Watched, write_whole};
+use itoa::Buffer;
 use std::io::Write;
 
 /// The open lines, the writer, and the fault that ended the answers, if any.
@@ -37,16 +38,19 @@ impl<W: Write> Output<W> {
         }
     }
 
-    /// Answers the line at this place that its try is too early, and closes it.
-    pub(crate) fn answer_later<J: ServiceId>(&mut self, place: usize, line: &Line<J>)
+    /// Answers the line at this place that its try is too early by these seconds, and closes it.
+    pub(crate) fn answer_later<J: ServiceId>(&mut self, place: usize, line: &Line<J>, seconds: u64)
         requires { IsReady self.old.fault self.old.pending place line.now.number }
         ensures came { IfSome J.service.input (λ bytes. IsLine J.service bytes line.now) }
         ensures closed { self.new.pending ≡ remove self.old.pending place }
-        ensures told { IsConcluded (line.now.tag ++ 32 ∷ codes "later\n")
+        ensures told { IsConcluded (line.now.tag ++ 32 ∷ later_line seconds)
             (written_of W.contents self.old.writer) (written_of W.contents self.new.writer)
             (failed_of self.new.writer) self.new.fault }
     {
-        self.answer(place, line, b"later\n");
+        self.pending.close(place);
+        if write_later(&mut self.writer, line.tag(), seconds).is_err() {
+            self.fault = Some(ServiceFault::Write);
+        }
     }
 
     /// Writes the answers of lines that were done together. After a failed write no more are.
@@ -77,6 +81,26 @@ fn write_answer<W: Write>(
     write_text(writer, tag)?;
     write_text(writer, b" ")?;
     write_text(writer, answer)?;
+    Ok(())
+}
+
+/// Writes the tag and that a try is too early by these seconds, or a proper prefix of the line if
+/// the writer fails.
+fn write_later<W: Write>(
+    writer: &mut Watched<W>,
+    tag: &[u8],
+    seconds: u64,
+) -> Result<(), ScriptFault>
+    ensures done { OnOk result (TakesMore (written_of W.contents writer.old)
+        (written_of W.contents writer.new) (tag.now ++ 32 ∷ later_line seconds)) }
+    ensures front { OnErr result (TakesFront (written_of W.contents writer.old)
+        (written_of W.contents writer.new) (tag.now ++ 32 ∷ later_line seconds)) }
+    ensures failed { OnErr result (failed_of writer.new ≡ true) }
+{
+    write_text(writer, tag)?;
+    write_text(writer, b" later ")?;
+    write_text(writer, Buffer::new().format(seconds).as_bytes())?;
+    write_text(writer, b"\n")?;
     Ok(())
 }
 

@@ -202,8 +202,8 @@ impl<J: ServiceId, K: Host, W: Write> Scribe<J, K, W> {
             return None;
         }
         let place = self.admit(&line)?;
-        if self.tries.send_away(&line.ask(), now) {
-            self.output.answer_later(place, &line);
+        if let Some(seconds) = self.tries.send_away(&line.ask(), now) {
+            self.output.answer_later(place, &line, seconds);
             return None;
         }
         match line.ask() {
@@ -223,7 +223,7 @@ impl<J: ServiceId, K: Host, W: Write> Scribe<J, K, W> {
                 self.forgive(place, &line, &name);
                 None
             }
-            Ask::Later(_) => unreachable!(),
+            Ask::Later(..) => unreachable!(),
         }
     }
 

@@ -1,6 +1,6 @@
 //! The failed tries at accounts, if they are limited.
 
-ghost use Rattle.std.specs.Prelude.{◌≡◌, ℕ, IfSome, OnErr, OnOk, false, if◌then◌else◌, option_map, true};
+ghost use Rattle.std.specs.Prelude.{◌≡◌, ℕ, IfSome, None, OnErr, OnOk, if◌then◌else◌, option_map, true};
 ghost use Rattle.cred_many.specs.Scribe.{HasEffect, HasPlace, IsOpenTo, IsSentAway, is_clear, passed_of};
 ghost use Rattle.cred_many.specs.{Served.name_asked, Tries.is_try, Tries.reset_effect};
 ghost use Rattle.cred_tries.specs.{Answers.IsReadBy, Limits.IsLimit, Limits.new_limits};
@@ -60,22 +60,20 @@ impl Tries {
         Tries { limiter }
     }
 
-    /// Whether a line tries a password too early, at a reading of the clock in seconds. Otherwise
-    /// the password may be judged at this reading.
-    pub(crate) fn send_away(&mut self, ask: &Ask, now: u64) -> bool
-        ensures sent { result ≡ true → (is_try ask.now ≡ true)
-            × IsSentAway now self.old self.new (name_asked ask.now) }
-        ensures same { result ≡ false → self.new ≡ self.old }
-        ensures open { result ≡ false → is_try ask.now ≡ true
+    /// By how many seconds a line tries a password too early, at a reading of the clock in seconds.
+    /// If it doesn't, the password may be judged at this reading.
+    pub(crate) fn send_away(&mut self, ask: &Ask, now: u64) -> Option<u64>
+        ensures sent { IfSome result (λ seconds. (is_try ask.now ≡ true)
+            × IsSentAway now self.old self.new (name_asked ask.now) seconds) }
+        ensures same { result ≡ None → self.new ≡ self.old }
+        ensures open { result ≡ None → is_try ask.now ≡ true
             → IsOpenTo self.old (name_asked ask.now) now }
         ensures clock { IsReadBy now self.old self.new }
     {
-        let Some(name) = ask.tried() else {
-            return false;
-        };
+        let name = ask.tried()?;
         match &mut self.limiter {
             Some(limiter) => limiter.sends_away(&name, now),
-            None => false,
+            None => None,
         }
     }
 

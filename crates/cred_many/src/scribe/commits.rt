@@ -69,8 +69,8 @@ impl<J: ServiceId, K: Host, W: Write> Scribe<J, K, W> {
         ensures clock { IsReadBy now self.old.tries self.new.tries }
     {
         let ask = line.ask();
-        if self.tries.send_away(&ask, now) {
-            self.output.answer_later(place, &line);
+        if let Some(seconds) = self.tries.send_away(&ask, now) {
+            self.output.answer_later(place, &line, seconds);
             return None;
         }
         let request = worked.request();

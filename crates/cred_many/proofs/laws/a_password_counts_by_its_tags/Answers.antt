@@ -75,7 +75,7 @@ as_done other capacity book (Whole r) (standing, made, same) = ap (λ o. (verdic
 as_done other capacity book (Login name pw setting) (standing, made, same) = ap (λ o. (verdict_line (login_verdict o.0), o.1)) (as_tried other book (Upgrade name pw setting) standing made same)
 as_done other capacity book (Reset name pw setting) (standing, made, same) = ap (λ stored. (reply_line (reset_step book name stored).0, (reset_step book name stored).1)) (as_new other setting pw made)
 as_done other capacity book (Forgive name) keeps = refl
-as_done other capacity book (Later name) keeps = refl
+as_done other capacity book (Later name seconds) keeps = refl
 
 pub returns : goal.returns
 returns c = as_done

@@ -107,7 +107,7 @@ module _ (capacity : ℕ) (one other : MarkedBook) where
   done_told (Login name pw setting) (same, beside) = ap (λ v. verdict_line (login_verdict v)) (tried_told (request.Upgrade name pw setting) (same 0 [] (omega arith)))
   done_told (Reset name pw setting) (same, beside) = ap reply_line (reset_told name (new_record setting pw) (map.get other.accounts name) (same 0 [] (omega arith)).0 refl)
   done_told (Forgive name) (same, beside) = ap (λ a. forgiven_line (is_some a)) (same 0 [] (omega arith)).0
-  done_told (Later name) (same, beside) = refl
+  done_told (Later name seconds) (same, beside) = refl
 
 pub returns : goal.returns
 returns c = record { tells = done_told; keeps = λ capacity book ask name. done_stays capacity book name ask }

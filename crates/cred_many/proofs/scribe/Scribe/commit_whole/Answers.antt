@@ -4,24 +4,24 @@ use Rattle.cred_book.specs.Works.{name_of}
 use Rattle.cred_admin.specs.Statuses.{verdict_line}
 use Rattle.cred_many.specs.{Asks.IsSound, Served.name_asked, Served.told_verdict, Tries.effect_by, Tries.is_try}
 use Rattle.cred_many.specs.declared.tries.Effect.TheVariants as effect
-use Rattle.cred_many.proofs.{Commits.commit_counted, Commits.commits_moved, Commits.commits_still, Commits.done_whole, Commits.has_place_at, Commits.sound_current, Commits.wrong_stays, Limiting.asked_as, Limiting.counted_ok, Limiting.effect_held, Limiting.opens_as, Serving.answered, Serving.sent_away, Turns.looked_turn}
+use Rattle.cred_many.proofs.{Commits.commit_counted, Commits.commits_moved, Commits.commits_still, Commits.done_whole, Commits.has_place_at, Commits.hash_needs, Commits.sound_current, Commits.wrong_stays, Limiting.asked_as, Limiting.counted_ok, Limiting.effect_held, Limiting.opens_as, Serving.answered, Serving.sent_away, Turns.looked_turn}
 use Rattle.cred_many.proofs.scribe.Scribe.commit_whole.Goals as goal
 
 pub invariant_of-self-then-is_outdated-clause-history : goal.invariant_of-self-then-is_outdated-clause-history
-invariant_of-self-then-is_outdated-clause-history g c = rw (commits_still _ _ _ _ c.in-Ok.ensures.done (sym c.if-is_outdated.ensures), c.send_away.ensures.same c.if-send_away.false) c.args.self.now.history
+invariant_of-self-then-is_outdated-clause-history g c = rw (commits_still _ _ _ _ c.in-Ok.ensures.done (sym c.if-is_outdated.ensures), c.send_away.ensures.same c.in_default.is) c.args.self.now.history
 
 pub invariant_of-self-2-clause-history : goal.invariant_of-self-2-clause-history
 invariant_of-self-2-clause-history g c =
     let whole = done_whole c.args.line.ask g.K.Host.capacity (g.K.Host.book c.args.self.now.keeper) _ c.args.worked c.in-Ok.verdict c.requires.asked c.requires.kept c.in-Ok.ensures.done (sym c.if-is_outdated.ensures) in answered _ g.J.ServiceId.service _ _ (g.K.Host.book c.args.self.now.keeper) _ c.args.line _ _ c.args.place _ _ _ _ _ _ _ c.requires.ready c.answer.ensures.came c.answer.ensures.closed c.answer.ensures.told c.args.self.now.history
     (ap (λ o. o.1) whole) (c.verdict_line-answer.ensures ∙ ap verdict_line (c.told_verdict.ensures ∙ ap (λ a. told_verdict a c.in-Ok.verdict) c.ask-ask.ensures.ask) ∙ ap (λ o. o.0) whole)
     (commit_counted c.args.line.ask _ _ c.args.worked c.in-Ok.verdict _ _ c.args.now c.requires.asked c.requires.kept c.in-Ok.ensures.done (sym c.if-is_outdated.ensures)
-    (effect_held c.args.now _ _ _ _ _ _ _ (counted_ok c.count.result _ c.count.ensures.counted (sym c.is_err.ensures.value ∙ c.if-is_err.false)) (c.send_away.ensures.same c.if-send_away.false) (c.name.ensures ∙ ap name_of c.request-request.ensures)
+    (effect_held c.args.now _ _ _ _ _ _ _ (counted_ok c.count.result _ c.count.ensures.counted (sym c.is_err.ensures.value ∙ c.if-is_err.false)) (c.send_away.ensures.same c.in_default.is) (c.name.ensures ∙ ap name_of c.request-request.ensures)
     (c.effect_of-effect.ensures ∙ ap (λ a. effect_by (is_try a) c.in-Ok.verdict) c.ask-ask.ensures.ask)))
 
 pub invariant_of-self-clause-history : goal.invariant_of-self-clause-history
 invariant_of-self-clause-history g c =
-    let sent = asked_as _ _ _ _ _ c.ask-ask.ensures.ask (c.send_away.ensures.sent c.if-send_away.true) in
-    sent_away _ g.J.ServiceId.service _ _ (g.K.Host.book c.args.self.now.keeper) _ c.args.line _ _ c.args.place _ _ _ _ _ _ _ c.requires.ready c.answer_later.ensures.came c.answer_later.ensures.closed c.answer_later.ensures.told c.args.self.now.history c.args.now refl refl sent.0 sent.1
+    let sent = asked_as _ _ _ _ _ _ c.ask-ask.ensures.ask c.in-Some.ensures.sent in
+    sent_away _ g.J.ServiceId.service _ _ (g.K.Host.book c.args.self.now.keeper) _ c.args.line _ _ c.args.place _ _ _ _ _ _ _ c.requires.ready c.answer_later.ensures.came c.answer_later.ensures.closed c.answer_later.ensures.told c.args.self.now.history c.args.now c.in-Some.seconds refl refl sent.0 sent.1
 
 pub invariant_of-self-then-is_err-clause-history : goal.invariant_of-self-then-is_err-clause-history
 invariant_of-self-then-is_err-clause-history g c =
@@ -29,14 +29,14 @@ invariant_of-self-then-is_err-clause-history g c =
     let wrong : c.effect_of-effect.result ≡ effect.Wrong = search rules in
     let told = c.effect_of-effect.ensures ∙ ap (λ a. effect_by (is_try a) c.in-Ok.verdict) c.ask-ask.ensures.ask in
     let still = wrong_stays (is_try c.args.line.ask) _ _ c.args.worked c.in-Ok.verdict c.in-Ok.ensures.done (sym c.if-is_outdated.ensures) (sym told ∙ wrong) in
-    rw (still, same, c.send_away.ensures.same c.if-send_away.false) c.args.self.now.history
+    rw (still, same, c.send_away.ensures.same c.in_default.is) c.args.self.now.history
 
 pub count-requires : goal.count-requires
 count-requires g c =
-    has_place_at c.args.line.ask c.in-Ok.verdict c.args.self.now.tries _ _ (name_asked c.args.line.ask) _ c.args.now (c.send_away.ensures.same c.if-send_away.false)
+    has_place_at c.args.line.ask c.in-Ok.verdict c.args.self.now.tries _ _ (name_asked c.args.line.ask) _ c.args.now (c.send_away.ensures.same c.in_default.is)
     (c.name.ensures ∙ ap name_of c.request-request.ensures ∙ sym (ap (λ o. unwrap_or (option_map name_of o) []) c.requires.asked))
     (c.effect_of-effect.ensures ∙ ap (λ a. effect_by (is_try a) c.in-Ok.verdict) c.ask-ask.ensures.ask)
-    (opens_as c.args.self.now.tries c.args.now _ c.args.line.ask c.ask-ask.ensures.ask (c.send_away.ensures.open c.if-send_away.false))
+    (opens_as c.args.self.now.tries c.args.now _ c.args.line.ask c.ask-ask.ensures.ask (c.send_away.ensures.open c.in_default.is))
 
 pub job-requires-clause-current : goal.job-requires-clause-current
 job-requires-clause-current g c = rw c.request-request.ensures (sound_current c.args.line.ask _ (subst IsSound c.ask-ask.ensures.ask c.ask-ask.ensures.sound) c.requires.asked)
@@ -48,3 +48,6 @@ pub returns-then-is_outdated-clause-turns : goal.returns-then-is_outdated-clause
 returns-then-is_outdated-clause-turns g c =
     let still = commits_still _ _ _ _ c.in-Ok.ensures.done (sym c.if-is_outdated.ensures) in
     IfSome_then c.job.result c.job.ensures.looked (λ job looked. looked_turn _ c.args.place _ _ _ _ _ c.requires.ready.there c.requires.seen (commits_moved _ _ _ _ c.in-Ok.ensures.done (sym c.if-is_outdated.ensures)) (rw (c.request-request.ensures, still) at looked))
+
+pub refuse-requires-clause-needs : goal.refuse-requires-clause-needs
+refuse-requires-clause-needs g c = hash_needs _ _ _ _ c.requires.asked

@@ -1,5 +1,5 @@
 use Rattle.std.proofs.Common.{rules, ◌≡◌, arith, false, IfSome, subst, sym, ◌∙◌}
-use Rattle.cred_many.specs.{Asks.IsJobOf, Service.IsLine}
+use Rattle.cred_many.specs.{Service.IsLine}
 use Rattle.cred_file.specs.Cells.{is_marked, unmarked}
 use Rattle.cred_file.proofs.Marked.{not_marked}
 use Rattle.cred_many.proofs.Groups.{pushed_together}

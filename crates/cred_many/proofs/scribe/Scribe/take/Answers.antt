@@ -4,11 +4,11 @@ use Rattle.cred_many.proofs.scribe.Scribe.take.Goals as goal
 
 pub invariant_of-self-clause-history : goal.invariant_of-self-clause-history
 invariant_of-self-clause-history g c =
-    let sent = asked_as _ _ _ _ _ c.ask.ensures.ask (c.send_away.ensures.sent c.if-send_away.true) in
-    sent_away _ g.J.ServiceId.service _ _ (g.K.Host.book c.admit.new.self.keeper) _ c.args.line _ _ c.in_ok-place.place _ _ _ _ _ _ _ c.in_ok-place.ensures.ready c.answer_later.ensures.came c.answer_later.ensures.closed c.answer_later.ensures.told c.admit.new.self.history c.args.now refl refl sent.0 sent.1
+    let sent = asked_as _ _ _ _ _ _ c.ask.ensures.ask c.in-Some.ensures.sent in
+    sent_away _ g.J.ServiceId.service _ _ (g.K.Host.book c.admit.new.self.keeper) _ c.args.line _ _ c.in_ok-place.place _ _ _ _ _ _ _ c.in_ok-place.ensures.ready c.answer_later.ensures.came c.answer_later.ensures.closed c.answer_later.ensures.told c.admit.new.self.history c.args.now c.in-Some.seconds refl refl sent.0 sent.1
 
-pub returns-then-send_away-clause-turns : goal.returns-then-send_away-clause-turns
-returns-then-send_away-clause-turns g c = λ next going. opened_closed _ _ _ c.in_ok-place.place _ _ c.in_ok-place.ensures.opened c.in_ok-place.ensures.ready c.answer_later.ensures.closed
+pub returns-in-Some-clause-turns : goal.returns-in-Some-clause-turns
+returns-in-Some-clause-turns g c = λ next going. opened_closed _ _ _ c.in_ok-place.place _ _ c.in_ok-place.ensures.opened c.in_ok-place.ensures.ready c.answer_later.ensures.closed
 
 pub returns-in-Whole-clause-turn : goal.returns-in-Whole-clause-turn
 returns-in-Whole-clause-turn g c = λ next going none. taken _ c.in_ok-place.place _ _ _ _ c.in_ok-place.ensures.opened c.in_ok-place.ensures.ready (c.job.ensures.closed none)
