@@ -41,12 +41,13 @@ class TriesTest(BookTest):
         for line in (f"verify ann {RIGHT}", f"change ann {RIGHT} {NEW}", f"remove ann {RIGHT}"):
             with self.subTest(line):
                 found = self.answers_in_turn(*FAIL, line, "show ann")
-                self.assertEqual(found[:-1], ["no"] * LIMIT + ["later"])
+                self.assertEqual(found[:-1], ["no"] * LIMIT + ["later 1"])
                 self.assertTrue(found[-1].startswith(CHEAP))
 
     def test_waits(self) -> None:
         """Each failure is waited behind twice as long as the one before, to a quarter of an hour,
-        also if the clock is set back meanwhile. A right password ends that."""
+        also if the clock is set back meanwhile; each try is told the seconds that are left. A right
+        password ends that."""
         waits = [1, 2, 4, 8, 16, 32, 64, 128, 256, 512, 900, 900]
         with self.limited() as service:
 
@@ -58,14 +59,14 @@ class TriesTest(BookTest):
             self.assertEqual([ask(WRONG) for _ in FAIL], ["t no"] * LIMIT)
             for wait in waits:
                 self.show(now := now - 1000)
-                self.assertEqual(ask(RIGHT), "t later")
+                self.assertEqual(ask(RIGHT), f"t later {wait}")
                 self.show(now := now + wait - 1)
-                self.assertEqual(ask(RIGHT), "t later")
+                self.assertEqual(ask(RIGHT), "t later 1")
                 self.show(now := now + 1)
                 self.assertEqual(ask(WRONG), "t no")
             self.show(now + 900)
             found = [ask(RIGHT), *(ask(WRONG) for _ in range(LIMIT + 1))]
-            self.assertEqual(found, ["t yes"] + ["t no"] * LIMIT + ["t later"])
+            self.assertEqual(found, ["t yes"] + ["t no"] * LIMIT + ["t later 1"])
 
     def test_forgotten(self) -> None:
         """A day after the last failure none counts."""
@@ -73,11 +74,12 @@ class TriesTest(BookTest):
             for at in (5000, 5000 + 86400, 5000 + 2 * 86400):
                 self.show(at)
                 found = [service.ask(f"t {line}") for line in [*FAIL, FAIL[0]]]
-                self.assertEqual(found, ["t no"] * LIMIT + ["t later"])
+                self.assertEqual(found, ["t no"] * LIMIT + ["t later 1"])
 
     def test_many_at_once(self) -> None:
         """Of many at once so many fail, and the others are later; all right ones are told so."""
-        for password, wanted in ((WRONG, {"no": LIMIT, "later": 40 - LIMIT}), (RIGHT, {"yes": 40})):
+        few = {"no": LIMIT, "later 1": 40 - LIMIT}
+        for password, wanted in ((WRONG, few), (RIGHT, {"yes": 40})):
             with self.subTest(wanted), self.limited() as service:
                 done = service.end(lined(f"t{at} verify ann {password}" for at in range(40)))
                 found = Counter(line.split(" ", 1)[1] for line in done.written.splitlines())
@@ -101,11 +103,11 @@ class TriesTest(BookTest):
         rows = [
             ([f"reset ann {NEW}"], "no"),
             (["forgive ann"], "no"),
-            (["forgive cat", "forgive dan"], "later"),
-            (["lock ann", "unlock ann"], "later"),
-            (["delete ann", "account ann", f"load ann {CHEAP}$c29tZXNhbHQ${TAG}"], "later"),
-            (["rename ann dan", "rename dan ann"], "later"),
-            ([f"enrol cat {NEW}", f"verify cat {NEW}"], "later"),
+            (["forgive cat", "forgive dan"], "later 1"),
+            (["lock ann", "unlock ann"], "later 1"),
+            (["delete ann", "account ann", f"load ann {CHEAP}$c29tZXNhbHQ${TAG}"], "later 1"),
+            (["rename ann dan", "rename dan ann"], "later 1"),
+            ([f"enrol cat {NEW}", f"verify cat {NEW}"], "later 1"),
         ]
         for between, answer in rows:
             with self.subTest(between):

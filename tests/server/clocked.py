@@ -8,13 +8,12 @@ import time
 import types
 
 sys.path.insert(0, str(pathlib.Path(__file__).parents[2] / "python/rigzumal/server"))
-from daemon import aging, tries  # noqa: E402
+from daemon import aging, tally, tries  # noqa: E402
 from daemon.main import main  # noqa: E402
 
 CLOCK = pathlib.Path(os.environ["CLOCK"])
-tries.time = types.SimpleNamespace(  # type: ignore
-    time=time.time, monotonic=lambda: float(CLOCK.read_text())
-)
+steady = types.SimpleNamespace(time=time.time, monotonic=lambda: float(CLOCK.read_text()))
+tries.time = tally.time = steady  # type: ignore
 aging.time = types.SimpleNamespace(time=lambda: float(CLOCK.read_text()))  # type: ignore
 
 if __name__ == "__main__":

@@ -32,6 +32,7 @@ import fcntl
 import hashlib
 import importlib
 import itertools
+import math
 import os
 import pathlib
 import random
@@ -89,11 +90,11 @@ class Tries:
         self.limit = limit
         self.failed = dict[str, tuple[int, float]]()
 
-    def is_too_early(self, name: str) -> bool:
-        """Whether the next has to wait."""
+    def rest(self, name: str) -> int:
+        """For how many seconds more the next has to wait."""
         count, last = self.failed.get(name, (0, 0.0))
         wait = min(2 ** (count - self.limit), LONGEST_WAIT) if count >= self.limit > 0 else 0
-        return seconds() < last + wait
+        return max(0, math.ceil(last + wait - seconds()))
 
     def count(self, name: str, said: str) -> str:
         """Counts what is answered to a try, and returns it."""
@@ -216,8 +217,8 @@ class Accounts:
                 return self.put(name, lock, "disabled")
             case "expire":
                 return self.put(name, lock + MUST_CHANGE + record, "expired")
-        if self.tries.is_too_early(name):
-            return "later"
+        if rest := self.tries.rest(name):
+            return f"later {rest}"
         return self.tries.count(name, self.judged(operation, name, row, plain, setting))
 
     def judged(self, operation: str, name: str, row: str, plain: list[bytes], setting: str) -> str:
@@ -300,7 +301,7 @@ def work(book: Book, output: threading.Lock, line: str) -> None:
     if "late" in FAULTS:
         time.sleep(random.random() * 0.05)
     with output:
-        is_early = words[0] in TRIES and book.tries.is_too_early("".join(words[1:2]))
+        is_early = words[0] in TRIES and book.tries.rest("".join(words[1:2])) > 0
     if "slow" in FAULTS and words[0] not in QUICK and not is_early:
         time.sleep(float(FAULTS["slow"]))
     if FAULTS.get("mute") == words[0]:

@@ -137,7 +137,7 @@ class AskServer(Case):
         service.client().talk("verify ada {wrong} -> no")
         for words, typed, ought in (
             (["check", "ada"], [b"secret\n"], ("later", 4)),
-            (["waits"], [], ("ada", 0)),
+            (["waits"], [], ("ada:1", 0)),
             (["forgive", "ada"], [], ("forgiven", 0)),
             (["check", "ada"], [b"secret\n"], ("yes", 0)),
         ):

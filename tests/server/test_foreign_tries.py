@@ -22,10 +22,13 @@ class ForeignTries(ForeignCase):
             login verify bob {wrong} -> no
             """
         )
+        service.talk("admin waits -> waits ada:1")
         service.set_clock(1)
         service.talk("login verify ada {wrong} -> no\nlogin verify ada {secret} -> later")
+        service.talk("admin waits -> waits ada:2")
         service.set_clock(2.9)
         service.talk("login verify ada {secret} -> later\nadmin known ada -> yes")
+        service.talk("admin waits -> waits ada:1")
         service.set_clock(3)
         service.talk("login verify ada {secret} -> yes")
         service.talk("login verify ada {wrong} -> no\n" * 3 + "login verify ada {secret} -> later")

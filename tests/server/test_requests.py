@@ -189,10 +189,17 @@ class Asking(Case):
             self.assertEqual(one.line(), said, repr(line))
 
     def test_answers_that_are_none(self) -> None:
-        """A book's answer that isn't printable text is handed on as unavailable."""
-        for answer in ("y\u00e9s", "yes\x07", "\x1b[1myes"):
+        """A book's answer that isn't printable text, or names no wait of 1 to 900 s, is handed on
+        as unavailable, and logged."""
+        waits = ("later", "later 0", "later 901", "later 1000", "later 07", "later -1", "later 1 x")
+        for answer in ("y\u00e9s", "yes\x07", "\x1b[1myes", *waits, "later ", "later 1.5"):
             service = self.serving(faults=f"answers={answer}").enrol(ada="secret")
             service.client().talk("verify ada {secret} -> unavailable")
+            self.assertIn("the book gave an answer that no book gives", service.log(), answer)
+            self.assertEqual((service.stats()["later"], service.stats()["waits"]), (0, 0))
+        for answer in ("later 1", "later 900"):
+            service = self.serving(faults=f"answers={answer}").enrol(ada="secret")
+            service.client().talk("verify ada {secret} -> later")
 
     def test_least_length(self) -> None:
         """A new password of too few characters of UTF-8 is refused by name, and the old one stays;

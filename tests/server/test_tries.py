@@ -142,14 +142,14 @@ class Tries(Case):
             """
             admin waits -> waits
             login verify ada {secret} -> later
-            admin waits -> waits ada
+            admin waits -> waits ada:1
             admin forgive ada -> forgiven
             admin forgive ada -> forgiven
             admin forgive zoe -> noaccount
             admin forgive cid -> forgiven
             login verify ada {secret} -> yes
             login verify bob {secret} -> later
-            admin waits -> waits bob
+            admin waits -> waits bob:1
             admin reset bob {secret} -> replaced
             login verify bob {secret} -> yes
             admin waits -> waits
@@ -173,6 +173,20 @@ class Tries(Case):
         ]
         self.assertEqual(lines, said)
 
+    def test_seconds_listed(self) -> None:
+        """A name is listed with the seconds that are left of the wait that its last early try was
+        told, until that is over."""
+        service = self.serving("--tries", "1", clocked=True).enrol(ada="secret", bob="secret")
+        for now, line, ought in (
+            *((0, "ada {wrong} -> no", ""), (0, "ada {secret} -> later", " ada:1")),
+            *((0.5, "bob {wrong} -> no", " ada:1"), (1, "ada {wrong} -> no", "")),
+            *((1, "ada {secret} -> later", " ada:2"), (1.2, "bob {wrong} -> later", " ada:2 bob:1")),
+            *((2.5, "ada {secret} -> later", " ada:1"), (3, "ada {wrong} -> no", "")),
+            *((4, "ada {secret} -> later", " ada:3"), (5.5, "bob {secret} -> yes", " ada:2")),
+        ):
+            service.set_clock(now)
+            service.talk(f"login verify {line}\nadmin waits -> waits{ought}")
+
     def test_logged_once_an_hour(self) -> None:
         """However many tries at a name are too early, its wait is a line an hour."""
         service = self.serving("--tries", "1", clocked=True).enrol(ada="secret")
@@ -186,16 +200,16 @@ class Tries(Case):
         self.assertEqual([it.getMessage() for it in logged.records], list("abcab"))
 
     def test_many_listed(self) -> None:
-        """A list is bounded, and so is its memory; a quarter of an hour ends an entry."""
+        """A list is bounded, and so is its memory; the end of its wait ends an entry."""
         verify, counted = OPERATIONS[b"verify"], tally.Tally(Options())
         self.enterContext(mock.patch.object(tally, "REMEMBERED", 4))
         self.enterContext(mock.patch.object(tally, "MOST_SHOWN", 2))
+        clock = self.enterContext(mock.patch.object(tally.time, "monotonic", return_value=100.0))
         for name in "abcabde":
-            counted.count(verify, name, "later")
-        self.assertEqual(counted.answer(b"waits", ""), "waits a b more=2")
-        late = time.monotonic() + 900
-        with mock.patch.object(tally.time, "monotonic", return_value=late):
-            self.assertEqual(counted.answer(b"waits", ""), "waits")
+            counted.count(verify, name, "later", 900)
+        for now, ought in ((100.0, " a:900 b:900 more=2"), (999.5, " a:1 b:1 more=2"), (1000.0, "")):
+            clock.return_value = now
+            self.assertEqual(counted.answer(b"waits", ""), f"waits{ought}")
 
 
 class OverABook(Case):
@@ -245,11 +259,11 @@ class OfAnOldFile(Case):
         super().setUp()
         self.enterContext(mock.patch.object(time, "monotonic", lambda: self.clock))
 
-    def at(self, tries: OldTries, *moments: float) -> list[bool]:
-        """Whether a try is too early at each of these moments."""
-        said = list[bool]()
+    def at(self, tries: OldTries, *moments: float) -> list[int]:
+        """By how many seconds a try is too early at each of these moments."""
+        said = list[int]()
         for self.clock in moments:
-            said.append(tries.is_too_early(b"x"))
+            said.append(tries.rest(b"x"))
         return said
 
     def test_waits(self) -> None:
@@ -260,13 +274,13 @@ class OfAnOldFile(Case):
         for wait in (0, 0, 1, 2, 4, 8, 16, 32, 64, 128, 256, 512, *[900] * 3000):
             failed = self.clock
             tries.fail(b"x")
-            moments = (failed, failed + wait - 0.1) if wait else (failed,)
-            self.assertEqual(self.at(tries, *moments), [wait > 0] * len(moments))
-            self.assertEqual(self.at(tries, failed + wait), [False])
-        for pause, is_early in ((86399.0, True), (86400.0, False)):
+            moments = (failed, failed + 0.5, failed + wait - 0.1) if wait else ()
+            self.assertEqual(self.at(tries, *moments), [wait, wait, 1] if wait else [])
+            self.assertEqual(self.at(tries, failed + wait), [0])
+        for pause, ought in ((86399.0, 900), (86400.0, 0)):
             self.clock = failed = failed + pause
             tries.fail(b"x")
-            self.assertEqual(tries.is_too_early(b"x"), is_early)
+            self.assertEqual(tries.rest(b"x"), ought)
 
     def test_forgiven(self) -> None:
         """At one name alone."""
@@ -275,12 +289,10 @@ class OfAnOldFile(Case):
             tries.fail(name)
         tries.forgive(b"x")
         tries.forgive(b"z")
-        self.assertEqual(
-            [tries.is_too_early(it) for it in (b"x", b"y", b"z")], [False, True, False]
-        )
+        self.assertEqual([tries.rest(it) for it in (b"x", b"y", b"z")], [0, 1, 0])
 
     def test_no_limit(self) -> None:
         tries = OldTries(0)
         for _ in range(3000):
             tries.fail(b"x")
-        self.assertFalse(tries.is_too_early(b"x"))
+        self.assertEqual(tries.rest(b"x"), 0)

@@ -162,20 +162,23 @@ class Web(Case):
                     self.assertEqual((status, headers.get("Remote-User")), (401, None))
 
     def test_too_many_tries(self) -> None:
-        """It is 429 for right passwords too, and those of others go on."""
+        """It is 429 for right passwords too, with the seconds until the next try may come; and
+        those of others go on."""
         service = self.serving_web("--tries", "4", clocked=True).enrol(ada="secret", bob="secret")
         client = Connection(service.path("http"))
         self.addCleanup(client.close)
-        for now, password, ought in (
-            *[(0, b"guess", 401)] * 4,
-            (0, b"secret", 429),
-            (1, b"guess", 401),
-            (1, b"secret", 429),
-            (2.9, b"secret", 429),
-            (3, b"secret", 200),
+        for now, password, ought, after in (
+            *[(0, b"guess", 401, None)] * 4,
+            (0, b"secret", 429, "1"),
+            (1, b"guess", 401, None),
+            (1, b"secret", 429, "2"),
+            (1.5, b"secret", 429, "2"),
+            (2.9, b"secret", 429, "1"),
+            (3, b"secret", 200, None),
         ):
             service.set_clock(now)
-            self.assertEqual(client.got(basic(b"ada", password))[0], ought)
+            status, headers = client.got(basic(b"ada", password))
+            self.assertEqual((status, headers.get("Retry-After")), (ought, after))
             self.assertEqual(client.got(basic(b"bob", b"secret"))[0], 200)
         self.assertEqual(service.stats()["no"], 5)
 
@@ -306,6 +309,7 @@ class Web(Case):
         self.assertEqual(fetched("ada:secret", 8083), {200: 40})
         self.assertEqual(server.stats()["yes"] - before, 1)
         self.assertEqual(fetched("eve:guess", 8083, 12), {401: 10, 429: 2})
+        self.assertIn("Retry-After: ", shell("curl -s -D - -u eve:x http://127.0.0.1:8083/1.png"))
         shell("sed -i '/ proxy_cache/d' /etc/nginx/sites-enabled/http && nginx -s reload")
 
         def is_asked() -> bool:

@@ -19,7 +19,9 @@ UNAVAILABLE = b"unavailable"
 NAME = re.compile(rb"[a-z0-9._-]{1,32}")  # of a book
 LOCKED, MUST_CHANGE = b"!", b"~"  # the marks of an account, in this order before its record
 LACKS = (b"absent", b"noaccount")  # its answers if it has no record, or no account
-LATER = b"later"  # its answer to a try that is too early
+LATER = b"later"  # begins its answer to a try that is too early
+EARLY = re.compile(rb"later ([1-9][0-9]{0,2})")  # the whole of it, with the seconds that are left
+LONGEST_WAIT = 900  # seconds
 NO_RECORD = b"none"  # the same of `show`
 NO_ACCOUNT = b"bad 5 noaccount"
 RETRY_SECONDS = 1.0  # from a process that couldn't start until the next one
@@ -35,6 +37,19 @@ def password_of(field: bytes) -> Optional[bytes]:
         return base64.b64decode(field + b"=" * (-len(field) % 4), validate=True)
     except ValueError:
         return None
+
+
+def seconds_to_wait(answer: bytes) -> int:
+    """The seconds after which a try may come again that got this answer; 0 for any other answer."""
+    early = EARLY.fullmatch(answer)
+    return int(early[1]) if early else 0
+
+
+def is_answer(text: bytes) -> bool:
+    """Whether the book may answer so: in letters, and a try that is too early with its seconds."""
+    if not re.fullmatch(rb"[ -~]+", text):
+        return False
+    return text.split(b" ")[0] != LATER or 0 < seconds_to_wait(text) <= LONGEST_WAIT
 
 
 def has_record(row: bytes) -> bool:
@@ -71,8 +86,9 @@ class Process(asyncio.SubprocessProtocol):
         for line in lines:
             tag, _space, text = line.partition(b" ")
             if answer := self.pending.pop(tag, None):
-                is_text = re.fullmatch(rb"[ -~]+", text)
-                answer.set_result(text if is_text else UNAVAILABLE)
+                answer.set_result(text if is_answer(text) else UNAVAILABLE)
+                if not is_answer(text):
+                    log_seldom("misread", "the book gave an answer that no book gives")
             else:
                 log_seldom("the book", "the book answered a line that nobody sent")
         if len(self.rest) > LONGEST_ANSWER:

@@ -151,7 +151,8 @@ class Client:
     async def pause(self) -> None:
         await asyncio.sleep(PAUSE_SECONDS * self.door.counts[self.user])
 
-    async def reply(self, tag: bytes, answer: bytes) -> None:
+    async def reply(self, tag: bytes, answer: bytes, seconds: int = 0) -> None:
+        """Sends an answer; lines don't tell for how many seconds a try has to wait."""
         await self.write([b"%b %b\n" % (tag, answer)])
 
     async def write(self, pieces: Iterable[bytes]) -> None:

@@ -115,8 +115,8 @@ class Foreign:
         if refusal := await self.prepare(request, line, row):
             return refusal
         is_try_of_file = request.operation.tries and line.record and not has_record(row)
-        if is_try_of_file and self.tries.is_too_early(name):
-            return LATER
+        if is_try_of_file and (seconds := self.tries.rest(name)):
+            return b"%b %d" % (LATER, seconds)
         answer = await self.service.ask(request)
         if not line.record:
             return answer

@@ -340,7 +340,7 @@ OPERATIONS = {
         command=Command("NAME", "the time of the last right password"),
     ),
     b"waits": Operation(
-        "", is_own=True, command=Command("", "the names at which a try was too early")
+        "", is_own=True, command=Command("", "the names that have to wait, and the seconds")
     ),
     b"stats": Operation("", is_own=True, command=Command("", "counts of answers")),
 }

@@ -12,7 +12,7 @@ from dataclasses import dataclass, replace
 from typing import TYPE_CHECKING, Any, Optional
 
 from .book import LACKS, LATER, LOCKED, MUST_CHANGE, NO_ACCOUNT, NO_RECORD, UNAVAILABLE
-from .book import Book, Places, Rounds, password_of
+from .book import Book, Places, Rounds, password_of, seconds_to_wait
 from .clients import LONG, LONGEST, Client
 from .disk import FULL, NEEDED, has_room
 from .doors import Door
@@ -167,15 +167,17 @@ class Service:
         that of a login afterwards, so that a slow disk holds up no login."""
         client, operation = request.client, request.operation
         answer = await self.answer_in_turn(request)
+        if seconds := seconds_to_wait(answer):
+            answer = LATER
         # Not the record that a `disable` shows.
         noted = b"disabled" if operation.changes and b":" in answer else answer
-        self.tally.count(operation, request.name, noted.decode())
-        if answer == LATER:
+        self.tally.count(operation, request.name, noted.decode(), seconds)
+        if seconds:
             # After the time of a hash: names that the book lacks take that too.
             await asyncio.sleep(random.choice(self.login_seconds or [self.hash_seconds]))
         if operation.changes and not await self.note(request, noted):
             answer = UNAVAILABLE  # nobody says that a change was made that isn't noted
-        await client.reply(request.tag, answer)
+        await client.reply(request.tag, answer, seconds)
         client.running -= 1
         client.answered.set()
         if not operation.changes:

@@ -1,18 +1,20 @@
 """What is counted of answers since the start."""
 
+import math
 import re
 import socket
 import time
 from collections import Counter, OrderedDict
 from collections.abc import Iterator
 from dataclasses import dataclass
+from typing import TypeVar
 
 from .book import LATER
 from .journal import Problem, forget_message, log, log_seldom, utc
 from .options import Options, folder_of
 from .protocol import ANSWERS, NO_ANSWER, RIGHT, Operation
-from .tries import LONGEST_WAIT
 
+Note = TypeVar("Note")
 EXPIRED = "expired"  # what `expire` is answered, and a right password that must be changed
 FORGIVEN = "forgiven"
 REMEMBERED = 65536  # names
@@ -48,18 +50,30 @@ METRICS = (
     Metric("denied_total", "Lines that their socket doesn't allow.", ("denied",)),
     Metric("refused_total", "Connections that had no room.", ("refused",)),
     Metric("clients", "Connections.", ("clients",)),
-    Metric("waits", "Names whose tries were too early, in a quarter of an hour.", ("waits",)),
+    Metric("waits", "Names that have to wait, as their tries were told.", ("waits",)),
     Metric("waited_seconds_total", "Seconds that lines waited for their turn.", ("waited",)),
 )
 COUNTED = [*(count for metric in METRICS for count in metric.counts), "book"]  # by `stats`
 
 
-def remember(moments: "OrderedDict[str, float]", name: str, moment: float) -> None:
-    """Notes a name's last moment, and forgets the oldest of too many names."""
-    moments[name] = moment
-    moments.move_to_end(name)
-    if len(moments) > REMEMBERED:
-        moments.popitem(last=False)
+@dataclass(frozen=True)
+class Wait:
+    """What a try that was too early was told: the seconds that were left at this moment."""
+
+    seconds: int
+    told: float
+
+    def rest(self) -> int:
+        """How many of them are left now."""
+        return max(0, math.ceil(self.seconds - (time.monotonic() - self.told)))
+
+
+def remember(notes: "OrderedDict[str, Note]", name: str, note: Note) -> None:
+    """Notes the last thing of a name, and forgets the oldest of too many names."""
+    notes[name] = note
+    notes.move_to_end(name)
+    if len(notes) > REMEMBERED:
+        notes.popitem(last=False)
 
 
 class Tally:
@@ -70,13 +84,14 @@ class Tally:
         self.book, self.doors = folder_of(options.file).name, options.doors
         self.counts, self.waited = Counter[str](), 0.0
         self.logins = OrderedDict[str, float]()
-        self.early = OrderedDict[str, float]()  # names, by their last try that was too early
+        self.early = OrderedDict[str, Wait]()  # the last wait that was told at each name
 
-    def count(self, kind: Operation, name: str, answer: str) -> None:
-        """Counts an answer to a request for a name, and logs what it tells of a wait."""
+    def count(self, kind: Operation, name: str, answer: str, seconds: int = 0) -> None:
+        """Counts an answer to a request for a name, which may have to wait for so many seconds;
+        and logs what the answer tells of a wait."""
         if answer == LATER.decode():
             self.counts["later"] += 1
-            remember(self.early, name, time.monotonic())
+            remember(self.early, name, Wait(seconds, time.monotonic()))
             log_seldom((LATER, name), "%s has to wait after %d failed tries", name, self.tries)
         if answer == FORGIVEN:
             self.end_wait(name, "an administrator forgave it")
@@ -93,6 +108,7 @@ class Tally:
                 self.end_wait(name, "a new password")
         elif tried := meaning.tried:
             self.counts[tried] += 1
+            self.early.pop(name, None)  # a password is judged once no wait is left
             if tried == RIGHT:
                 self.end_wait(name, "a right password")
                 remember(self.logins, name, time.time())
@@ -104,10 +120,10 @@ class Tally:
             log.info("%s has to wait no more: %s", name, why)
 
     def waits(self) -> list[str]:
-        """The names at which a try was too early in the time of the longest wait, and that weren't
-        let in or forgiven since."""
-        then = time.monotonic() - LONGEST_WAIT
-        return [name for name, moment in self.early.items() if moment > then]
+        """The names whose last try was told to wait, for longer than until now, and that weren't
+        forgiven since; each as NAME:SECONDS, with the rest."""
+        early = self.early.items()
+        return [f"{name}:{rest}" for name, wait in early if (rest := wait.rest())]
 
     def stats(self) -> str:
         now: dict[str, object] = {**self.counts, "waited": f"{self.waited:.3f}"}
@@ -119,9 +135,9 @@ class Tally:
     def answer(self, operation: bytes, name: str) -> str:
         """The server's own answers; `last` is the time of a right password."""
         if operation == b"waits":
-            names = self.waits()
-            more = [f"more={len(names) - MOST_SHOWN}"] if len(names) > MOST_SHOWN else []
-            return " ".join(["waits", *names[:MOST_SHOWN], *more])
+            waits = self.waits()
+            more = [f"more={len(waits) - MOST_SHOWN}"] if len(waits) > MOST_SHOWN else []
+            return " ".join(["waits", *waits[:MOST_SHOWN], *more])
         if operation == b"last":
             return f"last {utc(self.logins[name])}" if name in self.logins else "none"
         return self.stats()

@@ -8,7 +8,9 @@ import math
 import time
 from dataclasses import dataclass
 
-LONGEST_WAIT, FORGOTTEN = 900.0, 86400.0  # seconds
+from .book import LONGEST_WAIT
+
+FORGOTTEN = 86400.0  # seconds
 COUNTED_BEYOND = 10  # the limit, by which the wait is the longest
 
 
@@ -32,13 +34,13 @@ class Tries:
         failed = self.failed.get(name)
         return failed.count if failed and time.monotonic() < failed.last + FORGOTTEN else 0
 
-    def is_too_early(self, name: bytes) -> bool:
-        """Whether the next try has to wait."""
+    def rest(self, name: bytes) -> int:
+        """For how many seconds more the next try has to wait."""
         count = self.count(name)
         if count < self.limit:
-            return False
+            return 0
         wait = min(2.0 ** (count - self.limit), LONGEST_WAIT)
-        return time.monotonic() < self.failed[name].last + wait
+        return max(0, math.ceil(wait - (time.monotonic() - self.failed[name].last)))
 
     def fail(self, name: bytes) -> None:
         count = min(self.count(name) + 1, self.limit + COUNTED_BEYOND)

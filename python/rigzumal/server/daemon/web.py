@@ -95,15 +95,17 @@ class WebClient(Client):
         await self.respond(status)
         await self.pause()
 
-    async def reply(self, tag: bytes, answer: bytes) -> None:
+    async def reply(self, tag: bytes, answer: bytes, seconds: int = 0) -> None:
         meaning = ANSWERS.get(answer.decode(), NO_ANSWER)
-        await self.respond(meaning.http)
+        await self.respond(meaning.http, seconds)
 
-    async def respond(self, status: int) -> None:
+    async def respond(self, status: int, seconds: int = 0) -> None:
         """Sends a status, and goes on with the next request if there may be one."""
         headers: list[tuple[str, Any]] = [("Content-Length", "0"), *HEADERS.get(status, ())]
         if status == 200:
             headers.append(("Remote-User", self.service.names.spelling(self.name)))
+        if seconds:
+            headers.append(("Retry-After", str(seconds)))
         head = h11.Response(status_code=status, headers=headers)
         await self.write([self.http.send(head) + self.http.send(h11.EndOfMessage())])
         if self.http.our_state is self.http.their_state is h11.DONE:
