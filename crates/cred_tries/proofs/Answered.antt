@@ -6,7 +6,7 @@ use Rattle.std.proofs.lemmas.Bool.Decides.{nat_tests}
 use Rattle.std.proofs.lemmas.List.Elements.{All-head, All-nil, All-push, All-tail, All-weaker}
 use Rattle.std.specs.FinMap as map
 use Rattle.cred_book.specs.Names.{name_cmp}
-use Rattle.cred_tries.specs.Answers.{AreInTurn, Ascend, HasCounted, IsIdle, IsSettled, KeepLimit, MustWait, with_told}
+use Rattle.cred_tries.specs.Answers.{AreInTurn, Ascend, EndsAt, HasCounted, IsIdle, IsSettled, KeepLimit, MustWait, with_told}
 use Rattle.cred_tries.specs.Clocks.{after_reading, moment}
 use Rattle.cred_tries.specs.Counts.{count_begun, count_ended, count_ended_as, day, most_tries, nothing, place_of, remembered_failures, rest_of}
 use Rattle.cred_tries.specs.Histories.{Begin, Call, End, Event, Begun, Forgive, Forgiven, HasWaited, IsLimited, MayBegin, Right, Sent, Wrong, begin_event, begun_if, count_after, end_event, failures, history, last_failure, with_event as call_event}
@@ -84,6 +84,11 @@ ascend_push (first ∷ ts) t ascend until = (
   ascend_push ts t ascend.1 (All-tail (λ u. u ≤ t) first ts until),
 )
 
+ends_push : (ts : List ℕ) (t : ℕ) → EndsAt t (ts ++ t ∷ [])
+ends_push [] t = refl
+ends_push (first ∷ []) t = refl
+ends_push (first ∷ (next ∷ ts)) t = ends_push (next ∷ ts) t
+
 module _ (limit : ℕ) (times : List ℕ) (told : List ℕ → List Event) (steps : List Step) where
   abbrev limits : Limits
   limits = limits_after limit steps
@@ -120,7 +125,7 @@ module _ (limit : ℕ) (times : List ℕ) (told : List ℕ → List Event) (step
           → limits.clock.passed ≤ later.clock.passed → HasCounted limit later (times ++ later.clock.passed ∷ []) now_told
       goes_on limits_are told_are in_turn forward =
           let (ascend, until) = more_times later forward in
-          record { some = k.some; few = k.few; steps = more; limits_are = limits_are; told_are = told_are; in_turn = in_turn; ascend = ascend; until = until }
+          record { some = k.some; few = k.few; steps = more; limits_are = limits_are; told_are = told_are; in_turn = in_turn; ascend = ascend; until = until; last = ends_push times later.clock.passed }
 
     -- ---- a password is judged
 
@@ -346,6 +351,7 @@ pub keep_limit : (limit : ℕ) (l : Limits) (times : List ℕ) (told : List ℕ 
 keep_limit limit l times told c = record {
   ascend = c.ascend;
   until = c.until;
+  last = c.last;
   in_turn = c.in_turn;
   seldom = λ name.
       let all = limited limit c.some (calls_at name c.steps) (ascends name c.steps).0 in
@@ -363,6 +369,7 @@ none_counted limit is told none = record {
   in_turn = λ name. subst (AreInTurn limit) (sym (none name)) tt;
   ascend = tt;
   until = All-nil (λ t. t ≤ 0);
+  last = tt;
 }
 
 pub settled_by : (limit : ℕ) (l : Limits) (times : List ℕ) (told : List ℕ → List Event) → HasCounted limit l times told → IsSettled l

@@ -41,11 +41,18 @@ abbrev pub Ascend : List ℕ → Type 0
 Ascend [] = ⊤
 Ascend (t ∷ later) = All (λ u. t ≤ u) later × Ascend later
 
--- Answers at these moments, of which the last is this one at most, keep a limit: they tell this at
--- each name.
+-- the last of these moments, if there is one, is this one
+abbrev pub EndsAt : ℕ → List ℕ → Type 0
+EndsAt passed [] = ⊤
+EndsAt passed (t ∷ []) = t ≡ passed
+EndsAt passed (t ∷ (u ∷ later)) = EndsAt passed (u ∷ later)
+
+-- Answers at these moments, of which the last is this one, keep a limit: they tell this at each
+-- name.
 pub record KeepLimit (limit passed : ℕ) (times : List ℕ) (told : List ℕ → List Event) : Type 0 where
   pub ascend : Ascend times
   pub until : All (λ t. t ≤ passed) times
+  pub last : EndsAt passed times
   pub in_turn : (name : List ℕ) → AreInTurn limit (told name)
   pub seldom : (name : List ℕ) → FailsSeldom limit (judgements (told name))
 
@@ -84,3 +91,4 @@ pub record HasCounted (limit : ℕ) (limits : Limits) (times : List ℕ) (told :
   pub in_turn : (name : List ℕ) → AreInTurn limit (told name)
   pub ascend : Ascend times
   pub until : All (λ t. t ≤ limits.clock.passed) times
+  pub last : EndsAt limits.clock.passed times
