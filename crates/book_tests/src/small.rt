@@ -5,7 +5,7 @@ use cred_phc::Record;
 use std::alloc::Global;
 use std::sync::Wait;
 
-/// How many names a small book has room for.
+/// The number of names that a small book has room for.
 const CAPACITY: usize = 3;
 
 /// A register of at most three names.

@@ -1,8 +1,9 @@
-//! That the calls succeed, that whole operations answer as records from outside want it and hash no
-//! oftener than they must, what running out of memory leaves, and that no password is shown.
+//! Tests: the calls succeed, whole operations answer as records from outside demand and hash no
+//! more often than they must, running out of memory leaves the right values, and no password is
+//! shown.
 //!
-//! `work` plays whole operations; the other files have the tests. What a test asserts it is handed
-//! as a plain value, since its proof is far longer where a book is alive beside an assertion.
+//! `work` plays whole operations; the other files have the tests. A test gets the values that it
+//! asserts as plain ones, since its proof is far longer where a book is alive beside an assertion.
 
 mod accounts;
 mod gates;

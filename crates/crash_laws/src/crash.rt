@@ -14,7 +14,7 @@ use cred_file::{Attempt, FileBook, OpenFault};
 use sqlite::{Alter, Connection};
 use std::alloc::Global;
 
-/// What a run told, and the store as the run left it.
+/// The answers of a run, and the store as the run left it.
 #[derive(Drop)]
 pub struct Ended<M> {
     /// The answers to the changes, in their order; or why no book was opened.
@@ -22,7 +22,7 @@ pub struct Ended<M> {
     pub store: M,
 }
 
-/// What a run told, and what came of the next one.
+/// The answers of a run, and the result of the next one.
 #[derive(Drop)]
 pub struct Restart<R> {
     pub told: Result<Vec<Result<(), BookError>>, OpenFault>,
@@ -114,7 +114,7 @@ fn make_all<S: Alter>(
     answers
 }
 
-/// Makes the change, with its answer.
+/// Applies the change, and returns its answer.
 #[tactic(auto, using(crate::proofs::Made::called))]
 fn make<S: Alter>(book: &mut FileBook<S>, change: Attempt) -> Result<(), BookError>
     ensures { IsCall S.Store book.old book.new (record { change = change; answer = result }) }

@@ -1,5 +1,5 @@
-//! What no clause says: that a run gets as far as its changes, and stops at each of them; that the
-//! next run has memory and a disk; and that a crash leaves the book with a change and without.
+//! Tests of facts that no clause states: a run gets as far as its changes, and stops at each of
+//! them; the next run has memory and a disk; and a crash leaves the book with a change and without.
 
 ghost use Rattle.sqlite.specs.Steps.{IsFresh};
 ghost use Rattle.sqlite_trees.specs.Memory.{memory_view};

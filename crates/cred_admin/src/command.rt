@@ -20,8 +20,8 @@ use std::thread::Threads;
 /// An operation on one account, with its passwords read a line each.
 #[derive(Clone, Copy, Debug, PartialEq, Eq)]
 pub enum Command {
-    /// Makes the first record of the account, and the account if it doesn't exist. The answer is
-    /// `enrolled`, or `exists`.
+    /// Stores the first record of the account, and adds the account if it doesn't exist. The answer
+    /// is `enrolled`, or `exists`.
     Add(NewPassword),
     /// Asks whether a password is the account's. The answer is `yes` or `no`.
     Check,

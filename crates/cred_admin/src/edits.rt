@@ -28,13 +28,13 @@ pub enum Edit {
     Disable(Name),
     /// Removes the name, with its record.
     Delete(Name),
-    /// Gives the account of the first name the second one.
+    /// Renames the account of the first name to the second one.
     Rename(Name, Name),
-    /// Makes each password of the account wrong.
+    /// Locks the account: each password is wrong.
     Lock(Name),
     /// Ends a lock.
     Unlock(Name),
-    /// Makes the account's password one that must be changed.
+    /// Demands a change of the account's password.
     Expire(Name),
 }
 

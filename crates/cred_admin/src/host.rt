@@ -44,8 +44,8 @@ pub trait Host {
         ensures whole { Becomes result (book self.old) (book self.new)
             (with_account (book self.old) name None) };
 
-    /// Gives the account this record, in place of any other. It need not be changed any more, and a
-    /// lock stays.
+    /// Stores this record at the account, in place of any other. Its password need not be changed
+    /// any more, and a lock stays.
     ///
     /// Errors: `NoAccount` if the book doesn't have the name; `Memory`.
     fn load(&mut self, name: &Name, stored: Record) -> Result<(), BookError>
@@ -80,9 +80,9 @@ pub trait Host {
     fn edit(&mut self, edit: &Edit) -> Result<EditReply, BookError>
         ensures { EditsWithin capacity (book self.old) (book self.new) edit.now result };
 
-    /// Gives each of these accounts its record there, or none, in place of any other: all of them
-    /// together, so that a crash leaves the book with all of it, or with none. None of them need be
-    /// changed any more, and locks stay.
+    /// Stores at each of these accounts its record there, or none, in place of any other: all
+    /// together, so that a crash leaves the book with all of these changes, or with none. No
+    /// password of these need be changed any more, and locks stay.
     ///
     /// Errors: `NoAccount` if one of the names has no account; `Memory`. The book stays.
     fn replace_all(&mut self, changed: Register) -> Result<(), BookError>

@@ -148,7 +148,7 @@ fn read_all<R: Read>(alloc: Global, reader: &mut Watched<R>) -> Result<Vec<u8>, 
     unreachable!()
 }
 
-/// Takes the lines in turn.
+/// Reads the lines in turn.
 fn gather_lines(
     alloc: Global,
     book: &Register,

@@ -1,9 +1,9 @@
-//! What an administrator does with a book of accounts: add, check, change, upgrade, remove and
-//! reset by a password that is read from a reader; show and list; disable, delete and rename; and
-//! what the lines of an import come to.
+//! The commands of an administrator over a book of accounts: add, check, change, upgrade, remove
+//! and reset by a password that is read from a reader; show and list; disable, delete and rename;
+//! and the result of the lines of an import.
 //!
-//! Each command reads, changes the book by its keeper, and then writes its answer: so an answer is
-//! never written before its change is made.
+//! Each command reads, changes the book by its keeper, and then writes its answer: so it never
+//! writes an answer before the change.
 #![tactic(auto)]
 
 mod command;

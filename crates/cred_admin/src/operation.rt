@@ -125,8 +125,9 @@ fn reset<T: Threads + Sync, K: Host>(
     Ok(Verdict::Told(reply))
 }
 
-/// Gives the account this record, in place of any other. It need not be changed any more, and a
-/// lock stays. If memory runs out the book stays; it runs out only if the account exists.
+/// Stores this record at the account, in place of any other. Its password need not be changed any
+/// more, and a lock stays. If memory runs out the book stays; it runs out only if the account
+/// exists.
 pub fn put_in_place<K: Host>(
     keeper: &mut K,
     name: &Name,

@@ -77,7 +77,7 @@ pub fn commit_try<K: Host>(keeper: &mut K, worked: Worked) -> Result<Verdict, (W
     }
 }
 
-/// What is answered in place of this reply, at an account with this mark and this record.
+/// The answer in place of this reply, at an account with this mark and this record.
 fn barred(mark: Mark, request: &Request, now: &Option<Record>, reply: Reply) -> Option<Verdict>
     ensures { result ≡ barred_by mark request.now now.now reply }
 {
@@ -102,7 +102,7 @@ fn shut(request: &Request, stored: &Option<Record>) -> Reply
     }
 }
 
-/// What is answered in place of this reply, where the password must be changed.
+/// The answer in place of this reply, where the password must be changed.
 fn due(request: &Request, reply: Reply) -> Option<Verdict>
     ensures { result ≡ due request.now reply }
 {

@@ -17,7 +17,8 @@ pub fn memory_of(setting: &Setting) -> u64
     }
 }
 
-/// That memory with one thread, which has one of scrypt's tables at a time: 128 `r` 2^`ln` bytes.
+/// The same memory with one thread, which has one of scrypt's tables at a time: 128 `r` 2^`ln`
+/// bytes.
 pub fn memory_alone(setting: &Setting) -> u64
     ensures { result ≡ memory_alone setting.now.scheme }
 {

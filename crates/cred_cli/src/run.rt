@@ -85,7 +85,7 @@ pub(crate) struct Run {
 }
 
 impl Run {
-    /// Takes one more byte. At a line end the line is answered.
+    /// Reads one more byte. At a line end it answers the line.
     pub(crate) fn take_byte<Way, T: Threads + Sync, K: KeeperBy<Way, T>, W: Write>(
         &mut self,
         engine: &Engine<'_, T>,
@@ -117,7 +117,7 @@ impl Run {
         Ok(())
     }
 
-    /// Takes the bytes in turn.
+    /// Reads the bytes in turn.
     pub(crate) fn take_bytes<Way, T: Threads + Sync, K: KeeperBy<Way, T>, W: Write>(
         &mut self,
         engine: &Engine<'_, T>,

@@ -1,4 +1,4 @@
-//! What a commit makes of a book.
+//! The answer and the entry of a commit at a book.
 
 ghost use Rattle.std.specs.Prelude.{◌≡◌, IfSome};
 ghost use Rattle.cred_desk.specs.{Commits.HavePasswords, Commits.entry_of, Commits.reply_of, Histories.IsMade};

@@ -1,5 +1,5 @@
-//! What lies behind a desk's lock: the publisher of its book, the recorder of its entries, and the
-//! count of all that its sessions made.
+//! The values behind a desk's lock: the publisher of its book, the recorder of its entries, and the
+//! count of all its sessions' entries.
 
 ghost use Rattle.std.specs.Prelude.{◌≡◌, ◌≢◌, ◌+◌, ◌<◌, ◌^◌, ◌++◌, ◌∷◌, ◌≤◌, [], All, IfErr, IfOk, MatchResult, None, length, vec_capacity};
 ghost use mathlib.Core.List.{IsPrefix};
@@ -32,14 +32,14 @@ pub(crate) struct Clerk<J: Naming, W: EntryWriter> {
     /// Has each entry before anybody sees it.
     pub(crate) recorder: Recorder<J, W>,
     pub(crate) total: Total<J>,
-    /// What the sessions' shares are merged into.
+    /// The share into which those of the sessions are merged.
     pub(crate) spare: Share<J>,
     pub(crate) sessions: u8,
     /// Empty, with room for each session.
     pub(crate) tallies: Tallies,
 }
 
-/// What a clerk leaves.
+/// The values that a clerk leaves.
 #[derive(Drop)]
 pub(crate) struct Estate<J: Naming> {
     pub(crate) remains: Remains,

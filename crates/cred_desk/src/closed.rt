@@ -1,4 +1,4 @@
-//! What a desk leaves.
+//! The values that a desk leaves.
 
 ghost use Rattle.std.specs.Prelude.{◌≡◌};
 ghost use Rattle.std.specs.FinMap as map;
@@ -15,18 +15,19 @@ use cred_book::{Book, Name};
 use cred_phc::Record;
 use std::{fmt, slice};
 
-/// What is left of a desk that was closed with all its sessions.
+/// The values left by a desk that was closed with all its sessions.
 #[derive(Drop)]
 pub struct Closed {
     pub book: Book,
     /// All changes, in order.
     pub journal: Vec<Entry>,
-    /// How many changes each session settled, in the order in which the sessions were handed in.
+    /// The number of changes that each session settled, in the order in which the sessions were
+    /// handed in.
     pub counts: Vec<u64>,
 }
 
 impl Closed {
-    /// How many names its book has.
+    /// The number of names in its book.
     pub fn len(&self) -> usize
         ensures { result ≡ map.len self.now.book }
     {
@@ -52,7 +53,7 @@ impl fmt::Debug for Closed {
     }
 }
 
-/// What is left of a desk that was given up, whatever became of its sessions.
+/// The values left by a desk that was given up, whatever became of its sessions.
 #[derive(Drop)]
 pub struct Remains {
     pub book: Book,
@@ -71,13 +72,13 @@ impl fmt::Debug for Remains {
     }
 }
 
-/// What is left of a kept desk that was closed with all its sessions.
+/// The values left by a kept desk that was closed with all its sessions.
 #[derive(Drop)]
 pub struct Kept<W> {
-    /// Its journal is what wasn't handed out.
+    /// Its journal has the entries that weren't handed out.
     pub closed: Closed,
-    /// How many entries each session added (admissions, loads and deletions), in the order of the
-    /// counts.
+    /// The number of entries that each session added (admissions, loads and deletions), in the
+    /// order of the counts.
     pub additions: Vec<u64>,
     /// It keeps all entries.
     pub writer: W,
@@ -92,12 +93,12 @@ pub struct Unclosed<J: Naming, W: EntryWriter> {
     pub error: DeskError,
 }
 
-/// What is left of a desk that lived on, whatever became of its sessions.
+/// The values left by a desk that lived on, whatever became of its sessions.
 #[derive(Drop)]
 pub struct Finished<W> {
     /// The book, and the entries since the last checkpoint.
     pub remains: Remains,
-    /// How many of all entries the sessions made that weren't handed in.
+    /// The number of entries of the sessions that weren't handed in.
     pub missing: u64,
     /// It keeps all entries.
     pub writer: W,

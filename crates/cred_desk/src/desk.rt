@@ -115,8 +115,8 @@ impl<J: Naming> Desk<J> {
         }
     }
 
-    /// Gives the book, the journal and the counts, if all sessions of the desk are handed in, in
-    /// any order. It waits for those that read the book.
+    /// Returns the book, the journal and the counts, if all sessions of the desk are handed in, in
+    /// any order. The call waits for those that read the book.
     ///
     /// Errors: `Session` if some are missing. The desk and the sessions come back.
     #[tactic(auto, using(crate::proofs::Lists::legal_if))]
@@ -161,9 +161,9 @@ impl<J: Naming> Desk<J> {
         }
     }
 
-    /// Gives the book and the journal without counts, if a session is lost. These are sessions that
-    /// are still there: the journal begins with what each of them knows. It waits for those that
-    /// read the book.
+    /// Returns the book and the journal without counts, if a session is lost. `sessions` are some
+    /// that are left: the journal begins with the list of each. The call waits for those that read
+    /// the book.
     ///
     /// The journal is the whole one with no session handed in too; but then that is tested alone,
     /// as nothing in the contract knows what was settled.

@@ -3,7 +3,7 @@
 use cred_book::Name;
 use cred_phc::Record;
 
-/// What stands at a name.
+/// The state of a name.
 #[derive(Clone, Copy, Debug, PartialEq, Eq)]
 pub enum AccountState {
     /// A record.
@@ -14,7 +14,7 @@ pub enum AccountState {
     NoAccount,
 }
 
-/// What stands at an existing name.
+/// The state of an existing name.
 impl From<Option<Record>> for AccountState {
     ghost use Rattle.std.specs.Prelude.{◌≡◌};
     ghost use Rattle.cred_desk.specs.Histories.{state_of};

@@ -1,4 +1,4 @@
-//! What a desk has handed out of its journal, as a token of which there is one.
+//! The entries that a desk has handed out of its journal, as a token of which one exists.
 
 ghost use Rattle.std.specs.Prelude.{◌≡◌, [], length};
 

@@ -224,9 +224,9 @@ impl<J: Naming, W: EntryWriter> KeptDesk<J, W> {
         entries
     }
 
-    /// Gives the book, the entries that weren't handed out, the writer, and how many changes and
-    /// additions each session made, if all sessions of the desk are handed in, in any order. It
-    /// waits for those that read the book.
+    /// Returns the book, the entries that weren't handed out, the writer, and the numbers of each
+    /// session's changes and additions, if all sessions of the desk are handed in, in any order.
+    /// The call waits for those that read the book.
     ///
     /// Errors: `Session` if some are missing. All that was handed in comes back.
     pub fn close<R: Wait>(
@@ -287,8 +287,8 @@ impl<J: Naming, W: EntryWriter> KeptDesk<J, W> {
         }
     }
 
-    /// Gives the book, the entries that weren't handed out, the writer, and how many of all entries
-    /// were made by sessions that aren't handed in. It waits for those that read the book.
+    /// Returns the book, the entries that weren't handed out, the writer, and the number of entries
+    /// of sessions that aren't handed in. The call waits for those that read the book.
     pub fn finish<R: Wait>(
         self,
         rt: &R,
@@ -317,9 +317,9 @@ impl<J: Naming, W: EntryWriter> KeptDesk<J, W> {
         }
     }
 
-    /// Gives the book, the entries that weren't handed out, and the writer, without counts. These
-    /// are sessions that are still there: the list begins with what each of them knows. It waits
-    /// for those that read the book.
+    /// Returns the book, the entries that weren't handed out, and the writer, without counts.
+    /// `sessions` are some that are left: the list begins with the one of each. The call waits for
+    /// those that read the book.
     ///
     /// The list is the whole one with no session handed in too: the writer keeps it.
     pub fn give_up<R: Wait>(
@@ -341,7 +341,7 @@ impl<J: Naming, W: EntryWriter> KeptDesk<J, W> {
         (left.remains, writer)
     }
 
-    /// Gives the writer alone. It waits for those that read the book.
+    /// Returns the writer alone. The call waits for those that read the book.
     pub fn end<R: Wait>(self, rt: &R, handed: Handed<J>) -> W
         ensures { (rest : List DeskEntry) × IsListed J.loads J.opening (handed ++ rest)
             × W.keeps result (handed ++ rest) }

@@ -1,4 +1,4 @@
-//! How a publisher and its sessions are made of a book.
+//! Builds a publisher and its sessions from a book.
 
 ghost use Rattle.std.specs.Prelude.{◌≡◌, [], All, IfErr, IfOk, true, vec_len};
 ghost use Rattle.cred_desk.specs.{Naming.IsNamed, Naming.StartsAt, Refusals.IsRefusedToMake, Standing.IsNew};
@@ -14,7 +14,7 @@ use std::alloc::{AllocError, Global};
 use std::sync::Wait;
 use std::sync::ledger::{Blank, Book as Total, Share};
 
-/// How many sessions a desk or a committer has at most.
+/// The most sessions that a desk or a committer has.
 pub(crate) const MOST_SESSIONS: u8 = 128;
 
 /// A publisher with its sessions, and the tokens that count what they do.
@@ -86,7 +86,7 @@ fn open_writer<J: Naming, R: Wait>(
 {
     let first = Shown::of(book, front)?;
     let second = Shown::of(book, front)?;
-    // What becomes of the second value that a writer is made of, its contract doesn't say.
+    // A writer's contract doesn't say what becomes of the second value.
     let unsaid = Shown::empty(alloc, front)?;
     let readers = usize::from(sessions.max(1));
     let mut writer = BookWriter::<J>::new(alloc, first, unsaid, readers)?;

@@ -1,4 +1,4 @@
-//! What readers see: the book, beside the list of entries that led to it.
+//! The values that readers see: the book, beside the list of entries that led to it.
 
 ghost use Rattle.std.specs.Prelude.{◌≡◌, IfOk};
 ghost use Rattle.cred_desk.specs.{Commits.LeadsTo, Histories.IsAllowed, Histories.after, Histories.put};
@@ -44,7 +44,7 @@ impl<J: Naming> Shown<J> {
     }
 }
 
-/// What readers are shown next: the book with one entry more, and the list then.
+/// The next values that readers see: the book with one entry more, and the list then.
 #[derive(Drop)]
 pub(crate) struct Step<J: Naming> {
     /// The one before, which the spare copy lacks.
@@ -54,7 +54,7 @@ pub(crate) struct Step<J: Naming> {
 }
 
 impl<J: Naming> Shown<J> {
-    /// Becomes what is shown next.
+    /// Becomes the next value that readers see.
     fn advance(&mut self, step: &Step<J>)
         requires { LeadsTo J.Naming self.old.book step.now.last step.now.entry step.now.front }
         ensures book { self.new.book ≡ after J.opening step.now.front }
@@ -68,7 +68,7 @@ impl<J: Naming> Shown<J> {
     }
 }
 
-/// Makes a change in a book that allows it, so that there is room for a new name.
+/// Applies a change to a book that allows it, so that there is room for a new name.
 fn apply<J: Naming>(book: &mut Book, change: &Entry)
     requires { IsAllowed J.loads book.old change.now }
     ensures { book.new ≡ put book.old change.entry.now }
@@ -80,7 +80,7 @@ fn apply<J: Naming>(book: &mut Book, change: &Entry)
     }
 }
 
-/// Takes in nothing. The writer's log of entries would take memory, so it stays empty: the copies
+/// Absorbs nothing. The writer's log of entries would take memory, so it stays empty: the copies
 /// are changed where they lie.
 impl<J: Naming> Absorb<Entry> for Shown<J> {
     type State = ();

@@ -50,7 +50,7 @@ impl<J: Naming, W: EntryWriter> Recorder<J, W> {
         }
     }
 
-    /// Takes room in the journal, hands the entry to the writer, and keeps it.
+    /// Reserves room in the journal, hands the entry to the writer, and keeps it.
     ///
     /// Errors: `Memory` if it runs out, before the writer is asked; the writer's own. The journal
     /// stays then.

@@ -119,14 +119,14 @@ impl<J: Naming> Session<J> {
         self.added += 1;
     }
 
-    /// How many changes its settles made.
+    /// The number of changes that the session settled.
     pub fn count(&self) -> u64
         ensures { result ≡ self.now.count }
     {
         self.settled
     }
 
-    /// How many entries it added: admissions, loads and deletions.
+    /// The number of entries that the session added: admissions, loads and deletions.
     pub fn additions(&self) -> u64
         ensures additions { result ≡ self.now.additions }
         ensures allowed { J.loads ≡ false → result ≡ 0 }
@@ -185,8 +185,8 @@ impl<J: Naming> Session<J> {
         begun.map_err(|(request, _)| (request, DeskError::NoAccount))
     }
 
-    /// What the commit of the verify answers at the published book, whose list is known from then
-    /// on.
+    /// The answer of the verify's commit at the published book, whose list the session knows from
+    /// then on.
     ///
     /// Work of another session's ticket is judged like any other, at what this one reads.
     ///
@@ -263,8 +263,8 @@ fn begin_in<J: Naming>(
     }
 }
 
-/// What the commit of the verify answers at the book that is shown, and that book's list. None if
-/// there is no book.
+/// The answer of the verify's commit at the book that is shown, and that book's list. None if no
+/// book is shown.
 fn judge_in<J: Naming>(
     reader: BookReader<J>,
     work: &VerifyWorked,

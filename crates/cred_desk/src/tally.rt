@@ -1,4 +1,4 @@
-//! How many changes and additions sessions made, each and all together.
+//! The numbers of the sessions' changes and additions, of each and of all together.
 
 ghost use Rattle.std.specs.Prelude.{◌≡◌, ◌+◌, ◌≤◌, [], IfOk, false, length, map, sum, vec_capacity, vec_len};
 
@@ -28,7 +28,7 @@ impl Tallies {
         })
     }
 
-    /// What each of these sessions made.
+    /// The numbers of each of these sessions' changes and additions.
     pub(crate) fn written<J: Naming>(self, sessions: &[Session<J>]) -> Tallies
         requires empty { (self.counts.items ≡ []) × (self.additions.items ≡ []) }
         requires room { (length sessions.now ≤ vec_capacity self.counts)
@@ -54,12 +54,12 @@ impl Tallies {
 pub(crate) struct Counting<J: Naming> {
     pub(crate) entries: u64,
     pub(crate) total: Total<J>,
-    /// What the sessions' shares are merged into: empty.
+    /// The share into which those of the sessions are merged: empty.
     pub(crate) all: Share<J>,
 }
 
 impl<J: Naming> Counting<J> {
-    /// How many of the entries other sessions made than these.
+    /// The number of entries of other sessions than these.
     pub(crate) fn missing(self, sessions: Vec<Session<J>>) -> u64
         requires none { (self.all.parts ≡ 0) × (self.all.amount ≡ 0) }
         requires entries { self.total.total ≡ self.entries }

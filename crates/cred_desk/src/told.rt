@@ -1,4 +1,4 @@
-//! What a session is told of a change.
+//! The list that a session is told after a change.
 
 ghost use Rattle.std.specs.Prelude.{◌≡◌, length};
 
@@ -38,14 +38,14 @@ impl<J: Naming> Told<J> {
         Told { front }
     }
 
-    /// How many entries the list has.
+    /// The number of entries of the list.
     pub fn len(&self) -> u64
         ensures { result ≡ length self.now }
     {
         self.front.len()
     }
 
-    /// That somebody was told this, for `KeptDesk::tell`.
+    /// The evidence that somebody was told this list, for `KeptDesk::tell`.
     pub fn heard(&self) -> Heard<J>
         ensures { result ≡ self.now }
     {
@@ -61,8 +61,8 @@ impl<J: Naming> Told<J> {
     }
 }
 
-/// That somebody was told a list. It has no bytes: contracts alone see the list, so a call that
-/// takes it does the same whatever was told.
+/// The evidence that somebody was told a list. It has no bytes: contracts alone see the list, so a
+/// call with it does the same, whichever list it is.
 #[derive(Drop)]
 pub struct Heard<J: Naming> {
     pub(crate) trace: Trace<Entry, Entries<J>>,

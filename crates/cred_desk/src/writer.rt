@@ -1,4 +1,4 @@
-//! Who keeps a desk's entries outside of it.
+//! The writer, which keeps a desk's entries outside of the desk.
 
 ghost use Rattle.std.specs.Prelude.{◌≡◌};
 
@@ -17,7 +17,7 @@ pub trait EntryWriter {
     /// Why an entry isn't kept.
     type Error;
 
-    /// What it keeps may be these entries, in this order, since it was handed over.
+    /// The entries that the writer keeps may be these, in this order, since it was handed over.
     ghost keeps: { Self → List Entry → Type 0 };
 
     /// Keeps an entry, after those that it keeps. If that fails it keeps what it kept.
@@ -45,7 +45,7 @@ impl EntryWriter for Unkept {
 /// Why a desk that hands its entries to a writer refuses a change.
 #[derive(Clone, Copy, Debug, Drop, PartialEq, Eq)]
 pub enum KeepError<E> {
-    /// What the book says of it, or `Memory` if it runs out.
+    /// The book's own refusal, or `Memory` if it runs out.
     Book(BookError),
     /// The writer refused the entry.
     Writer(E),

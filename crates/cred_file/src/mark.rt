@@ -3,8 +3,8 @@
 ghost use Rattle.std.specs.Prelude.{◌≡◌};
 ghost use Rattle.cred_file.specs.Cells.{is_marked, renewed, renewed_with, unmarked};
 
-/// What an administrator has said of an account, beside its record. In a book's table the mark
-/// stands before the record's text, as `!` and `~`.
+/// An administrator's mark on an account, beside its record. In a book's table the mark precedes
+/// the record's text, as `!` and `~`.
 #[derive(Clone, Copy, Debug, PartialEq, Eq)]
 pub struct Mark {
     /// No password opens the account.

@@ -66,7 +66,7 @@ impl Marks {
         self.marks.contains_key(name)
     }
 
-    /// Makes room for the mark of a name, so that `set` needs no memory.
+    /// Reserves room for the mark of a name, so that `set` needs no memory.
     pub(crate) fn hold(&mut self, name: &Name) -> Result<(), AllocError>
         ensures held { OnOk result (map.contains_key self.new name.now ≡ true) }
         ensures room { KeepsRoom self.old self.new }
@@ -81,7 +81,7 @@ impl Marks {
         Ok(())
     }
 
-    /// Makes room for all of these marks.
+    /// Reserves room for all of these marks.
     pub(crate) fn hold_all(&mut self, given: &Marks) -> Result<(), AllocError>
         ensures held { OnOk result (HasRoom self.new given.now) }
         ensures same { mark_at self.new ≡ mark_at self.old }
@@ -140,7 +140,7 @@ impl Marks {
         Ok(())
     }
 
-    /// Takes away the mark of a name.
+    /// Removes the mark of a name.
     pub(crate) fn forget(&mut self, name: &Name)
         ensures { mark_at self.new ≡ marked (mark_at self.old) name.now unmarked }
     {

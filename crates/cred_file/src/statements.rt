@@ -112,7 +112,7 @@ pub(crate) fn delete_row<S: Alter>(conn: &mut Connection<S>, name: &Name) -> Res
     )
 }
 
-/// Gives the row of an existing name another name.
+/// Renames the row of an existing name.
 pub(crate) fn rename_row<S: Alter>(
     conn: &mut Connection<S>,
     name: &Name,
@@ -128,7 +128,7 @@ pub(crate) fn rename_row<S: Alter>(
     )
 }
 
-/// Makes the table in an empty database.
+/// Creates the table in an empty database.
 pub(crate) fn create_table<S: Alter>(conn: &mut Connection<S>) -> Result<usize, Error>
     requires schema { (state S.Store conn.old).now.schema ≡ no_schema }
     requires autocommit { conn.old.in_transaction ≡ false }

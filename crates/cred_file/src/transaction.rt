@@ -236,7 +236,7 @@ fn replace_each(book: &mut Register, changed: &Register)
     }
 }
 
-/// Gives new accounts their marks, which can't fail.
+/// Sets the marks of new accounts, which can't fail.
 fn mark_added(marks: &mut Marks, added: &Register, given: &Marks)
     requires { HasRoom marks.old given.now }
     ensures marks { mark_at marks.new
@@ -249,7 +249,7 @@ fn mark_added(marks: &mut Marks, added: &Register, given: &Marks)
     }
 }
 
-/// Gives accounts the marks that come with their new records, which can't fail; a lock stays.
+/// Sets the marks that come with new records of accounts, which can't fail; a lock stays.
 fn mark_changed(marks: &mut Marks, changed: &Register, given: &Marks)
     requires { HasRoom marks.old given.now }
     ensures { mark_at marks.new

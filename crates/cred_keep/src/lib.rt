@@ -1,5 +1,5 @@
-//! What the orders of the program `credkeep` do with a book that is open. The program itself, with
-//! its words, its file and its terminal, is the crate `credkeep`, and the book in its database is
+//! The orders of the program `credkeep`, which work on an open book. The program itself, with its
+//! words, its file and its terminal, is the crate `credkeep`, and the book in its database is
 //! `cred_file`'s.
 #![tactic(auto)]
 

@@ -17,7 +17,7 @@ pub(crate) enum Ask {
     Whole(Request),
     /// Verifies the password, and rehashes a record of other costs if it is right.
     Login(Name, Password, Setting),
-    /// Gives an account the record of this password, in place of any other.
+    /// Stores a record of this password at an account, in place of any other.
     Reset(Name, Password, Setting),
     /// Forgives the failed tries at an account.
     Forgive(Name),
@@ -31,7 +31,7 @@ pub(crate) enum Ask {
 pub(crate) enum QuickAsk {
     /// Adds a name, with no record.
     Account(Name),
-    /// Gives an account this record.
+    /// Stores this record at an account.
     Load(Name, Record),
     /// Asks for an account's marks and its record.
     Show(Name),

@@ -50,7 +50,7 @@ impl<J: ServiceId, G: Rng> LineDecoder<J, G> {
         }
     }
 
-    /// Takes one byte, and returns the line that it ends, if any.
+    /// Decodes one byte, and returns the line that it ends, if any.
     pub(crate) fn take(&mut self, byte: u8) -> Option<Line<J>>
         requires next { ComesNext J.service.input (place self.old.start self.old.number)
             (byte ∷ []) }

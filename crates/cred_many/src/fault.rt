@@ -6,7 +6,7 @@ use thiserror::Error;
 /// The fault that ended a service.
 #[derive(Clone, Copy, Debug, PartialEq, Eq, Error)]
 pub enum ServiceFault {
-    /// A call on the reader failed. What came before is answered.
+    /// A call on the reader failed. The lines before are answered.
     #[error("reading failed")]
     Read,
     /// A call on the writer failed.

@@ -1,7 +1,7 @@
 //! Answers many at once from one kept book, hashing on all processors.
 //!
-//! Lines are tagged, and answered in any order. What is written is the answers of one history, in
-//! which each line is done whole by one thread.
+//! Lines are tagged, and answered in any order. The bytes that are written are the answers of one
+//! history, in which one thread does each line whole.
 #![tactic(auto)]
 
 mod answer;

@@ -119,8 +119,7 @@ impl<J: ServiceId> MessageLoop<J> {
         }
     }
 
-    /// Makes changes together, if there are several, and then the remaining ones one by
-    /// one.
+    /// Commits changes together, if there are several, and then the remaining ones one by one.
     fn commit<T: Wait + Clock, K: Host, W: Write + Drop>(
         &mut self,
         rt: &T,

@@ -183,8 +183,8 @@ impl<J: ServiceId, K: Host, W: Write> Scribe<J, K, W> {
         }
     }
 
-    /// Takes a line that came, at a reading of the clock in seconds, and answers it unless it needs
-    /// a hash. A try that is too early is sent away.
+    /// Receives a line, at a reading of the clock in seconds, and answers it unless it needs a
+    /// hash. A try that is too early is sent away.
     pub fn take(&mut self, alloc: Global, line: Line<J>, now: u64) -> Option<Job<J>>
         ensures came { line.number ≡ self.old.came → self.new.output.fault ≡ None
             → self.new.came ≡ self.old.came + 1 }

@@ -11,7 +11,7 @@ use cred_tries::{Limiter, TryLimit};
 use std::alloc::{AllocError, Global};
 use std::marker::Model;
 
-/// What the answer to a line tells of the password of its account.
+/// The effect of the answer to a line on the failed tries of its account.
 #[derive(Clone, Copy, Debug, PartialEq, Eq)]
 pub(crate) enum Effect {
     /// The password was right.

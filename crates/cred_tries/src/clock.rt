@@ -8,7 +8,7 @@ ghost use Rattle.cred_tries.specs.Clocks.{after_reading, moment};
 pub(crate) struct SteadyClock {
     /// The last reading of the other clock.
     reading: u64,
-    /// How far it went forward until that reading.
+    /// The seconds that it went forward until that reading.
     passed: u64,
 }
 

@@ -11,7 +11,7 @@ const DAY: u64 = 86400;
 /// The longest wait: a quarter of an hour, in seconds.
 const LONGEST_WAIT: u64 = 900;
 
-/// How many waits are shorter than the longest: 1, 2, 4 .. 512 s.
+/// The number of waits that are shorter than the longest: 1, 2, 4 .. 512 s.
 const SHORT_WAITS: u64 = 10;
 
 /// The greatest limit. It and the short waits are 96, as many as a day has longest waits: so a
@@ -156,7 +156,7 @@ impl Count {
     }
 }
 
-/// How many seconds the next try waits behind so many failures more than the limit.
+/// The seconds that the next try waits behind so many failures more than the limit.
 fn wait(more: u64) -> u64
     ensures { result ≡ wait more }
 {

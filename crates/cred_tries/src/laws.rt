@@ -12,23 +12,23 @@ ghost use Rattle.cred_tries.specs.declared.clock.SteadyClock.{SteadyClock};
 
 use crate::turn::Turn;
 
-/// What holds at each name, whatever is asked of a limiter there and at other names, in whatever
-/// order, and however its clock is set:
+/// The facts at each name, for all calls of a limiter there and at other names, in any order, and
+/// however its clock is set:
 ///
 /// - `seldom`: between two right answers or forgivings at most as many tries fail at the name as
 ///   the limit says and ten, and one more for each 900 seconds between the first and the last;
-/// - `ends`: so it is of the right answers, the failures and the forgivings alone, which answers
+/// - `ends`: the same of the right answers, the failures and the forgivings alone, which answers
 ///   tell;
 /// - `waits`: once as many as the limit says failed, or began, the next begins only when all of
 ///   them have failed, and the wait behind the last is over;
 /// - `fails`: so each failure behind those comes that wait after the one before it;
 /// - `quiet`: where no failure counts, a try is sent away only while as many run as may;
 /// - `limited`: a try begins exactly if it may;
-/// - `turn`: what `begin` answers is what happens at the name;
+/// - `turn`: `begin` answers the turn that happens at the name;
 /// - `later`: no answer names a wait of over 900 seconds, or of none;
 /// - `early`: a try is too early only behind as many failures as the limit says, and its answer
 ///   names the seconds until the wait behind the last is over;
-/// - `apart`: what is asked at another name changes nothing at this one.
+/// - `apart`: a call at another name changes nothing at this one.
 pub fn each_name_is_limited()
     ensures seldom { (limit : ℕ) (name : List ℕ) (steps : List Step) → 0 < limit
         → limit ≤ most_tries → FailsSeldom limit (events_at limit name steps) }

@@ -6,7 +6,7 @@ ghost use Rattle.cred_tries.specs.Limits.{IsLimit};
 use crate::count::MOST_TRIES;
 use std::marker::Model;
 
-/// How many tries may fail at a name until the next has to wait, 1 to 86.
+/// The number of tries that may fail at a name until the next has to wait, 1 to 86.
 #[derive(Clone, Copy, Debug, PartialEq, Eq)]
 pub struct TryLimit {
     tries: u64,

@@ -14,11 +14,11 @@ use cred_book::Name;
 use std::alloc::{AllocError, Global};
 use std::marker::Model;
 
-/// How often each account may be tried, by its name.
+/// The limits on the tries at each account, by its name.
 ///
-/// Behind as many failures in a row as the limit says, the next try at a name waits 1 s, then 2,
-/// 4 .. 512 and 900 s. A right answer and [`Limiter::forgive`] clear the failures, and so does a
-/// day without another. Each try that runs may fail, and counts as if it had.
+/// Behind as many failures in a row as the limit says, the next try at a name waits 1 s, then 2, 4
+/// .. 512 and 900 s. A right answer and [`Limiter::forgive`] clear the failures, and so does a day
+/// without another failure. Each try that runs may fail, and counts as if it had.
 ///
 /// A limiter keeps a name only while tries run there or failures count, and [`Limiter::begin`]
 /// alone allocates memory. Its caller begins no try at a name that has no account: no guess can be

@@ -41,7 +41,7 @@ pub enum Turn {
     Later(u64),
 }
 
-/// How a try ended.
+/// The end of a try.
 #[derive(Clone, Copy, Debug, PartialEq, Eq)]
 pub enum Ending {
     /// The password was right.

@@ -12,7 +12,7 @@ use std::marker::Model;
 #[derive(Clone, Copy, Debug)]
 pub struct Wait {
     pub name: Name,
-    /// How many tries have failed in a row; more than the limit and ten aren't counted.
+    /// The number of tries that have failed in a row; more than the limit and ten aren't counted.
     pub failed: u64,
     /// The seconds that are left of the wait, 1 to 900.
     pub seconds: u64,

@@ -137,8 +137,8 @@ pub(crate) fn verify(host: &HostRuntime, command: &CommandLine<'_>) -> Result<St
     Ok(status)
 }
 
-/// Makes a draft beside a place. A fault names the draft, as the place itself may be readable; but
-/// of a folder that is missing it names the place.
+/// Creates a draft beside a place. A fault names the draft, as the place itself may be readable;
+/// but if the folder is missing the fault names the place.
 fn make_draft<'a>(host: &'a HostRuntime, place: &str, end: &str) -> Result<Draft<'a>, Status> {
     let path = accept(host, place, sidecar(host, place, end))?;
     match Draft::make(host, place, end) {

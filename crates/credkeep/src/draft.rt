@@ -45,11 +45,11 @@ impl Drop for Draft<'_> {
 }
 
 impl<'a> Draft<'a> {
-    /// Makes an empty file, named as the place with this end. A file that a stopped run left there
-    /// is used again.
+    /// Creates an empty file, named as the place with this end. A file that a stopped run left
+    /// there is used again.
     ///
-    /// Errors: `NoFolder`; `Busy` if another run is writing it; `Irregular` or `Owner` for a foreign
-    /// file.
+    /// Errors: `NoFolder`; `Busy` if another run is writing it; `Irregular` or `Owner` for a
+    /// foreign file.
     pub(crate) fn make(rt: &'a HostRuntime, place: &str, end: &str) -> Result<Self, FileFault> {
         let path = sidecar(rt, place, end)?;
         let file = open_or_make(rt, path.as_str())?;
@@ -71,7 +71,8 @@ impl<'a> Draft<'a> {
         &self.file
     }
 
-    /// Gives the draft the owner and the mode of the file that it will replace, if one exists.
+    /// Sets the owner and the mode of the draft to those of the file that it will replace, if one
+    /// exists.
     ///
     /// Errors: `Owner` if this user can't give the draft away.
     pub(crate) fn dress_as(&self, place: &str) -> Result<(), FileFault> {

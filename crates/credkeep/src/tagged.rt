@@ -174,7 +174,7 @@ fn tell_end<F: Write>(faults: &mut F, fault: Option<ServiceFault>, lost: Option<
     }
 }
 
-/// Makes the scribe of the book and the writer, lends it to the service, and takes it back.
+/// Builds the scribe of the book and the writer, lends it to the service, and receives it back.
 fn serve_named<J, T, S, R, W, G>(
     tools: &Tools<'_, T>,
     config: &ServiceConfig,

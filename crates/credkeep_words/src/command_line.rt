@@ -1,4 +1,4 @@
-//! What the command line asks for.
+//! The request of the command line.
 
 use crate::arguments::credkeep;
 use crate::commands::command_named;

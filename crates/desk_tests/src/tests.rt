@@ -1,5 +1,5 @@
-//! What no clause says: that the calls succeed, what is answered at records from outside, that
-//! sessions in threads see what was settled, and what running out of memory leaves.
+//! Tests of facts that no clause states: the calls succeed, the answers at records from outside,
+//! sessions in threads see the settled changes, and the values that running out of memory leaves.
 
 mod committing;
 mod ending;
@@ -123,7 +123,7 @@ fn book_of<R: Abort>(rt: &R, alloc: Global, accounts: Accounts) -> Option<Book> 
     Some(book)
 }
 
-/// Makes the changes of these entries in the book.
+/// Applies these entries to the book.
 fn replay(book: &mut Book, entries: &[Entry]) {
     for entry in entries {
         match entry.now {

@@ -32,8 +32,8 @@ use std::random::RandomSource;
 use std::{env, io};
 use thiserror::Error;
 
-/// How new records are made: Argon2id with 256 KiB, so that the example is quick. A service takes
-/// 64 MiB, three passes and four lanes (RFC 9106, section 4), or more.
+/// The costs of new records: Argon2id with 256 KiB, so that the example is quick. A service uses 64
+/// MiB, three passes and four lanes (RFC 9106, section 4), or more.
 const SCHEME: Scheme = Scheme::Argon2 {
     version: Version::V13,
     variant: Variant::Id,
@@ -42,10 +42,10 @@ const SCHEME: Scheme = Scheme::Argon2 {
     p: 1,
 };
 
-/// How many KiB are kept from hash to hash.
+/// The KiB that are kept from hash to hash.
 const KEPT: u32 = 65_536;
 
-/// How a visit ended.
+/// The end of a visit.
 #[derive(Clone, Copy, Debug, PartialEq, Eq)]
 enum Answer {
     SignedUp,
@@ -90,7 +90,7 @@ struct Service<S: Alter> {
     salts: StdRng,
     /// Memory that is kept from hash to hash.
     scratch: Scratch,
-    /// What is hashed for a name without a record.
+    /// The record that is hashed for a name without one.
     decoy: Record,
 }
 
@@ -112,8 +112,8 @@ impl<S: Alter + Drop> Service<S> {
         })
     }
 
-    /// Makes the first record of a name. A name that has none is free: a sign-up may have been cut
-    /// short.
+    /// Stores the first record of a name. A name without a record is free: a sign-up may have been
+    /// cut short.
     fn sign_up(&mut self, name: Name, pw: Password) -> Result<Answer, ServiceError> {
         match self.book.admit(name) {
             Ok(()) | Err(BookError::Exists) => {}
@@ -217,7 +217,7 @@ impl<S: Alter + Drop> Service<S> {
         }
     }
 
-    /// What a line asks for.
+    /// Answers a line.
     fn visit(&mut self, line: &str) -> Result<Answer, ServiceError> {
         let mut words = line.split(' ');
         let (verb, name) = (words.next(), words.next());

@@ -45,14 +45,14 @@ impl<T, N: LogName<T>> Beginning<T, N> {
         }
     }
 
-    /// That the log begins with it, for contracts alone.
+    /// The evidence that the log begins with it, for contracts alone.
     pub fn trace(&self) -> Trace<T, N>
         ensures { result ≡ self.now }
     {
         Trace::of(self.seen.again())
     }
 
-    /// How many entries it has.
+    /// The number of its entries.
     pub fn len(&self) -> u64
         ensures length { result ≡ length self.now }
         ensures holds { N.holds self.now }

@@ -1,4 +1,4 @@
-//! What a log is made of.
+//! The links of a log.
 
 /// An entry, if it is one, and the key of the word where the next link goes. Links exist in proofs
 /// alone.

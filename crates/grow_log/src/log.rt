@@ -109,7 +109,7 @@ impl<T, N: LogName<T>> GrowLog<T, N> {
     }
 }
 
-/// Makes a place where a link may go, and gives its pen.
+/// Reserves a place where a link may go, and returns its pen.
 fn make_place<T>(head: &Place<T>, seen: &mut Links<T>) -> Pen
     requires head { head.now ≡ head_of seen.old.book }
     ensures seen { (seen.new.book ≡ seen.old.book) × IsPrefix seen.old.log seen.new.log }

@@ -16,7 +16,7 @@ pub trait LogName<T> {
     /// Which log.
     ghost book: { Book };
 
-    /// What holds of its entries, however many there are yet.
+    /// The property of its entries, however many it has yet.
     ghost holds: { List T → Type 0 };
 }
 

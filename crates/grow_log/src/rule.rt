@@ -36,10 +36,10 @@ impl<T> Gain<Link<T>, u64> for Nothing {
 /// A word that a link brings home.
 pub(crate) type Place<T> = Word<Link<T>, u64, Law>;
 
-/// What was seen of the links.
+/// The links that were seen.
 pub(crate) type Links<T> = Seen<Link<T>, u64, Law>;
 
-/// What a step asks of the links.
+/// The request of a step to the links.
 pub(crate) type Update<T> = Offer<Link<T>, u64, Law, Nothing>;
 
 /// An entry to be added, and the pen of the place after it.
@@ -49,7 +49,7 @@ pub(crate) struct Adding<'a, T> {
     pub(crate) next: &'a Pen,
 }
 
-/// What a step asks for: its link, if it adds one.
+/// The link that a step asks for, if it adds one.
 pub(crate) struct Asks;
 
 impl<'a, T> Plain<Adding<'a, T>, Link<T>, u64> for Asks {

@@ -1,4 +1,4 @@
-//! What contracts alone see of a beginning.
+//! The trace of a beginning, which contracts alone see.
 
 ghost use Rattle.std.specs.Prelude.{◌≡◌};
 ghost use Rattle.grow_log.specs.Links.{entries_of};
@@ -7,7 +7,8 @@ use crate::naming::LogName;
 use crate::rule::Links;
 use std::marker::{Model, PhantomData};
 
-/// That the log begins with a list. It has no bytes: contracts alone see which list that is.
+/// The evidence that the log begins with a list. It has no bytes: contracts alone see which list
+/// that is.
 #[derive(Drop)]
 pub struct Trace<T, N: LogName<T>> {
     seen: Links<T>,
@@ -36,7 +37,7 @@ impl<T, N: LogName<T>> Trace<T, N> {
         }
     }
 
-    /// What was seen.
+    /// The links that were seen.
     pub(crate) fn seen(&self) -> Links<T>
         ensures entries { entries_of result.log ≡ self.now }
         ensures book { result.book ≡ N.book }

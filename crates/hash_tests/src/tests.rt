@@ -1,9 +1,8 @@
-//! What no clause says: values from outside, that parts are worked side by side, faults of texts,
-//! and what running out of memory leaves.
+//! Tests of facts that no clause states: values from outside, parts that are worked side by side,
+//! faults of texts, and the values that running out of memory leaves.
 //!
-//! A test mostly plays a table: one function tells of a row whether it is as it should be, and the
-//! test asserts once that no row is otherwise, since each place that may end early beside a value
-//! on the heap takes the prover seconds.
+//! Most tests run a table: one function judges each row, and the test asserts once that no row is
+//! wrong. For each place that may end early beside a value on the heap costs the prover seconds.
 
 mod argon;
 mod blake;
@@ -45,7 +44,7 @@ fn is_hex(bytes: &[u8], digits: &str) -> bool {
     hex::decode_to_slice(digits, read).is_ok() && &*read == bytes
 }
 
-/// How many bytes the digits tell, at most 1000.
+/// The number of bytes that the digits name, at most 1000.
 fn byte_len(digits: &str) -> u32 {
     (digits.len() / 2).min(1000) as u32
 }

@@ -16,11 +16,11 @@ use std::marker::Brand;
 use std::sync::Wait;
 use std::thread::Threads;
 
-/// What Argon2id makes of `password` at small costs.
+/// The record of `password` by Argon2id at small costs.
 const RECORD: &[u8] =
     b"$argon2id$v=19$m=256,t=2,p=1$c29tZXNhbHQ$nf65EOgLrQMR/uIPnA4rEsF5h7TKyQwu9U1bMCHGi/4";
 
-/// What an upgrade makes of it: a new record has a salt of its own.
+/// The setting of an upgrade: a new record has a salt of its own.
 const HIGHER_COSTS: &[u8] = b"$argon2id$v=19$m=512,t=2,p=1$YW5vdGhlcnNhbHQ";
 
 fn main(rt: HostRuntime) -> Result<()> {
@@ -38,14 +38,14 @@ fn main(rt: HostRuntime) -> Result<()> {
     Ok(())
 }
 
-/// What the sessions were answered in turn, and how many changes the journal has.
+/// The replies to the sessions in turn, and the number of changes in the journal.
 #[derive(Drop)]
 struct Met {
     replies: [Reply; 3],
     changes: usize,
 }
 
-/// Makes the desk, lets its sessions work, and closes it.
+/// Builds the desk, lets its sessions work, and closes it.
 fn meet<J: Naming, R: Threads + Wait + Sync>(
     rt: &R,
     alloc: Global,

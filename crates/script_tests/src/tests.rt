@@ -1,5 +1,5 @@
-//! What no clause says: worked scripts with their answers, which stand here as text, what is said
-//! of a failure, and what running out of memory leaves.
+//! Tests of facts that no clause states: whole scripts with their answers as text, the messages of
+//! a failure, and the values that running out of memory leaves.
 
 mod committers;
 mod keep;
@@ -52,7 +52,7 @@ fn hold_bytes<R: Abort>(rt: &R, written: &[u8], want: &str) {
     assert_eq!(rt; written, want.as_bytes());
 }
 
-/// How a script ended, and what was written.
+/// The end of a script, and the bytes that it wrote.
 type Ran = (Result<End, ScriptFault>, Vec<u8>);
 
 /// Runs a script on a keeper.

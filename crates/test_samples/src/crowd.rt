@@ -3,13 +3,13 @@ use cred_pool::Gate;
 use std::array;
 use std::sync::atomic::{AtomicU64, Ordering};
 
-/// How many parts are counted individually.
+/// The number of parts that are counted individually.
 const PARTS: usize = 9;
 
-/// How many turns a part waits for others before the test gives up.
+/// The turns that a part waits for others before the test gives up.
 const TURNS: u64 = 1_000_000_000;
 
-/// How many turns a part waits for one part too many: a millisecond or more.
+/// The turns that a part waits for one part too many: a millisecond or more.
 const MOMENT: u64 = 2_000_000;
 
 /// Counts how often each of the first nine parts enters and leaves, and how many were inside at
@@ -28,16 +28,16 @@ pub struct Crowd {
     left: [AtomicU64; PARTS],
 }
 
-/// What a crowd has seen.
+/// The visits that a crowd has counted.
 #[derive(Clone, Copy, Debug, PartialEq, Eq)]
 pub struct Visits {
-    /// How many parts were inside at once at most.
+    /// The most parts that were inside at once.
     pub most: u64,
-    /// How often a part waited in vain.
+    /// The number of times that a part waited in vain.
     pub late: u64,
-    /// How often each of the first nine parts entered.
+    /// The number of times that each of the first nine parts entered.
     pub entered: [u64; PARTS],
-    /// How often each of them left.
+    /// The number of times that each of them left.
     pub left: [u64; PARTS],
 }
 
@@ -74,7 +74,7 @@ impl Crowd {
         }
     }
 
-    /// What the gate has seen so far.
+    /// The visits so far.
     pub fn visits(&self) -> Visits {
         Visits {
             most: self.most.load(Ordering::SeqCst),

@@ -37,7 +37,7 @@ fn an_account_is_admitted_loaded_and_shown(rt: HostRuntime) {
     assert_eq!(rt; kept, Ok([true; 3]));
 }
 
-/// What a book and its copy show once the book's record is taken away.
+/// The records that a book and its copy show after the book's record is removed.
 fn shown_then(alloc: Global, account: Entry) -> Result<[Option<Record>; 2], BookError> {
     let mut book = book_with(alloc, account)?;
     let copy = book.copy()?;

@@ -1,5 +1,5 @@
-//! How often an operation hashes, and under which setting, told by the lanes that enter a gate; and
-//! that a ticket's lanes are worked by as many threads as there are workers for.
+//! Tests of the number of an operation's hashes, and of their setting, by the lanes that enter a
+//! gate; and that as many threads as there are workers for work a ticket's lanes.
 use super::operations::{change, remove, standing, upgrade};
 use super::work::{Entry, begun, book_with};
 use super::{enrol, name, verify};
@@ -12,7 +12,7 @@ use test_samples::{A, A_SETTING, B_SETTING, Crowd, Visits};
 /// Eight lanes, one pass.
 const LANES: &str = "$argon2id$v=19$m=64,t=1,p=8$c29tZXNhbHQ";
 
-/// What a gate sees of the work of the request at this account.
+/// The visits that a gate counts during the work of the request at this account.
 fn seen<R: Threads + Sync>(
     rt: &R,
     alloc: Global,

@@ -45,8 +45,8 @@ fn fill(register: &mut Register, record: Record) -> Result<Option<u32>, BookErro
     Ok(None)
 }
 
-/// What a register with 64 names shows: the number that wasn't entered, whether a copy that is made
-/// keeps a name that is taken out of it afterwards, and how many names are left.
+/// The results of a register with 64 names: the number that wasn't entered, whether a copy keeps a
+/// name that is removed from the register afterwards, and the number of names left.
 type Shown = (Option<u32>, Result<bool, BookError>, usize);
 
 fn judge(alloc: Global, record: Record) -> Result<Shown, BookError> {
@@ -77,7 +77,8 @@ fn refused_register(rt: HostRuntime) {
     assert!(rt; kept == Ok(true) || kept == Err(BookError::Memory));
 }
 
-/// How many names the book of so many has, and whether it shows the first one's record.
+/// The number of names of the book of `count` names, and whether the book shows the first one's
+/// record.
 fn book_of(alloc: Global, count: u32, record: Record) -> Result<(usize, bool), BookError> {
     let mut register = Register::new(alloc);
     for i in 0..count {

@@ -1,4 +1,4 @@
-//! That none of the values that hold a password shows it.
+//! Tests that no value with a password in it shows the password.
 use super::work::{begun, book_with, worked};
 use super::{name, password, setting, stored};
 use cred_book::{Book, Request};

@@ -8,10 +8,11 @@ use std::thread::Threads;
 /// A name, and the record that stands there.
 pub(super) type Entry = (Name, Option<Record>);
 
-/// What is seen of work that is committed.
+/// The results of work that is committed.
 #[derive(Clone, Copy, PartialEq)]
 pub(super) struct Seen {
-    /// What is to be answered, the record that is to stand then, and whether it is a change.
+    /// The answer that is due, the record that the account should have then, and whether the work
+    /// is a change.
     pub(super) judged: (Reply, Option<Record>, bool),
     pub(super) reply: Reply,
     /// The record after it.

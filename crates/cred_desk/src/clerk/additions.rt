@@ -1,4 +1,4 @@
-//! What a clerk adds for those who keep the book: names, records and deletions.
+//! A clerk's additions for those who keep the book: names, records and deletions.
 
 ghost use Rattle.std.specs.Prelude.{◌≡◌, ◌+◌, ◌++◌, ◌∷◌, [], MatchResult, None, Some, true};
 ghost use mathlib.Core.List.{IsPrefix};
@@ -65,8 +65,8 @@ impl<J: Naming, W: EntryWriter> Clerk<J, W> {
         self.add(rt, session, Entry { name, now })
     }
 
-    /// Takes a name away for the session, which knows the list after it from then on and counts an
-    /// addition.
+    /// Deletes a name for the session, which from then on knows the list after the deletion and
+    /// counts an addition.
     ///
     /// Errors: `NoAccount` if the name doesn't exist; as of `add`. The list stays then, and the
     /// session knows it.
@@ -121,7 +121,7 @@ impl<J: Naming, W: EntryWriter> Clerk<J, W> {
         Ok(self.tell(session))
     }
 
-    /// The refusal of an addition. The session knows the list at which it was refused.
+    /// The refusal of an addition. The session then knows the list that the refusal saw.
     fn refuse(&mut self, session: &mut Session<J>, error: BookError) -> KeepError<W::Error>
         ensures same { self.new ≡ self.old }
         ensures listed { IsListed J.loads J.opening self.old }

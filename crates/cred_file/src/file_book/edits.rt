@@ -37,8 +37,8 @@ impl<S: Alter> FileBook<S> {
         self.enter(name, None)
     }
 
-    /// Gives the account this record, in place of any other. The account need not be changed any
-    /// more; a lock stays.
+    /// Stores this record at the account, in place of any other. Its password need not be changed
+    /// any more; a lock stays.
     ///
     /// Errors: `NoAccount` if the book doesn't have the name; `Memory` as in `admit`.
     pub fn load(&mut self, name: &Name, stored: Record) -> Result<(), BookError>
@@ -151,7 +151,7 @@ impl<S: Alter> FileBook<S> {
         }
     }
 
-    /// Gives an account another name, which its record and its marks go to.
+    /// Renames an account, with its record and its marks.
     ///
     /// Errors: `NoAccount` if the name doesn't exist; `Exists` if the other one does; `Full` at
     /// 2^24 names, since both are in memory for a moment; `Memory` if memory runs out, if the

@@ -128,7 +128,7 @@ fn told_verdict(ask: Ask, verdict: Verdict) -> Verdict
     }
 }
 
-/// What the answer to an operation tells of its account's password.
+/// The effect of an operation's answer on its account's failed tries.
 fn effect_of(ask: &Ask, verdict: &Verdict) -> Effect
     ensures { result ≡ effect_by (is_try ask.now) verdict.now }
 {
@@ -140,7 +140,7 @@ fn effect_of(ask: &Ask, verdict: &Verdict) -> Effect
     }
 }
 
-/// What the reply to a try tells of its password.
+/// The effect of the reply to a try on the failed tries.
 fn reply_effect(reply: &Reply) -> Effect
     ensures { result ≡ reply_effect reply.now }
 {

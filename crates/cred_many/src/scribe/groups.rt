@@ -13,8 +13,8 @@ use std::alloc::Global;
 use std::io::Write;
 
 impl<J: ServiceId, K: Host, W: Write> Scribe<J, K, W> {
-    /// Makes the changes of different accounts among these works together, and answers their lines.
-    /// The other works come back, in their order.
+    /// Commits the changes of different accounts among these works together, and answers their
+    /// lines. The other works come back, in their order.
     pub fn commit_together(&mut self, alloc: Global, works: Vec<Hashed<J>>) -> Vec<Hashed<J>>
         ensures turns { self.new.output.fault ≡ None → HaveTurns works.items result.items
             self.old.output.pending self.new.output.pending }
@@ -72,7 +72,7 @@ impl<J: ServiceId, K: Host, W: Write> Scribe<J, K, W> {
         group.push(hashed, &change)
     }
 
-    /// Makes the changes of a group, and answers its lines; none if the keeper refuses.
+    /// Commits the changes of a group, and answers its lines; none if the keeper refuses.
     fn commit_group(&mut self, group: Group<J>)
         requires going { self.old.output.fault ≡ None }
         requires group { IsGroup K.capacity J.service self.old.tries (K.book self.old.keeper)

@@ -92,7 +92,7 @@ impl<J: ServiceId> Job<J> {
         Job { line, ticket }
     }
 
-    /// What is to be hashed.
+    /// The ticket that is to be hashed.
     pub(crate) fn ticket(&self) -> &Ticket
         ensures { result.now ≡ self.now.1 }
     {
@@ -193,7 +193,7 @@ impl<J: ServiceId> Hashed<J> {
         &self.line
     }
 
-    /// What came of its hashes.
+    /// The result of its hashes.
     pub(crate) fn worked(&self) -> &Worked
         ensures { result.now ≡ self.now.1 }
     {

@@ -14,7 +14,7 @@ use std::marker::{Model, PhantomData};
 use std::sync::Wait;
 use std::thread::{Promise, PromisedHandle, SpawnError, Threads};
 
-/// How many bytes are asked for at once.
+/// The number of bytes that one read asks for.
 const CHUNK: usize = 4096;
 
 /// The end of the reading. Only the reading makes one, and only the scribe opens it. There is also
@@ -148,7 +148,7 @@ fn read_last<J: ServiceId, T: Wait, S: Source, G: Rng>(
     Ending::new(End::Whole(sender.handed().lines()))
 }
 
-/// Takes the bytes in turn.
+/// Decodes the bytes in turn.
 fn take_bytes<J: ServiceId, T: Wait, G: Rng>(
     rt: &T,
     decoder: &mut LineDecoder<J, G>,

@@ -37,7 +37,7 @@ fn commit<J: Naming, R: Threads + Wait + Sync>(
     }
 }
 
-/// What a session reads of the committer's changes, and what is answered to work from before them.
+/// The answers to a session that reads the committer's changes, and to work from before them.
 fn commit_and_read<J: Naming, R: Threads + Wait + Abort + Sync>(
     rt: &R,
     alloc: Global,

@@ -1,4 +1,4 @@
-//! How a kept desk ends, and what is left of it.
+//! The end of a kept desk, and the values that it leaves.
 
 use super::replay;
 use super::writer::Log;
@@ -7,7 +7,7 @@ use cred_desk::{Entry, Finished, Handed, Kept, KeptDesk, Naming, Remains, Sessio
 use std::alloc::Global;
 use std::sync::Wait;
 
-/// How a kept desk ends.
+/// The end of a kept desk.
 #[derive(Clone, Copy)]
 pub(super) enum Ending {
     /// With all sessions, in their order.
@@ -27,7 +27,7 @@ pub(super) struct Journal {
     /// The opening book, with the changes of the entries.
     pub(super) book: Book,
     pub(super) entries: Vec<Entry>,
-    /// How many entries were in each piece.
+    /// The number of entries of each piece.
     pub(super) pieces: Vec<usize>,
 }
 
@@ -53,21 +53,21 @@ impl Journal {
     }
 }
 
-/// What is left of a kept desk.
+/// The values that a kept desk leaves.
 #[derive(Drop)]
 pub(super) struct Left {
     pub(super) book: Book,
-    /// All entries; the last piece is what wasn't handed out.
+    /// All entries; the last piece has those that weren't handed out.
     pub(super) journal: Journal,
     /// The changes of each session, as the desk counted them if it was closed.
     pub(super) counts: Vec<u64>,
     pub(super) additions: Vec<u64>,
-    /// How many entries the desk missed.
+    /// The number of entries that the desk missed.
     pub(super) missing: u64,
     pub(super) log: Log,
 }
 
-/// What each session counted: its changes and its additions.
+/// The counts of each session: its changes and its additions.
 type Tallies = (Vec<u64>, Vec<u64>);
 
 fn counted<J: Naming>(alloc: Global, sessions: &[Session<J>]) -> Option<Tallies> {
@@ -152,7 +152,7 @@ fn close<J: Naming, R: Wait>(
     }
 }
 
-/// What a desk leaves that missed nothing.
+/// The values left by a desk that missed nothing.
 fn finished(remains: Remains, writer: Log) -> Finished<Log> {
     Finished {
         remains,

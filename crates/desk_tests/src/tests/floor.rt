@@ -10,7 +10,7 @@ use std::marker::Model;
 use std::sync::Wait;
 use std::thread::Threads;
 
-/// What a session does.
+/// The step of a session.
 #[derive(Clone, Copy)]
 pub(super) enum Step {
     Admit(Name),
@@ -26,19 +26,19 @@ pub(super) enum Step {
     Settle,
     /// Works the ticket and closes it, as a verify.
     Close,
-    /// Learns the first of what other sessions handed on.
+    /// Learns the first list that other sessions handed on.
     Learn,
     /// Is told by the desk what the session at this place knows.
     Hear(usize),
 }
 
-/// What is answered to it.
+/// The answer to a step.
 #[derive(Clone, Copy, Debug, PartialEq, Eq)]
 pub(super) enum Answer {
     Done,
     Copied(Option<Record>),
     Replied(Reply),
-    /// How many entries the session was told of.
+    /// The number of entries that the session was told of.
     Told(u64),
     /// A request or a work came back.
     Refused(DeskError),
@@ -111,7 +111,7 @@ pub(super) fn close<J: Naming>(session: &mut Session<J>, work: Option<Worked>) -
     }
 }
 
-/// What sessions of a kept desk share.
+/// The values that sessions of a kept desk share.
 #[derive(Drop)]
 pub(super) struct Floor<'a, J: Naming, R: Wait> {
     pub(super) rt: &'a R,

@@ -16,7 +16,7 @@ use test_samples::{A, A_SETTING, B, B_SETTING};
 const C: &str =
     "$argon2id$v=19$m=256,t=2,p=1$c29tZXNhbHQ$gDtqOITe98Nz/qtXYCa3i4YhZKLmbzlEcxv5kGzWG0U";
 
-/// How many names a book has room for.
+/// The number of names that a book has room for.
 const MOST_ACCOUNTS: usize = 4096;
 
 /// Every kind of change.

@@ -12,7 +12,7 @@ use std::alloc::{AllocError, Global};
 use std::process::Abort;
 use test_samples::{A, B};
 
-/// How many sessions a desk may have: from 1 to 128.
+/// The number of sessions that a desk may have: from 1 to 128.
 #[test]
 fn numbers_of_sessions(rt: HostRuntime) {
     let book = book_of(&rt, rt.alloc(), NONE_STANDS).expect(&rt, "a book");

@@ -16,7 +16,7 @@ use std::process::Abort;
 use std::sync::Wait;
 use std::thread::{Threads, join};
 
-/// What a step is answered.
+/// The outcome of a step.
 pub(super) type Outcome = Result<Answer, KeepError<Refused>>;
 
 /// The place of a session, what it does, and the answer that it is to have.
@@ -25,7 +25,7 @@ pub(super) type Line = (usize, Step, Outcome);
 /// The place of a line that was answered otherwise, and how.
 pub(super) type Slip = (usize, Outcome);
 
-/// What isn't the desk's found no memory.
+/// A value that isn't the desk's found no memory.
 const NO_MEMORY: Option<Slip> = Some((0, Ok(Answer::Failed)));
 
 pub(super) const DONE: Outcome = Ok(Answer::Done);
@@ -43,18 +43,18 @@ pub(super) fn operates(session: usize, request: Request, reply: Reply) -> Line {
     (session, Step::Operate(request), replied(reply))
 }
 
-/// What is done at a desk.
+/// The steps at a desk.
 #[derive(Clone, Copy)]
 pub(super) struct Scene<'a> {
     pub(super) sessions: u8,
-    /// How often a step is taken at most: again, if it is refused.
+    /// The most times that a step runs: it runs again if it is refused.
     pub(super) tries: usize,
-    /// What the front half of the sessions does, in a thread of its own. Places count from the
+    /// The steps of the front half of the sessions, in a thread of its own. Places count from the
     /// front of the half.
     pub(super) front: &'a [Line],
-    /// What the back half does meanwhile.
+    /// The steps of the back half meanwhile.
     pub(super) back: &'a [Line],
-    /// What they do afterwards. After each act but the last the journal is handed out.
+    /// Their steps afterwards. After each act but the last the journal is handed out.
     pub(super) acts: &'a [&'a [Line]],
     pub(super) ending: Ending,
 }
@@ -138,7 +138,8 @@ fn play<J: Naming, R: Threads + Wait + Sync>(
     None
 }
 
-/// What one half hands on the other learns, which waits no longer once the first has ended.
+/// The second half learns each list that the first one hands on, and waits no longer once that one
+/// has ended.
 fn play_in_two<J: Naming + Send + Sync, R: Threads + Wait + Sync>(
     floor: &Floor<J, R>,
     sessions: &mut [Session<J>],
@@ -224,7 +225,7 @@ fn played<J: Naming + Send + Sync, R: Threads + Wait + Sync>(
     Some((left, slip))
 }
 
-/// What is left of the scene, and the line that was answered otherwise.
+/// The values that the scene leaves, and the line that was answered otherwise.
 pub(super) fn show<R: Threads + Wait + Sync>(
     rt: &R,
     alloc: Global,
@@ -235,7 +236,7 @@ pub(super) fn show<R: Threads + Wait + Sync>(
     played::<Brand, R>(rt, alloc, Opened::new(sessions), book, sessions, scene)
 }
 
-/// What is left of the scene, all lines of which are answered as they are to be.
+/// The values that the scene leaves, all lines of which have the answers that are due.
 pub(super) fn left_of<R: Threads + Wait + Abort + Sync>(
     rt: &R,
     alloc: Global,
@@ -247,7 +248,8 @@ pub(super) fn left_of<R: Threads + Wait + Abort + Sync>(
     left
 }
 
-/// What is left when so many sessions do this in one thread, and the desk is closed.
+/// The values that are left when so many sessions run these lines in one thread, and the desk is
+/// closed.
 pub(super) fn left_of_act<R: Threads + Wait + Abort + Sync>(
     rt: &R,
     alloc: Global,

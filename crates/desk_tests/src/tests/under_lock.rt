@@ -1,5 +1,5 @@
-//! What is done while the desk's lock is held, and between a reader's coming and going: no clause
-//! says how much that is.
+//! Tests of the work under the desk's lock, and between a reader's coming and going: no clause
+//! bounds that work.
 ghost use Rattle.std.specs.Prelude.{◌≡◌};
 ghost use Rattle.cred_desk.specs.Naming.{IsNamed, StartsAt};
 
@@ -23,11 +23,11 @@ const DEAR: &str = "$argon2id$v=19$m=256,t=4294967295,p=1$c29tZXNhbHQ$nf65EA";
 
 const DEAR_SETTING: &str = "$argon2id$v=19$m=256,t=4294967295,p=1$c29tZXNhbHQ";
 
-/// How much processor time three calls may take at their quickest, in nanoseconds: fewer than two
-/// million cycles, so as many turns of a loop take more.
+/// The processor time that three calls may need at their quickest, in nanoseconds: fewer than two
+/// million cycles, so as many turns of a loop need more.
 const LIMIT: u128 = 400_000;
 
-/// How often they are timed.
+/// The number of times that they are timed.
 const TIMED: u32 = 40;
 
 /// Keeps nothing, and holds the lock of its desk until it is told to go on.
@@ -188,8 +188,8 @@ fn now<R: CpuClock + Abort>(rt: &R) -> u128 {
     rt.thread_cpu_time().expect(rt, "a clock").as_nanos()
 }
 
-/// How long a verify's begin and close, and the settle of an upgrade to this setting, take: for
-/// ever, if it isn't settled.
+/// The time of a verify's begin and close, and of the settle of an upgrade to this setting;
+/// `u128::MAX` if it isn't settled.
 fn time_once<J: Naming, R: Threads + Wait + CpuClock + Abort + Sync>(
     rt: &R,
     alloc: Global,

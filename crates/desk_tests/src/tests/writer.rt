@@ -1,4 +1,4 @@
-//! What keeps the entries of a desk in these tests.
+//! The writer of a desk in these tests.
 
 use cred_desk::{Entry, EntryWriter};
 use std::alloc::Global;

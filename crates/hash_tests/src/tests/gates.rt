@@ -1,5 +1,5 @@
-//! That the lanes of Argon2 and the pieces of scrypt are worked by as many threads as there are
-//! workers for, each behind the gate.
+//! Tests that as many threads as there are workers for work the lanes of Argon2 and the pieces of
+//! scrypt, each behind the gate.
 
 use cred_phc::{Password, Scheme, Scratch, Setting, TagError, Variant, Version, tag_in, tag_of};
 use std::alloc::Global;
@@ -24,7 +24,7 @@ fn pieces(rt: &impl Abort, p: u8) -> Setting {
     Setting::new(Scheme::Scrypt { ln: 4, r: 1, p }, b"NaCl").expect(rt, "a setting")
 }
 
-/// What a gate sees of a tag of whose parts so many are to be inside at once.
+/// The visits that a gate counts of a tag of whose parts so many are to be inside at once.
 fn seen<R: Threads + Sync + Abort>(
     rt: &R,
     alloc: Global,

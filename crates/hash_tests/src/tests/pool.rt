@@ -24,8 +24,8 @@ impl Part<u64> for Tally {
     }
 }
 
-/// What a gate sees of the parts that are dealt to so many workers, if so many are to be inside at
-/// once, and whether each part was worked once.
+/// The visits that a gate counts of the parts that so many workers share, if so many are to be
+/// inside at once; and whether each part was worked once.
 fn seen<R: Threads + Sync>(rt: &R, count: usize, workers: u8, wanted: u64) -> (Visits, bool) {
     let gate = Crowd::new(count as u64, wanted);
     let mut parts = [Tally { worked: 0 }; 9];

@@ -69,7 +69,7 @@ fn other_row(alloc: Global, most: u32, rows: &[Row]) -> Option<usize> {
     None
 }
 
-/// Argon2 on one lane and on two and scrypt, in turn. What one function took is given back before
+/// Argon2 on one lane and on two and scrypt, in turn. The memory of one function is returned before
 /// the other begins.
 fn in_turn() -> [Row; 6] {
     [
@@ -87,7 +87,7 @@ fn tags_in_one_scratch(rt: HostRuntime) {
     assert_eq!(rt; other_row(rt.alloc(), 1024, &in_turn()), None);
 }
 
-/// What fits is kept; a hash that takes more gives all back.
+/// A scratch keeps the memory that fits; a hash that needs more frees all.
 #[test]
 fn small_large_small(rt: HostRuntime) {
     let lanes = [
@@ -127,7 +127,7 @@ fn table_taken_once(rt: HostRuntime) {
     );
 }
 
-/// How many rows found no memory; none if a tag is another.
+/// The number of rows that found no memory; none if a tag is wrong.
 fn refused(alloc: Global, rows: &[Row]) -> Option<u32> {
     let mut scratch = Scratch::new(alloc, 1024);
     let mut count: u32 = 0;

@@ -106,7 +106,7 @@ fn passwords_are_not_shown(rt: HostRuntime) {
     assert_eq!(rt; shown.as_str(), shown_none.as_str());
 }
 
-/// That `shows_secret` knows each form of the password.
+/// Tests that `shows_secret` knows each form of the password.
 #[test]
 fn secrets_would_be_seen(rt: HostRuntime) {
     let bytes = SECRET.as_bytes();

@@ -10,7 +10,7 @@ use std::marker::Brand;
 use std::sync::Wait;
 use std::thread::Threads;
 
-/// What a script came to on a committer of this book, which was ended then.
+/// The result of a script on a committer of this book, which was ended then.
 fn run_published<J: Naming, R: Threads + Wait + Sync>(
     rt: &R,
     alloc: Global,
@@ -29,7 +29,7 @@ fn run_published<J: Naming, R: Threads + Wait + Sync>(
     ran
 }
 
-/// What it came to on a committer of an empty book; none if there is no memory.
+/// The result of a script on a committer of an empty book; none without memory.
 pub(super) fn run_on_committer<R: Threads + Wait + Sync>(
     rt: &R,
     alloc: Global,

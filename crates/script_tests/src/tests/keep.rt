@@ -1,4 +1,4 @@
-//! What is said of each fault on standard error.
+//! The message of each fault on standard error.
 
 use super::{hold_bytes, name};
 use cred_admin::{BadLine, Fault, ImportFault, LineFault};

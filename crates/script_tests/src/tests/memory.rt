@@ -1,4 +1,4 @@
-//! What running out of memory leaves. These tests hold whichever request is refused:
+//! The values that running out of memory leaves. These tests hold whichever request is refused:
 //! tools/refuse_memory.py refuses each in turn.
 use super::committers::run_on_committer;
 use super::{Ran, hold_bytes, run_in_room};
@@ -43,7 +43,7 @@ commit 1
 
 const SERVED: &str = "ok\nok\nbegun\nyes\nbad 15 idle\n";
 
-/// What they are answered if memory is refused to that hash: the number is open still.
+/// Their answers if memory is refused to that hash: the number is open still.
 const STARVED: &str = "ok\nok\nbegun\nbad 4 memory\nyes\n";
 
 /// Holds whole answers from the front of those that the script has.

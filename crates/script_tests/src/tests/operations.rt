@@ -130,7 +130,7 @@ commit 1 => replaced
 show a => $argon2id$v=19$m=65536,t=2,p=1$c29tZXNhbHQ$C4TWUs9rDEvq7w3+J4umqA32aWKB1+DSiRuBfYxFj94
 ";
 
-/// How a script ended, and what was written.
+/// The end of a script, and the bytes that it wrote.
 type Seen<'a> = (Result<End, ScriptFault>, &'a [u8]);
 
 fn hold_seen<R: Abort>(rt: &R, name: &str, workers: u8, seen: Seen, want: Seen) {

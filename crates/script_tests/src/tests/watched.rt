@@ -1,10 +1,10 @@
-//! What a watched reader or writer passes on, counts and keeps in mind.
+//! The calls that a watched reader or writer passes on, counts and remembers.
 use cred_cli::Watched;
 use std::io;
 use std::io::{Read, Write};
 use std::process::Abort;
 
-/// What a call gave, none if it failed; how many calls there were then, and whether one has failed.
+/// The result of a call, none if it failed; the number of calls then, and whether one has failed.
 type Seen = (Option<usize>, u64, bool);
 
 fn hold_seen<R: Abort>(rt: &R, seen: Seen, want: Seen) {
