@@ -61,7 +61,7 @@ def median(turns, part=0):
 
 
 def ratio(turns, others, part=0):
-    """That of the best turns."""
+    """The figure of the best turns."""
     return best(turns, part) / best(others, part)
 
 

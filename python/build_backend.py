@@ -1,4 +1,4 @@
-"""Makes the wheel: pip calls it (PEP 517), and so does `make -C python wheel`.
+"""Builds the wheel: pip calls it (PEP 517), and so does `make -C python wheel`.
 
     python3 build_backend.py FOLDER
 

@@ -1,5 +1,5 @@
-"""What a reporter of errors keeps of an exception: the variables of its frames, and its text; and
-which files a call enters."""
+"""The parts of an exception that a reporter of errors keeps: the variables of its frames, and its
+text; and the files that a call enters."""
 
 from __future__ import annotations
 
@@ -22,8 +22,8 @@ HIDDEN = frozenset(
 
 
 def shown(error: BaseException, *secrets: str) -> list[str]:
-    """Where a report of an exception, and of those behind it, has one of the secrets. What tests
-    themselves have in their variables doesn't count."""
+    """The places of the secrets in a report of an exception, and of those behind it. The tests' own
+    variables don't count."""
     found = []
     for raised in _chain(error):
         if _has((str(raised), repr(raised), raised.args), secrets):

@@ -1,5 +1,5 @@
-"""What all tests share: how a program is run and how it ended, and the shims that stand before the
-C library. What a test needs of the machine is in needs.py.
+"""The parts that all tests share: runs of a program and their ends, and the shims in front of the C
+library. needs.py has the needs of a test.
 
 RIGZUMAL_TIMES=N makes N times as many kills and random operations as the gate does. ARCH=arm64 runs
 programs of that processor, under qemu-user. It runs on Python 3.9, as the package does.
@@ -127,7 +127,7 @@ class Peer(socketserver.ThreadingUnixStreamServer):
 
 
 class Ended(NamedTuple):
-    """How a run ended: its status, and what it wrote on both streams."""
+    """The end of a run: its status, and its output on both streams."""
 
     status: int
     written: str = ""
@@ -150,8 +150,8 @@ def run(
     status: int = 0,
     at: pathlib.Path = TOP,
 ) -> str:
-    """What a command writes on both streams, if it ends with this status. One that hangs is killed
-    with all that it started, after TEST_LIMIT seconds."""
+    """The output of a command on both streams, if it ends with this status. One that hangs is
+    killed with all that it started, after TEST_LIMIT seconds."""
     line = [str(word) for word in words]
     pipe, both = subprocess.PIPE, subprocess.STDOUT
     streams: dict[str, Any] = {"stdin": pipe, "stdout": pipe, "stderr": both}
@@ -250,7 +250,7 @@ def options_in(text: str) -> set[str]:
 
 
 def limited(limit: int, most: int) -> Callable[[], None]:
-    """What a process does before it begins to have so much and no more: an option preexec_fn."""
+    """The act of a process before it begins that bounds it to so much: an option preexec_fn."""
     if limit != resource.RLIMIT_FSIZE:
         need_native()
     return lambda: resource.setrlimit(limit, (most, most))
@@ -278,8 +278,8 @@ Stop = Callable[..., Optional[Ended]]
 
 
 def in_turn(attempt: Callable[[int], Found | None]) -> Iterator[Found]:
-    """What comes of an attempt with its first call refused, then its second, and so on, several at
-    once, up to the first number at which nothing was refused and there is no result."""
+    """The results of an attempt with its first call refused, then its second, and so on, several at
+    once, up to the first number at which nothing was refused, without a result."""
     at_once, numbers = os.cpu_count() or 1, itertools.count(1)
     with ThreadPoolExecutor(at_once) as pool:
         running = deque(pool.submit(attempt, next(numbers)) for _ in range(at_once))
@@ -370,8 +370,8 @@ def before_libc(library: str) -> dict[str, str]:
 def shimmed(
     command: list[str], given: str, refused: int, **options: Any
 ) -> tuple[Ended, dict[str, int]]:
-    """How a run ended whose request for memory of this number is refused, and what the shim
-    told."""
+    """The end of a run whose request for memory of this number is refused, and the words of the
+    shim."""
     env = {**before_libc(shim()), "REFUSE_NTH": str(refused)}
     done = ended(command, given, env=env, **options)
     found = {word: int(count) for word, count in re.findall(TOLD, done.faults)}
@@ -379,19 +379,19 @@ def shimmed(
 
 
 def counts(command: list[str], given: str = "") -> tuple[Ended, dict[str, int]]:
-    """How a run ended, with its counts of SYNCS, THREADS and memory."""
+    """The end of a run, with its counts of SYNCS, THREADS and memory."""
     return shimmed(command, given, 0)
 
 
 def without_request(nth: int, command: list[str], given: str = "", **options: Any) -> Ended | None:
-    """How a run ended whose request for memory of this number was refused, or nothing if it made
-    fewer requests."""
+    """The end of a run whose request for memory of this number was refused, or nothing after fewer
+    requests."""
     done, told = shimmed(command, given, nth, **options)
     return done if "REFUSED" in told else None
 
 
 def instructions(command: list[str], given: str = "") -> tuple[Ended, int]:
-    """How a run ended, and how many instructions it took, as valgrind counts them."""
+    """The end of a run, and the number of its instructions, as valgrind counts them."""
     need_native()
     counter = ["valgrind", "--tool=callgrind", "--callgrind-out-file=/dev/null"]
     done = ended([*counter, *command], given)

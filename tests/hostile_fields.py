@@ -93,7 +93,7 @@ class Tap(socketserver.ThreadingUnixStreamServer):
             back.join()
 
     def other_lines(self) -> list[bytes]:
-        """What was sent and is no line of a login."""
+        """The bytes that were sent and are no line of a login."""
         lines = bytes(self.sent).splitlines(keepends=True)
         return [it for it in lines if not re.fullmatch(rb"[a-z0-9]{1,20} %b\n" % LOGIN, it)]
 

@@ -1,6 +1,5 @@
-"""What a test needs of the machine. A test that lacks it is skipped by one form of text,
-`needs KIND NAME`. tools/run_tests.py asks `excuse` whether the machine lacks it indeed, and takes
-any other skip for a failure.
+"""The needs of a test. A test that lacks one is skipped by one form of text, `needs KIND NAME`.
+tools/run_tests.py asks `excuse` whether the machine lacks that indeed; any other skip is a failure.
 """
 
 from __future__ import annotations
@@ -93,7 +92,7 @@ def excuse(reason: str) -> bool:
 
 
 def lacking(what: str) -> unittest.SkipTest:
-    """What a test raises that is skipped for want of this: the words of a kind and a name."""
+    """The exception of a test that is skipped for want of this: the words of a kind and a name."""
     return unittest.SkipTest(f"needs {what}")
 
 
@@ -129,7 +128,7 @@ def need_user(name: str) -> None:
 
 
 def need_variable(name: str) -> str:
-    """What a variable of the environment says; a skipped test where it isn't set."""
+    """The value of a variable of the environment; a skipped test where it isn't set."""
     if name not in os.environ:
         raise lacking(f"the variable {name}")
     return os.environ[name]

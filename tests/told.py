@@ -30,7 +30,7 @@ def write(word: str, name: str, reason: str = "") -> None:
 
 
 class Told(unittest.TextTestResult):
-    """What unittest prints, and a line in the file for each test that begins and ends."""
+    """unittest's own output, and a line in the file for each test that begins and ends."""
 
     def __init__(self, *given: Any, **named: Any) -> None:
         super().__init__(*given, **named)

@@ -36,7 +36,7 @@ class Command(NamedTuple):
     options: list
 
     def offered(self):
-        """What prints its options."""
+        """The command that prints its options."""
         return printed((f"--{name}", text) for name, _, text in self.options)
 
 

@@ -63,7 +63,7 @@ def entries(found: list[str]) -> Iterator[list[str]]:
 
 
 def imported(path: list[str], front: Place = ()) -> Iterator[tuple[str, Place]]:
-    """What `A.B.{c, d as e}` imports: each local name, with the path that it is from."""
+    """The imports of `A.B.{c, d as e}`: each local name, with the path that it is from."""
     for entry in entries([part for it in path for part in it.split(".") if part]):
         if "{" in entry:
             opens = entry.index("{")
@@ -188,7 +188,7 @@ class Definitions:
         return path[0] == "Rattle" and path[1] in self.crates
 
     def named(self, path: Place) -> str:
-        """How a name is told that is no definition of ours: the toolchain's by its whole path."""
+        """The form of a name that is no definition of ours: the toolchain's by its whole path."""
         if not self.is_ours(path):
             return ".".join(path)
         if path[2] == "specs" and path[3] not in MADE:
@@ -196,9 +196,9 @@ class Definitions:
         return ".".join([path[1], *(it for it in path[3:] if not it[0].islower())])
 
     def meaning(self, text: Text) -> Meaning:
-        """What a text says by itself: its words, and what each name stands for, since an import may
-        give a name to another definition: one of ours by its own name and words, and another by
-        its path."""
+        """The meaning of a text by itself: its words, and the definition of each name, since an
+        import may give a name to another definition: one of ours by its own name and words, and
+        another by its path."""
         below, others = set(), set()
         for word in text.words:
             first, *fields = word.split(".")

@@ -63,7 +63,7 @@ class File:
         self.closing = self.brackets()
 
     def brackets(self) -> dict[int, int]:
-        """Where each bracket closes."""
+        """The place where each bracket closes."""
         found, opened = {}, []
         for at, token in enumerate(self.tokens):
             if token.text in CLOSES:

@@ -14,7 +14,7 @@ class Mutant(NamedTuple):
 
 
 class Language(NamedTuple):
-    """How a language parts its tokens, and how it writes what takes the place of another thing."""
+    """The tokens of a language, and the forms that replace others in it."""
 
     gap: str
     text: str

@@ -121,8 +121,8 @@ def house() -> Facts:
 
 
 def figures() -> Facts:
-    """What README counts: the crates that the gate proves, the wrong bodies that it tries, and its
-    tests. No time is left open."""
+    """The counts of README: the crates that the gate proves, the wrong bodies that it tries, and
+    its tests. No time is left open."""
     code = [source(it) for it in CRATES.glob("*/src/**/*.rt")]
     there = {
         "crates": len(listed()),

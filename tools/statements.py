@@ -138,7 +138,8 @@ def imports_of(item: Item) -> list[tuple[str, Place]]:
 
 
 def stated(item: Item, owner: Item | None, is_run: bool) -> list[str]:
-    """What the line of an item itself is over: all that others see of it but its clauses."""
+    """The text that the line of an item is over: all that others see of the item but its
+    clauses."""
     words = [*item.attributes, *item.head]
     if item.kind == "fn" and owner is not None and owner.kind == "impl":
         words = [*owner.head, *words]
@@ -209,8 +210,8 @@ class Statements:
                 file.others.setdefault(item.name, set()).add(("type", *item.head))
 
     def whence(self, file: Source, path: Place) -> Place:
-        """Where an import is from: its crate and its name there, and its module too if several of
-        the crate have that name. Of a library of the toolchain all is told."""
+        """The origin of an import: its crate and its name there, and its module too if several of
+        the crate have that name. A library of the toolchain is named whole."""
         is_own = path[0] in ("crate", "self", "super") or (file.crate, path[0]) in self.modules
         crate = file.crate if is_own else path[0]
         if crate not in self.found.crates:

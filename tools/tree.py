@@ -36,7 +36,7 @@ def need_rt(what: str) -> None:
 
 
 def told_by_rt(*words: str) -> str:
-    """What rt prints."""
+    """The output of rt."""
     return subprocess.run([RT, *words], capture_output=True, text=True, check=True).stdout
 
 

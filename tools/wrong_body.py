@@ -123,7 +123,7 @@ def groups(edits, texts):
 
 
 def fits(edit, group, texts):
-    """Whether an edit may stand beside those of a group."""
+    """Whether an edit may join those of a group."""
     if not group:
         return True
     is_own = edit.function not in [it.function for it in group]

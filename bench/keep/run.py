@@ -65,7 +65,7 @@ def each_timed(work: Callable[[str], object], given: list[str]) -> float:
 
 
 def fill(path: pathlib.Path, rows: Iterable[tuple[str, str]], *texts: str) -> None:
-    """Puts rows into the table of a book, after these statements."""
+    """Inserts rows into the table of a book, after these statements."""
     with sqlite3.connect(path) as connection:
         for text in texts:
             connection.execute(text)

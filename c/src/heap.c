@@ -78,7 +78,7 @@ enum { PLACES = 128 }; /* for 2 GiB in areas that blocks are cut from */
 static _Atomic(area) kept_areas[PLACES];
 static atomic_size_t kept, most_kept = 64 * MIB;
 
-/* Takes out the smallest of the kept areas that have so many bytes; 0 if there is none. */
+/* Removes the smallest of the kept areas that have so many bytes; 0 if there is none. */
 static area take_kept(size_t size) {
     for (;;) {
         area least = 0;
@@ -314,7 +314,7 @@ struct tried rattle_alloc(size_t size, size_t align) {
     return (struct tried){false, &refused};
 }
 
-/* Takes a block out of the table. */
+/* Removes a block from the table. */
 static struct block struck_out(const void *start) {
     size_t index = taken.count - 1;
     while (taken.blocks[index].start != start)

@@ -140,8 +140,8 @@ static void clear_segments(struct run *run) {
     }
 }
 
-/* What a helper does. A child doesn't get its stack as deep as calls reach below the first page's
- * end in a gap above them: what lies higher is the C library's, which reads it there. */
+/* The work of a helper. A child doesn't get its stack as deep as calls reach below the first page's
+ * end in a gap above them: the bytes above are the C library's, which reads them there. */
 static void *help(void *run) {
     unsigned char gap[PAGE];
     unsigned char *end = gap + PAGE - (uintptr_t)(gap + PAGE) % PAGE;

@@ -163,7 +163,7 @@ def compare(draw, comparison):
 
 
 def compare_memory_beyond_ours(ours):
-    """What would take the original minutes or more than this machine's memory."""
+    """The inputs that cost the original minutes, or more than this machine's memory."""
     for text, wanted in (
         ("$argon2id$v=19$m=2097153,t=1,p=1$c29tZXNhbHQ$c29tZXRhZw", MEMORY_TOO_MUCH),
         ("$argon2id$v=19$m=4294967295,t=1,p=256$c29tZXNhbHQ$c29tZXRhZw", LANES_TOO_MANY),

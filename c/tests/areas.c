@@ -34,7 +34,7 @@ enum { THREADS = 8, TURNS = 150, SIZE = 64 * KIB, KEPT = 64 * MIB };
 
 static _Atomic(size_t) mapped;
 
-/* How many steps this thread makes before the bound is lowered, or -1. */
+/* The number of steps of this thread before the bound is lowered, or -1. */
 static _Thread_local int steps_to_lowering = -1;
 
 static void rest(void) {
@@ -66,7 +66,7 @@ WRAP(int, madvise, void *start, size_t size, int advice) {
     return __real_madvise(start, size, advice);
 }
 
-/* Gives areas back while others take them: each once. */
+/* Returns areas while others take them: each once. */
 static void *give_kept(void *unused) {
     for (int turn = 0; turn < TURNS; turn++) {
         size_t size = heap_trim();
@@ -88,7 +88,7 @@ static void *work(void *number) {
     return NULL;
 }
 
-/* What is given back while the bound is lowered isn't kept, before whichever step that is. */
+/* An area that is returned while the bound is lowered isn't kept, before each step. */
 static void lower_bound(void) {
     for (int step = 0; steps_to_lowering < 0; step++) {
         heap_keep(KEPT);

@@ -1,5 +1,5 @@
-/* What each processor and each compiler has to show: each call of tests/jobs.c, the standards'
- * values, and how many threads a call starts. */
+/* The tests for each processor and each compiler: each call of tests/jobs.c, the standards'
+ * values, and the number of threads that a call starts. */
 #include "check.h"
 #include "jobs.h"
 
@@ -67,8 +67,8 @@ static void test_scrypt_vectors(void) {
     CHECK(are_hex(ARRAY(key), large));
 }
 
-/* What a program has that takes the header's names: RFC 9106's second recommendation, and scrypt
- * with 128 MiB. A record by them is one that says so. */
+/* The costs by the header's names: RFC 9106's second recommendation, and scrypt with 128 MiB. A
+ * record by them is one that says so. */
 static void test_usual_values(void) {
     static const struct {
         const char *costs, *front;
@@ -93,8 +93,8 @@ static void test_usual_values(void) {
     CHECK(strcmp(rigzumal_version(), RIGZUMAL_LIBRARY_VERSION) == 0);
 }
 
-/* What is kept is given back once, and the next call is as before; the bound is answered as it is
- * replaced, and what is kept goes then. */
+/* Kept memory is returned once, and the next call is as before; a new bound answers the old one,
+ * and returns the kept memory. */
 static void test_trim_and_keep(void) {
     enum { MIB = 1024 * 1024, AREA = 16 * MIB };
     static const size_t bounds[] = {64 * MIB, 0, 64 * MIB};
@@ -109,8 +109,8 @@ static void test_trim_and_keep(void) {
     }
 }
 
-/* How many threads a call starts for its three lanes: one beside the caller's, where two are to
- * work; in argon2.h one for each lane, or as many as a context says. */
+/* The number of threads that a call starts for its three lanes: one beside the caller's, where two
+ * are to work; in argon2.h one for each lane, or as many as a context says. */
 static int helpers_of(const struct job *job) {
     if (job->trouble == BAD_RECORD)
         return 0;

@@ -1,4 +1,4 @@
-/* What the tests in C share. */
+/* The parts that the tests in C share. */
 #pragma once
 
 #include <stdio.h>
@@ -29,7 +29,7 @@
 #define LITERAL(text) (text), sizeof(text) - 1
 #define NO_BYTES NULL, 0
 
-/* How many elements an array has. */
+/* The number of elements of an array. */
 #define COUNT(array) (sizeof(array) / sizeof(array)[0])
 
 /* Begins the definition of a function that the linker puts before one of the C library, or of this

@@ -114,7 +114,7 @@ static void try_clearing(void) {
     CHECK(is_all(bytes, 0x5a, 16) && is_all(bytes + 16, 0, 32) && is_all(bytes + 48, 0x5a, 16));
 }
 
-/* What may stand nowhere else: the secrets, and behind them their hash. */
+/* The bytes that may be nowhere else: the secrets, and behind them their hash. */
 static void make_vault(const char *digits) {
     vault = map_apart(sizeof *vault + HASH);
     fill_vault(vault);

@@ -124,7 +124,7 @@ static void be_child(void) {
     _exit(0);
 }
 
-/* How many bytes the process has mapped. */
+/* The number of bytes that the process has mapped. */
 static unsigned long mapped(void) {
     unsigned long pages = 0;
     FILE *counts = fopen("/proc/self/statm", "r");

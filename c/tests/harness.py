@@ -1,4 +1,4 @@
-"""What the tests of the library share: how a test in C is built, and under what it runs."""
+"""The parts that the tests of the library share: the build of a test in C, and its tools."""
 
 import functools
 import os
@@ -116,7 +116,7 @@ def python(*words, env=None, at=TOP):
 
 def run_sanitized(*words):
     """Runs a Python, told where a library of all C under the sanitizers is: all lanes are worked in
-    threads. What Python hands to it is guarded too."""
+    threads. The memory that Python hands to it is guarded too."""
     library = ROOM / "sanitized.so"
     if not library.exists():
         flags = [*WARNINGS, *SANITIZED, IN_THREADS, "-fPIC", "-shared", "-Wl,-Bsymbolic"]

@@ -73,7 +73,7 @@ static void test_random_blocks(void) {
     CHECK(mapped <= KEPT && mapped >= KEPT / 2);
 }
 
-/* What was given back last is taken again first, while another block stands below it, whatever its
+/* The block that was freed last is used again first, while another block is below it, whatever its
  * size was. */
 static void test_used_again(void) {
     static const size_t sizes[] = {5 * MIB, 5 * MIB + 1, 5 * MIB + 63};
@@ -220,7 +220,7 @@ static void test_first_processes(void) {
     are_all_first = false;
 }
 
-/* Takes so many blocks of a size, writes to them and gives them back: so many are kept then. */
+/* Allocates so many blocks of a size, writes to them and frees them: so many are kept then. */
 static void keep_blocks(int count, size_t size, int kept) {
     unsigned char *taken[160];
     heap_trim();
@@ -236,7 +236,7 @@ static void keep_blocks(int count, size_t size, int kept) {
     CHECK(mapped == (size_t)kept * size);
 }
 
-/* Takes so many of the kept blocks, with no mapping: the others are given back, each once. */
+/* Uses so many of the kept blocks, with no mapping: the others are freed, each once. */
 static void take_kept_blocks(int count, size_t size, int kept) {
     unsigned char *taken[160];
     most_mapped = mapped;

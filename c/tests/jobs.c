@@ -138,8 +138,9 @@ static int libargon2_verify_ctx(struct vault *it) {
     return argon2_verify_ctx(&context, (const char *)it->tag_with_secret, Argon2_id);
 }
 
-/* What the caller wants cleared is cleared. After a refusal it is as it was, and a second try is of
- * the same password; or if the tag was begun it is gone, and a second try is refused too. */
+/* The inputs that the caller wants cleared are cleared. After a refusal they are as they were, and
+ * a second try is of the same password; or if the tag was begun they are gone, and a second try is
+ * refused too. */
 static int clearing(struct vault *it, argon2_context context) {
     context.pwd = memcpy(it->given_password, it->password, sizeof it->password);
     context.secret = memcpy(it->given_secret, it->secret, sizeof it->secret);

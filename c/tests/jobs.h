@@ -7,7 +7,7 @@
 
 enum { TAG = 40, KEY = 48, ENCODED = 200, LONG_TAG = 80, TEXT_ROOM = RIGZUMAL_TEXT_SIZE };
 
-/* What is wrong with a call's inputs. */
+/* The fault of a call's inputs. */
 enum trouble { NO_TROUBLE, OTHER_PASSWORD, OTHER_SECRET, BAD_RECORD, LITTLE_ROOM };
 
 /* All secrets, and all that is written: nothing of it may stand elsewhere after a call. */
@@ -39,11 +39,11 @@ extern const int job_count;
 /* Of which kind and version their tags are: Argon2id's of 0x13, unless a test wants others. */
 extern uint32_t job_kind, job_version;
 
-/* What a test does with an answer before a job looks at it, if it isn't null. */
+/* The function of a test that sees an answer before a job does; or null. */
 extern void (*look_at)(void *answer, size_t size);
 
 /* Fills the vault: the secrets by a rule, and the rest by the calls. */
 void fill_vault(struct vault *vault);
 
-/* What a job's call answers. */
+/* The answer of a job's call. */
 int answer_of(const struct job *job, struct vault *vault);

@@ -26,7 +26,7 @@ static void begin_turn(bool has_memory) {
     }
 }
 
-/* What a turn answers, if everything that it is to do is done. */
+/* Tests the answer of a turn, if all of its work is done. */
 static void try_threads(uint32_t threads, int wanted) {
     int state, before = random_below(2) == 0 ? PTHREAD_CANCEL_ENABLE : PTHREAD_CANCEL_DISABLE;
     size_t size = 0;

@@ -112,14 +112,14 @@ class Inputs:
 
 
 def zeros(size):
-    """Where so many zero bytes lie, of which the system has no page until they are read."""
+    """The address of so many zero bytes, of which the system has no page until they are read."""
     flags = mmap.MAP_PRIVATE | mmap.MAP_ANONYMOUS | 0x4000  # MAP_NORESERVE
     return ctypes.c_char.from_buffer(mmap.mmap(-1, size, flags=flags))
 
 
 def places(it):
-    """Where the inputs lie in an arena, one behind another, and where what is written does: over
-    any of them, or behind them."""
+    """The addresses of the inputs in an arena, one behind another, and of the output: over any of
+    them, or behind them."""
     sizes = {"p": len(it.password), "s": len(it.salt), "x": len(it.secret), "a": len(it.associated)}
     at, found = 64, {}
     for name, size in sizes.items():

@@ -1,5 +1,5 @@
-"""What the proved programs call of C, as the library has it that LIBRARY names: programs/calls.c,
-or the toolchain's own."""
+"""The calls of C by the proved programs, in the library that LIBRARY names: programs/calls.c, or
+the toolchain's own."""
 
 import ctypes
 import errno

@@ -39,7 +39,7 @@ WRAP(void *, mmap, void *at, size_t size, int protection, int flags, int file, o
     return refuses_next() ? MAP_FAILED : __real_mmap(at, size, protection, flags, file, offset);
 }
 
-/* What each call is given, and what it leaves if nothing is refused. */
+/* The inputs of each call, and the bytes that it leaves if nothing is refused. */
 static struct vault given, wanted;
 
 /* The call with all requests granted but the one after so many, and those after it if that is so:

@@ -27,7 +27,7 @@ SCRYPT_RECORD = "$scrypt$ln=8,r=8,p=1$YmVucyBzYWx0$+KFelNIG2qBCL4ql+mf/Ah1wLJw+N
 
 
 def call(name, *given):
-    """What a call answers: bytes go with their size, as do pairs of a pointer and a size."""
+    """The answer of a call: bytes go with their size, as do pairs of a pointer and a size."""
     words = []
     for it in given:
         if isinstance(it, (bytes, tuple)):
@@ -43,7 +43,7 @@ def call(name, *given):
 
 
 def written(name, room, *given):
-    """What a call answers that writes into so much room, and what it wrote there."""
+    """The answer of a call that writes into so much room, and the bytes that it wrote there."""
     buffer = ctypes.create_string_buffer(UNTOUCHED * (room + 1), room + 1)
     answer = call(name, (buffer, room), *given)
     if buffer.raw[room:] != UNTOUCHED:

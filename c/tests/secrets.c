@@ -46,7 +46,7 @@ static void do_damage(char *text, enum damage damage) {
         *at = *at == 'A' ? 'g' : 'A';
 }
 
-/* How many jumps and addresses depend on secrets in a call that answers so. */
+/* The number of jumps and addresses that depend on secrets in a call that answers so. */
 static unsigned leaks_of(const struct job *job, int wanted) {
     hide(ARRAY(vault.password));
     hide(ARRAY(vault.secret));

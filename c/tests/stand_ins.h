@@ -5,7 +5,7 @@
 #include "check.h"
 #include "windows.h"
 
-/* What a segment's export is given. */
+/* The inputs of a segment's export. */
 struct given_segment {
     const struct tag_numbers *numbers;
     const struct segment_index *index;

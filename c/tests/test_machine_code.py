@@ -47,7 +47,7 @@ def multiplications(lines):
 
 
 def figures(build):
-    """What is found in a build."""
+    """The findings in a build."""
     counts, distances = {"instructions": 0, "on the stack": 0}, []
     for lines in functions(build):
         counts["instructions"] += len(lines)

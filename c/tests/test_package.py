@@ -73,7 +73,7 @@ class Package(unittest.TestCase):
         run(runnable(ROOM / "of-installed"), env=env)
 
     def test_installed(self):
-        """What `make install` puts into folders of any name; it stays right if it is moved."""
+        """The files that `make install` puts into folders of any name; they work after a move."""
         need("pkg-config")
         for libdir in ("lib", "lib/of this"):
             prefix = ROOM / f"installed in {libdir.replace('/', ' ')}"
@@ -110,8 +110,8 @@ class Package(unittest.TestCase):
             run(room / "out" / f"threads-{kind}")
 
     def test_rebuilt(self):
-        """What is told otherwise is made anew, and nothing else, whatever the times of the files: a
-        copy proves nothing again."""
+        """Each file whose source has other bytes is built again, and nothing else, whatever the
+        times of the files: a copy proves nothing again."""
         need_host()
         room = ROOM / "copied"
         shutil.copytree(TOP, room / "c", ignore=shutil.ignore_patterns("*.o", "deb"))
@@ -187,8 +187,8 @@ class Package(unittest.TestCase):
 
     @each("librigzumal.so.1", "libargon2.so.1")
     def test_hardened(self, name):
-        """What the loader writes is read-only before the first call, and no stack can be run. No
-        program's own functions with names of libargon2's are called by the libraries."""
+        """The memory that the loader writes is read-only before the first call, and no stack can be
+        run. No program's own functions with names of libargon2's are called by the libraries."""
         said = run("readelf", "-W", "-d", "-l", OUT / name)
         for form in ("BIND_NOW|FLAGS_1.*NOW", "SYMBOLIC", "GNU_RELRO", "GNU_STACK .* RW +0x"):
             self.assertRegex(said, form)

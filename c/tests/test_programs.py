@@ -91,8 +91,8 @@ class Programs(unittest.TestCase):
     """Each row of PROGRAMS is a test too, below: `-k heap` runs that of heap.c."""
 
     def test_program_calls(self):
-        """What programs that a C compiler links call of C, and of the toolchain those of rt: the
-        same."""
+        """The calls of C by programs that a C compiler links, and the calls of the toolchain by
+        those of rt: the same."""
         need_glibc()
         of_toolchain = [toolchain() / f"c/lib{it}_c.a" for it in ("os", "libc")]
         for sources in (["programs/calls.c"], of_toolchain):
@@ -128,13 +128,14 @@ class Programs(unittest.TestCase):
         ("", "16 32 64 60 64"),
     )
     def test_kept_memory(self, bound, kept):
-        """What is kept after calls of each size: up to 64 MiB, or what the environment says."""
+        """The kept memory after calls of each size: up to 64 MiB, or the bound of the
+        environment."""
         env = {} if bound is None else {"RIGZUMAL_KEEP": bound}
         found = python("-c", KEPT, OUT / "librigzumal.so.1", env=env).strip()
         self.assertEqual(found, kept)
 
     def test_kept_memory_of_another_users_program(self):
-        """Whoever runs a set-user-ID program bounds nothing of it by the environment."""
+        """The user of a set-user-ID program can't bound its memory by the environment."""
         need_root()
         need_host()
         if os.statvfs(ROOM).f_flag & os.ST_NOSUID:

@@ -46,7 +46,7 @@ static int processors = 16; /* that a thread may run on; of 0 the system says no
 static long online = 5;
 static uint64_t all_signals; /* those that a program can block */
 
-/* What the stand-ins count orders nothing, so that the sanitizer of threads sees what is ordered by
+/* The stand-ins' counts order nothing, so that the sanitizer of threads sees the order of
  * src/lanes.c alone. */
 
 static int count(_Atomic(int) *counter) {
@@ -100,7 +100,7 @@ static void stamp(struct argon2_block *blocks, size_t count, uint64_t stamp) {
         blocks[i].words[0] = blocks[i].words[127] = stamp;
 }
 
-/* What stands in a slice that was worked last as number g of all, or never. */
+/* The stamp in a slice that was worked last as number g of all, or never. */
 static uint64_t stamp_of(int64_t g) {
     return g >= 0 ? (uint64_t)g + STAMPS : g == -SLICES ? 1 : 0; /* the first was begun */
 }

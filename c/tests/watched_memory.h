@@ -1,5 +1,5 @@
-/* What src/heap.c asks of the system and of the C library, which the linker has these functions see
- * first: what is given back is zero. */
+/* The requests of src/heap.c to the system and to the C library, which the linker has these
+ * functions see first: freed memory is zero. */
 #pragma once
 
 #include "check.h"
@@ -16,10 +16,10 @@ static size_t mapped;                 /* how many bytes are */
 static size_t most_mapped = SIZE_MAX; /* more is refused */
 static size_t moved;                  /* by mremap, of all calls */
 
-/* What is refused: blocks of the C library, the table of blocks, moves. */
+/* The refused requests: blocks of the C library, the table of blocks, moves. */
 static bool is_refusing, is_refusing_tables, is_refusing_moves;
 
-/* What was last advised of each kind, and how often. */
+/* The last advice of each kind, and the number of them. */
 static struct advised {
     unsigned char *start;
     size_t size;

@@ -48,7 +48,7 @@ static uintptr_t after_zeros(uintptr_t at, uintptr_t end) {
     return at;
 }
 
-/* How many windows stand in the writable memory of the process, but for what is apart and for the
+/* The number of windows in the writable memory of the process, but for `apart` and for the
  * first thread's stack, on which no call is looked at. */
 static int found_in_process(const char *name, const void *apart) {
     FILE *maps = fopen("/proc/self/maps", "r");

@@ -26,7 +26,8 @@ def some_bytes():
 
 
 def tag_from(size, costs, given):
-    """What the call for a tag answers and writes; of 2^32 bytes and more there is no such room."""
+    """The answer and the output of the call for a tag; of 2^32 bytes and more there is no such
+    room."""
     if size < 2**32:
         return written("argon2_from", size, numbers(*costs), given)
     room = ctypes.create_string_buffer(64)
@@ -35,7 +36,8 @@ def tag_from(size, costs, given):
 
 class WithThreads(unittest.TestCase):
     def same(self, made, given):
-        """What a call answers and writes, which is the same with one thread and with several."""
+        """The answer and the output of a call, which are the same with one thread and with
+        several."""
         one, several = (made(inputs(**given, threads=it)) for it in (1, draw.randint(2, 9)))
         self.assertEqual(one, several, given)
         return one

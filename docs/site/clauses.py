@@ -1,4 +1,4 @@
-"""Makes each name of docs/PROMISES.md a link to its place: a call, a clause, a test, a file or a
+"""Links each name of docs/PROMISES.md to its place: a call, a clause, a test, a file or a
 definition. tools/promises.py checks that each exists."""
 
 import re

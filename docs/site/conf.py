@@ -1,4 +1,4 @@
-"""How Sphinx builds the site of the pages, which docs/site/build.py has laid out."""
+"""Sphinx's settings for the site of the pages, which docs/site/build.py has laid out."""
 
 import pathlib
 import sys

@@ -98,7 +98,7 @@ check(read($db, 'bea')[1] === $bcrypt && login($db, 'bea', 'secret') === read($d
 check(password_get_info(read($db, 'bea')[1])['options'] == COSTS, 'its record moves');
 check(login($db, 'bea', 'secret') && !login($db, 'bea', 'guess'), 'and counts then');
 
-// What has no record costs a hash: in processor time, the least of three.
+// A name without a record costs a hash: in processor time, the least of three.
 $spend = function (string $name) use ($db): float {
     for ($least = INF, $turn = 0; $turn < 3; $turn++) {
         $before = getrusage();

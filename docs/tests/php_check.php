@@ -1,5 +1,5 @@
 <?php
-// What the tests of docs/PHP.md share. Each runs over the library that is built here.
+// The parts that the tests of docs/PHP.md share. Each runs over the library that is built here.
 
 function check(bool $right, string $what): void
 {

@@ -87,7 +87,7 @@ class Box extends Timebox
     }
 }
 
-/** What the middleware asks of Laravel's auth: one guard. */
+/** The part of Laravel's auth that the middleware asks for: one guard. */
 class OneGuard implements Factory
 {
     public function __construct(public SessionGuard $guard)

@@ -1,5 +1,5 @@
-"""What docs/MIGRATING.md shows of a table with bcrypt, of an LDIF and of their hooks, with
-users who must stay out and with hostile fields: sample_of_moving.py PAGE."""
+"""The samples of docs/MIGRATING.md with bcrypt in a table, an LDIF and their hooks, with users who
+must stay out and with hostile fields: sample_of_moving.py PAGE."""
 
 import base64
 import pathlib

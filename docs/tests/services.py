@@ -1,5 +1,5 @@
-"""What test_pages.py runs around the services of python/README.md: a table in which Ada has a
-password, and then logins by it, by another one, and by names of nobody's."""
+"""The programs that test_pages.py runs around the services of python/README.md: a table in which
+Ada has a password, and then logins by it, by another one, and by names of nobody's."""
 
 BEFORE = """
 import sqlite3

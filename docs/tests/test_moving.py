@@ -54,7 +54,7 @@ class MovingTest(Case):
         self.run_sample("sample_of_moving.py", PAGE)
 
     def lines_of(self, title, command, lines):
-        """What a command on the page, up to its file of records, makes of a file's lines."""
+        """The output of a command on the page, up to its file of records, for a file's lines."""
         part = PAGE.read_text().split(f"\n## {title}\n", 1)[1].split("\n## ", 1)[0]
         (found,) = re.findall(rf"^{command}.*> records$", part, re.M)
         room = self.room()
@@ -64,7 +64,7 @@ class MovingTest(Case):
         return (room / "records").read_text().splitlines()
 
     def test_lines_of_dovecot(self):
-        """Who may come in from everywhere moves, with the record alone."""
+        """A user who may come in from everywhere moves, with the record alone."""
         rest = "1000:1000::/home/x::"
         moves = [f"a{it}:{{{it}}}$argon2x:{rest}" for it in ("ARGON2ID", "argon2i", "Argon2")]
         moves += [f"ann:{{ARGON2ID}}$argon2x:{rest}x=nologins", "bare:{ARGON2ID}$argon2x"]
@@ -77,7 +77,7 @@ class MovingTest(Case):
         self.assertEqual(found, [f"{it.partition(':')[0]} $argon2x" for it in moves])
 
     def test_lines_of_htpasswd(self):
-        """What stands behind a record and a colon is a comment, as to Apache and nginx."""
+        """Text behind a record and a colon is a comment, as to Apache and nginx."""
         moves = ["ann:$apr1$x$y", "ben:$2y$05$z:his comment", "c d:{SHA}x=:a:b"]
         out = ["#x:$apr1$x$y", "x:!$apr1$x$y", "x:*", "x:!"]
         found = self.lines_of("htpasswd", "grep -vE", [*moves, *out])

@@ -62,7 +62,7 @@ function change(PDO $db, int $id, #[SensitiveParameter] string $old, #[Sensitive
     return null;
 }
 
-/** What a session keeps of a user: put it into $_SESSION after session_regenerate_id(true). */
+/** The value that a session keeps of a user: put it into $_SESSION after session_regenerate_id(true). */
 function session(array $user): array
 {
     return ['id' => $user[0], 'of' => hash('sha256', $user[1])];

@@ -1,4 +1,4 @@
-//! What is refused, and why.
+//! The refusals and their reasons.
 
 use crate::ffi;
 use core::fmt;

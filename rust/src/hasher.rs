@@ -1,4 +1,4 @@
-//! What makes records and verifies them.
+//! The hasher, which builds records and verifies them.
 
 use crate::{ffi, Algorithm, Error, Record};
 use alloc::{boxed::Box, ffi::CString, format, string::ToString};
@@ -72,7 +72,7 @@ impl Drop for Secret {
     }
 }
 
-/// Makes records and verifies them.
+/// Builds records and verifies them.
 ///
 /// It is `Send` and `Sync`: one is enough for all threads of a program. Costs and sizes that no
 /// record can have are refused as the hasher is made, and not at a user's login.

@@ -94,7 +94,7 @@ pub fn verify(password: &[u8], record: &Record) -> Result<(), Error> {
     ffi::check(record.as_c_str(), password, None, 1)
 }
 
-/// Gives the memory that is kept for the next hashes back to the system: how many bytes.
+/// Returns to the system the memory that is kept for the next hashes, and answers its size.
 ///
 /// It is as much as hashes took at one time, and at most what [`keep`] says; the system takes it by
 /// itself when it is short of memory.

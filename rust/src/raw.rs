@@ -61,7 +61,7 @@ pub struct Argon2<'a> {
     pub secret: &'a [u8],
     /// X of RFC 9106, section 3.1.
     pub associated: &'a [u8],
-    /// How many threads may work the lanes; 0 is as 1.
+    /// The number of threads that may work the lanes; 0 is as 1.
     pub threads: u32,
 }
 

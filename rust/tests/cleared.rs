@@ -13,7 +13,7 @@ const MASK: u8 = 0x5a;
 /// The C library writes over the first bytes of what is given back to it.
 const SEEN: usize = 32;
 
-/// What comes of some work with the secret, of which this copy is cleared then.
+/// The result of some work with the secret, of which this copy is cleared then.
 fn with_secret<T>(work: impl FnOnce(&[u8]) -> T) -> T {
     let mut secret: Vec<u8> = MASKED.iter().map(|byte| byte ^ MASK).collect();
     let done = work(&secret);
@@ -26,7 +26,7 @@ fn is_end_of_secret(bytes: &[u8]) -> bool {
     bytes.iter().zip(&MASKED[SIZE - SEEN..]).all(|(found, masked)| found ^ MASK == *masked)
 }
 
-/// How many copies of the secret's end stand in this process's own memory.
+/// The number of copies of the secret's end in this process's own memory.
 fn copies() -> usize {
     rigzumal::trim();
     let memory = File::open("/proc/self/mem").unwrap();

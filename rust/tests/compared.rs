@@ -10,7 +10,7 @@ const MAKE_UNDEFINED: usize = 0x4d43_0001;
 const MAKE_DEFINED: usize = 0x4d43_0002;
 const NONE: usize = usize::MAX;
 
-/// What valgrind answers, which knows these instructions that do nothing; `NONE` without it.
+/// The answer of valgrind, which knows these instructions that do nothing; `NONE` without it.
 fn ask(request: usize, bytes: &[u8]) -> usize {
     let words = [request, bytes.as_ptr() as usize, bytes.len(), 0, 0, 0];
     #[allow(unused_mut)]
@@ -24,7 +24,7 @@ fn ask(request: usize, bytes: &[u8]) -> usize {
     answer
 }
 
-/// How many jumps depend on the bytes of two records as they are compared.
+/// The number of jumps that depend on the bytes of two records as they are compared.
 fn jumps(one: &str, other: &str) -> usize {
     let records = [one, other].map(|text| text.parse::<Record>().unwrap());
     for record in &records {

@@ -1,4 +1,4 @@
-//! What a hasher's settings do, and what it shows.
+//! The effects of a hasher's settings, and its Debug.
 
 use rigzumal::{verify, Algorithm, Argon2, Costs, Error, Hasher, Record, Version};
 use std::collections::HashSet;
@@ -178,7 +178,7 @@ fn nothing_secret_is_shown() {
     assert_eq!(format!("{record:?}"), "Record($argon2id$v=19$m=8,t=1,p=1$..)");
 }
 
-/// How many threads this process has for most of the time that some work takes: one that was joined
+/// The number of threads of this process for most of the time of some work: one that was joined
 /// may be listed for a moment more.
 fn usual_threads_in(work: impl FnOnce() + Send) -> usize {
     let is_over = AtomicBool::new(false);

@@ -112,7 +112,7 @@ class Crate(unittest.TestCase):
         self.check_linked(program_of("vectors", env=env, at=crate), folder)
 
     def test_a_missing_library(self):
-        """Where none is found the build says how to build one, and links it once it is built."""
+        """Without a library the build says how to build one, and links it once it is built."""
         crate, built = ROOM / "alone/rust", ROOM / "alone/c/out"
         shutil.copytree(CRATE, crate, ignore=shutil.ignore_patterns("target"))
         env = {"CARGO_TARGET_DIR": str(ROOM / "cargo-alone"), "PKG_CONFIG_LIBDIR": str(ROOM)}

@@ -1,5 +1,5 @@
-"""How each run of credbook ends, and on which stream it writes what: no contract says what a
-process gives its shell."""
+"""The end of each run of credbook, and its output on each stream: no contract says what a process
+returns to its shell."""
 
 import os
 import pathlib
@@ -214,8 +214,8 @@ class RunsTest(unittest.TestCase):
 
 
 class LauncherTest(unittest.TestCase):
-    """What is installed runs the program with huge pages, unless GLIBC_TUNABLES says something of
-    them: same words, input and end."""
+    """The installed command runs the program with huge pages, unless GLIBC_TUNABLES says something
+    of them: same words, input and end."""
 
     def launched(self, inner: str, *words: str, **options: Any) -> Ended:
         with tempfile.TemporaryDirectory(prefix="credbook-") as folder:

@@ -61,18 +61,18 @@ DONE = Ended(0)
 
 
 def says(answer: str) -> Ended:
-    """How an order ends that writes this line: the status says whether it is a no."""
+    """The end of an order that writes this line: the status says whether it is a no."""
     is_no = answer in ("noaccount", "absent", "no", "wrong", "exists")
     return Ended(4 if is_no else 0, f"{answer}\n")
 
 
 def imported(added: int, updated: int = 0, there: int = 0, bad: int = 0) -> str:
-    """What an import writes that has these counts."""
+    """The output of an import that has these counts."""
     return f"{added} added, {updated} updated, {there} there already, {bad} bad\n"
 
 
 def fails(status: int, text: str) -> Ended:
-    """How an order ends that says why it failed."""
+    """The end of an order that says why it failed."""
     return Ended(status, "", f"credkeep: {text}\n")
 
 
@@ -137,7 +137,7 @@ class Book:
         return done.written.split()
 
     def remove(self) -> None:
-        """Takes the file away, and all that stands beside it under its name."""
+        """Removes the file, and all files beside it under its name."""
         for file in self.path.parent.glob(f"{self.path.name}*"):
             file.unlink()
 
@@ -182,7 +182,8 @@ class Service(contextlib.AbstractContextManager["Service"]):
         return self.answer()
 
     def feed(self, text: str) -> threading.Thread:
-        """Gives it the text from beside, and the end of its input; it may be gone by then."""
+        """Writes the text to the service from a thread, and ends its input; it may be gone by
+        then."""
 
         def write() -> None:
             with contextlib.suppress(OSError):
@@ -194,7 +195,7 @@ class Service(contextlib.AbstractContextManager["Service"]):
         return feeder
 
     def end(self, given: str = "") -> Ended:
-        """How it ends with this as its last input, and what it still writes."""
+        """Its end with this as its last input, and the output until then."""
         written, faults = self.process.communicate(given.encode(), LONGEST)
         return Ended(self.process.returncode, text_of(written), text_of(faults))
 
@@ -204,7 +205,7 @@ class Service(contextlib.AbstractContextManager["Service"]):
 
 
 def contents(folder: pathlib.Path) -> dict[str, bytes | None]:
-    """What the files of a folder hold; a file's log without a change counts as none."""
+    """The contents of a folder's files; a file's log without a change counts as none."""
     logs = {f"{it.name}-wal" for it in folder.iterdir()}
     return {
         file.name: file.read_bytes() if file.is_file() else None
@@ -214,7 +215,7 @@ def contents(folder: pathlib.Path) -> dict[str, bytes | None]:
 
 
 def rows(path: pathlib.Path, text: str) -> list[Any]:
-    """What SQLite itself answers to a statement."""
+    """The answer of SQLite itself to a statement."""
     with contextlib.closing(sqlite3.connect(path, isolation_level=None)) as connection:
         return connection.execute(text).fetchall()
 
@@ -233,7 +234,7 @@ def frame_of(log: bytes) -> int:
 
 
 def commits_in(log: bytes) -> list[int]:
-    """Where the frames begin that end a transaction: each has the database's size beside it."""
+    """The places of the frames that end a transaction: each has the database's size beside it."""
     frames = range(32, len(log) - frame_of(log) + 1, frame_of(log))
     return [
         at
@@ -275,7 +276,8 @@ class BookTest(unittest.TestCase):
         self.assertGreater(book.log.stat().st_size, EMPTY_LOG)
 
     def once(self, folder: pathlib.Path, look: Callable[[Book], Found]) -> Found:
-        """What a look finds that depends on a folder's files alone: the same are looked at once."""
+        """The findings of a look that depends on a folder's files alone: the same are looked at
+        once."""
         files = [(it.name, it.stat().st_mode, it.read_bytes()) for it in folder.iterdir()]
         key = tuple(sorted(files))
         if key not in self.seen:
@@ -289,8 +291,8 @@ class BookTest(unittest.TestCase):
         look: Callable[[Book], Found],
         judge: Callable[[Ended, Found], None],
     ) -> list[Ended]:
-        """How each run of an order ended that was stopped at its first call, its second and so on,
-        each in a copy of the folder `base`. The judge sees what a look finds there afterwards."""
+        """The ends of the runs of an order, stopped at its first call, its second and so on, each
+        in a copy of the folder `base`. The judge sees the findings of a look afterwards."""
 
         def attempt(nth: int) -> tuple[Ended, Found] | None:
             with tempfile.TemporaryDirectory(dir=self.room) as room:
@@ -342,7 +344,7 @@ class BookTest(unittest.TestCase):
 def killed(
     book: Book, *words: str, given: str = "", within: float, how: int = signal.SIGKILL
 ) -> Ended:
-    """How an order ended that is killed at a random moment of so many seconds."""
+    """The end of an order that is killed at a random moment of so many seconds."""
     with book.start(*words) as run:
         feeder = run.feed(given)
         time.sleep(random.random() * within)

@@ -65,7 +65,7 @@ class BackupTest(CopyTest):
         self.assertEqual(len(self.book.names()), 1500)
 
     def test_refused(self) -> None:
-        """What may not be overwritten isn't, and nothing is left beside it."""
+        """A file that may not be overwritten stays, and nothing is left beside it."""
         book, other = self.begun({"ann": RECORD}), self.begun({"bob": ""}, "other.db")
         link, text = self.room / "link.db", self.room / "text"
         link.symlink_to(book.path)
@@ -224,8 +224,8 @@ class RestoreTest(CopyTest):
                     self.assertEqual(run.end(), Ended(0, "bob\n"))
 
     def test_owners(self) -> None:
-        """What root puts back belongs to the file's owner, with its mode; a copy that can only be
-        read is taken."""
+        """A copy that root restores belongs to the file's owner, with its mode; a copy that can
+        only be read is good."""
         need_root()
         book, copy = self.begun({"ann": RECORD}), self.file("copy.db")
         self.assertEqual(book("backup", str(copy.path)), counted(1, 0))

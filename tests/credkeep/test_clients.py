@@ -85,7 +85,7 @@ class Clients:
         self.service.send(lined(line.text for line in lines))
 
     def take(self) -> bool:
-        """Takes the next answer, and says whether there was one."""
+        """Reads the next answer, and returns whether one came."""
         text = self.service.stdout.readline().decode()
         if not text.endswith("\n"):
             return False
@@ -128,8 +128,8 @@ class ClientsTest(BookTest):
         self.assertSound(self.book)
 
     def test_kills(self) -> None:
-        """What was answered before a kill stands; what stands is that, or the change of a line that
-        was open."""
+        """A change that was answered before a kill is kept; an account has its record, or that of a
+        line that was open."""
         chance, number = random.Random(), 0
         standing: dict[str, str | None] = dict.fromkeys(NAMES)
         self.begun(dict.fromkeys(NAMES, ""))

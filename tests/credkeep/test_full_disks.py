@@ -11,7 +11,7 @@ LINES = lined(f"t account new{at}" for at in range(COUNT))
 
 class LostTest(BookTest):
     def on_full_disk(self, size: int) -> tuple[Ended, Book]:
-        """How a service ended on a copy of the book whose disk has so many bytes, and the copy."""
+        """The end of a service on a copy of the book whose disk has so many bytes, and the copy."""
         need_root()
         with small_disk(self.room / "small", f"size={size}") as folder:
             book, left = Book(folder / "users.db"), self.file("left.db")

@@ -21,7 +21,7 @@ def named_lines(done: Ended) -> dict[int, str]:
 
 
 def other_texts(done: Ended) -> str:
-    """What else standard error says."""
+    """The other lines of standard error."""
     return "".join(re.findall(r"^credkeep: (?!line \d)(.*\n)", done.faults, re.MULTILINE))
 
 
@@ -113,7 +113,7 @@ class OthersTest(ImportTest):
         self.assertEqual(self.book.accounts(), {"ann": "", "eve": "", **shut_out})
 
     def run_in_room(self, command: str) -> str:
-        """What a command of a page writes beside the book."""
+        """The output of a command of a page beside the book."""
         path = f"{pathlib.Path(program('credkeep')).parent}:{os.environ['PATH']}"
         return run("sh", "-c", command, at=self.room, env={"PATH": f"{self.room}:{path}"})
 
@@ -135,7 +135,7 @@ class OthersTest(ImportTest):
         self.assertEqual(self.book("show", "ann").status, 0)
 
     def check_lines(self, left: dict[str, str]) -> None:
-        """What the page's commands wrote, and what Dovecot gets of it."""
+        """The output of the page's commands, and Dovecot's part of it."""
         self.assertEqual((self.room / "passwd").read_text(), lines_of(left))
         dovecot = self.run_in_room(of_the_page("sed -n 's/:\\$argon2"))
         lines = {it: f"{{ARGON2ID}}{of}" for it, of in left.items() if "argon2" in of}

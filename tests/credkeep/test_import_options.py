@@ -197,7 +197,7 @@ class OptionsTest(ImportTest):
         self.assertIn("eve", self.book.names())
 
     def test_costly_lines(self) -> None:
-        """How a line is named whose record asks for more than --most-memory allows."""
+        """The message for a line whose record asks for more than --most-memory allows."""
         why = "its record asks for more than --most-memory or --most-work (18 costly)"
         done = self.book("import", "--most-memory", "256K", given=f"ann:{ABOVE}\n")
         self.assertEqual(done, Ended(6, "", f"credkeep: line 1: {why}\n"))

@@ -94,8 +94,8 @@ class LogsTest(CopyTest):
         self.assertEqual(len(book.names()), 22)
 
     def test_init_beside_a_log(self) -> None:
-        """Where a file was removed and its log left, no book begins: it would drop the changes in
-        the log."""
+        """If a file was removed and its log left, no book begins: it would drop the changes in the
+        log."""
         book = self.begun({"ann": RECORD})
         self.killed_after(book, "account k1")
         file, log = book.path.read_bytes(), book.log.read_bytes()

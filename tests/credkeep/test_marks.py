@@ -10,12 +10,12 @@ MAKING = ("add", "change", "reset", "upgrade")
 
 
 def yes(answer: str) -> Ended:
-    """How an order ends that is done."""
+    """The end of an order that is done."""
     return Ended(0, f"{answer}\n")
 
 
 def no(answer: str) -> Ended:
-    """How an order ends that is not done."""
+    """The end of an order that is not done."""
     return Ended(4, f"{answer}\n")
 
 
@@ -191,7 +191,7 @@ class MarksTest(BookTest):
                 rows(self.book.path, "DELETE FROM account WHERE name = 'eve'")
 
     def test_shown(self) -> None:
-        """What shows an account says its marks, and a list of names doesn't."""
+        """The commands that show an account print its marks, and a list of names doesn't."""
         self.assertEqual(self.book("lock", "ann"), yes("locked"))
         self.assertEqual(self.book("expire", "ann"), yes("expired"))
         self.assertEqual(self.book("show", "ann"), yes(f"!~{CHEAP}"))

@@ -1,4 +1,4 @@
-"""What hashes leave in the memory of a service, and in its core."""
+"""The bytes that hashes leave in the memory of a service, and in its core."""
 
 import base64
 import os

@@ -88,7 +88,7 @@ class MistakesTest(BookTest):
         self.assertEqual(done, Ended(0, "enrolled\n"))
 
     def typed(self, line: str) -> Ended:
-        """How a line at a shell ends, with no more input than its own."""
+        """The end of a line at a shell, with no more input than its own."""
         env = {**os.environ, "PATH": self.path}
         return ended(["bash", "-c", line], cwd=self.room, env=env)
 

@@ -91,8 +91,8 @@ class OperationsTest(BookTest):
         self.assertEqual(self.book.names(), [])
 
     def test_bounds(self) -> None:
-        """What a line brings is refused if it asks for more than --most-memory or --most-work; what
-        the book has already, and what the service draws, is not."""
+        """A record or setting in a line is refused if it asks for more than --most-memory or
+        --most-work; those of the book and of the service aren't."""
         for words, table, is_high in BOUNDS:
             with self.subTest(words=words):
                 book = self.begun({"ann": "", "bob": ""})

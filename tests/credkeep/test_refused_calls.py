@@ -65,8 +65,8 @@ class RefusedCallsTest(BookTest):
         look: Callable[[Book], Found],
         judge: Callable[[Ended, Found], None],
     ) -> list[Ended]:
-        """How the order ends with each of these calls refused or killed at its first time, its
-        second, and on. The judge sees what a look finds afterwards."""
+        """The ends of the order with each of these calls refused or killed at its first time, its
+        second, and on. The judge sees the findings of a look afterwards."""
         ends = []
         for call in calls:
             with self.subTest(call=call, how=how):
@@ -88,7 +88,7 @@ class RefusedCallsTest(BookTest):
         self.assertRegex("".join(it.faults for it in ends), f"{called} may be kept or not")
 
     def test_services(self) -> None:
-        """What was answered is kept, and at most the line after it."""
+        """Each answered line is kept, and at most one line more."""
 
         def judge(done: Ended, names: list[str]) -> None:
             answered = done.written.count("ok\n")

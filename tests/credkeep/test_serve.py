@@ -82,7 +82,7 @@ class MemoryTest(BookTest):
         super().setUp()
 
     def short_of_memory(self) -> None:
-        """Gives the process little memory, until it is given more."""
+        """Bounds the memory of the process, until it is allowed more."""
         most = resource.getrlimit(resource.RLIMIT_AS)[1]
         resource.setrlimit(resource.RLIMIT_AS, (SHORT_MEMORY, most))
 

@@ -100,7 +100,7 @@ class HashesTest(BookTest):
         self.assertServed(rows, "--at-once", "4", "--memory", "1M")
 
     def peak_of(self, memory: str) -> tuple[int, int]:
-        """How many KiB more than at first a service takes at most, and in the end, of which eight
+        """The KiB beyond the first that a service needs at most, and in the end, while eight
         threads judge 32 right passwords at a record of 36 MiB."""
         need_native()
         # Otherwise the C library keeps for each thread what it freed.
@@ -154,7 +154,8 @@ class HashesTest(BookTest):
         self.assertEqual(next(filter(None, answers), "late"), ought)
 
     def test_memory_runs_out(self) -> None:
-        """Where the system refuses memory a line is answered so, and the next one is served."""
+        """A line for which the system refuses memory has that answer, and the next one is
+        served."""
         huge = "$argon2id$v=19$m=1048576,t=1,p=1$AAAAAAAAAAA"
         self.enrolled(8)
         little = limited(resource.RLIMIT_AS, 600_000 * 1024)
@@ -164,8 +165,8 @@ class HashesTest(BookTest):
             self.assertEqual(service.end(), DONE)
 
     def test_threads_that_cannot_start(self) -> None:
-        """Where too few threads can be started it says so; with enough of them it serves. Root has
-        no such limit, so a user without other processes runs it."""
+        """If too few threads can be started the service says so; with enough of them it serves.
+        Root has no such limit, so a user without other processes runs it."""
         self.enrolled(8)
         options: dict[str, Any] = {}
         if os.getuid() == 0:
@@ -280,8 +281,8 @@ class GroupsTest(BookTest):
 
     @each(0, 1, 20, 300)
     def test_writer_fails_in_a_group(self, left: int) -> None:
-        """Where the answers of a group can't be written whole, those that were are of changes that
-        stand."""
+        """If the answers of a group can't be written whole, the written ones are of changes that
+        are kept."""
         book, out = self.begun({name: "" for name in MEMBERS}), self.room / "answers"
         out.write_bytes(b"." * (100_000 - left))
         with out.open("ab") as answers:

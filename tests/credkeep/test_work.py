@@ -1,4 +1,4 @@
-"""What an answer takes: threads, hashes, instructions, and syncs of the disk."""
+"""The costs of an answer: threads, hashes, instructions, and syncs of the disk."""
 
 import resource
 from collections.abc import Iterable
@@ -40,15 +40,15 @@ class ThreadsTest(BookTest):
 
 class SyncsTest(BookTest):
     def syncs(self, words: Iterable[str], line: str, count: int, answer: str) -> int:
-        """How often the disk is synced for so many new accounts, each with its line."""
+        """The syncs of the disk for so many new accounts, each with its line."""
         given = "".join(line.format(at) for at in range(count))
         done, found = counts(self.begun().command(*words), given)
         self.assertEqual(done, (0, answer, ""))
         return found["SYNCS"]
 
     def test_syncs_of_changes(self) -> None:
-        """A change is answered after two syncs at least: of the log, and of what says that it is
-        whole."""
+        """A change is answered after two syncs at least: of the log, and of the mark that the log
+        is whole."""
         few, many = (
             self.syncs(SERVE, "t account n{}\n", count, "t ok\n" * count) for count in (10, 30)
         )
@@ -62,7 +62,8 @@ class SyncsTest(BookTest):
         self.assertEqual(many, few)
 
     def test_syncs_of_a_reading(self) -> None:
-        """What only reads syncs while the file and its log are opened, and not after that."""
+        """An order that only reads syncs while it opens the file and its log, and not after
+        that."""
         self.book.add("ann", "first")
         for words, given in (
             ("show ann", ""),
@@ -82,7 +83,8 @@ class SyncsTest(BookTest):
 
 class HashesTest(BookTest):
     def test_no_hash_in_vain(self) -> None:
-        """What is answered without a record of its own makes none: there would be no memory."""
+        """A line that is answered without a record of its own computes none: there would be no
+        memory."""
         self.book.add("ann", "first")
         small = limited(resource.RLIMIT_AS, 1_000_000_000)
         costly = ("--setting", "$argon2id$v=19$m=2000000,t=1,p=1")

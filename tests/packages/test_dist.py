@@ -1,6 +1,6 @@
-"""What is packed has the same bytes, wherever, whenever and by whomever it is packed, and what
-`make dist` packs builds without rt. It needs gcc and git, and for the packages dpkg-dev. Objects of
-the programs that no build kept are stand-ins here."""
+"""Packages have the same bytes, at each place and time and for each user, and the tarball of `make
+dist` builds without rt. It needs gcc and git, and for the packages dpkg-dev. Objects of the
+programs that no build kept are stand-ins here."""
 
 import hashlib
 import json

@@ -1,5 +1,5 @@
-"""What `make install` and `make deb` put where, and that it works there. It needs root, and what
-`make build` builds."""
+"""The files of `make install` and `make deb`, which work in their places. It needs root, and the
+output of `make build`."""
 
 import pathlib
 import re
@@ -143,7 +143,7 @@ class Install(helpers.Case):
 
 
 class Folders(helpers.Case):
-    """What is installed by parts below an empty folder, and uninstalled."""
+    """Parts that are installed below an empty folder, and uninstalled."""
 
     seconds = 600
 

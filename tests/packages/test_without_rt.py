@@ -1,5 +1,5 @@
-"""What a machine without rt builds of a clean copy of the tree: by a C compiler alone, as a user
-who isn't root, and with no network. It needs gcc and make, and for a part of it python3-venv or
+"""Builds of a clean copy of the tree on a machine without rt: by a C compiler alone, as a user who
+isn't root, and with no network. It needs gcc and make, and for a part of it python3-venv or
 php-cli."""
 
 import os
@@ -148,8 +148,8 @@ class WithoutRt(helpers.Case):
         self.make("out/v1.a")
 
     def test_rt_comes_first(self):
-        """Where rt is there it compiles, also what was taken before; what it made is kept where it
-        is missing."""
+        """With rt the build compiles, also after one of c/proved; without rt it keeps the code that
+        rt compiled."""
         self.make("out/v1.a")
         write_files(self.home, TOOLCHAIN, 0o755)
         with_rt = {"PATH": f"{self.home}/bin:{PATH}"}
@@ -206,8 +206,8 @@ class WithoutRt(helpers.Case):
         self.assertIn("crates/cred_argon/src/lib.rt differs", said)
 
     def test_users_prefix(self):
-        """What `make install PREFIX=$HOME/.local` puts there is found by Python itself, with its
-        library, and leaves."""
+        """Python itself finds the package of `make install PREFIX=$HOME/.local`, with its library;
+        `make uninstall` removes both."""
         for folder in ("c", "python"):
             self.make("install", f"PREFIX={self.home}/.local", folder=folder, LANG="C")
         package, library = self.as_user("/usr/bin/python3", "-c", CHECKS).splitlines()
@@ -220,7 +220,7 @@ class WithoutRt(helpers.Case):
         self.assertEqual({it for it in helpers.files_below(self.home) if "/lib/" in it}, set())
 
     def test_modes(self):
-        """What is installed everybody may read, whoever's umask it was."""
+        """Everybody may read the installed files, under each umask."""
         self.as_user(
             "sh", "-c", f"umask 077; make -C '{self.top}/python' install PREFIX={self.home}/p"
         )

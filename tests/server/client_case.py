@@ -1,4 +1,5 @@
-"""What tests of rigzumal.server's clients share: both clients, and peers that aren't servers."""
+"""The parts that tests of rigzumal.server's clients share: both clients, and peers that aren't
+servers."""
 
 import asyncio
 import importlib
@@ -56,7 +57,7 @@ class ClientCase(Case):
         asyncio.run(run())
 
     def is_unavailable(self, call: Callable[..., Any], *given: object) -> float:
-        """How many seconds a call took to raise Unavailable."""
+        """The seconds until a call raised Unavailable."""
         begun = time.monotonic()
         with self.assertRaises(self.server.Unavailable):
             call(*(given or ("verify", "ada", "x")))

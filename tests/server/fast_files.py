@@ -44,7 +44,7 @@ def why_bad(line: bytes, options: list[str], seen: dict[str, str]) -> tuple[str,
 
 
 def import_lines(path: str, options: list[str], fault: str) -> int:
-    """Takes lines from standard input, all or none."""
+    """Reads lines from standard input, all or none."""
     lines = sys.stdin.buffer.read().split(b"\n")
     while os.path.exists(fault):
         time.sleep(0.01)

@@ -1,4 +1,4 @@
-"""What the tests of users of an htpasswd file share: that file, and a server over it."""
+"""The parts that the tests of users of an htpasswd file share: that file, and a server over it."""
 
 from typing import Any
 
@@ -44,5 +44,5 @@ class ForeignCase(Case):
         return self.serving("--foreign", str(self.file), *options, **fields)
 
     def gone(self) -> list[str]:
-        """Who counts no more in the file, by the disk."""
+        """The users who count no more in the file, by the disk."""
         return sorted(it.split(" ")[0] for it in self.moved.read_text().splitlines())

@@ -1,5 +1,5 @@
-"""What runs in the booted Debian of test_booted.py: what docs/SERVERS.md tells, kills and restarts,
-PAM, and the packages' end."""
+"""The test that runs in the booted Debian of test_booted.py: the steps of docs/SERVERS.md, kills
+and restarts, PAM, and the packages' end."""
 
 import contextlib
 import crypt

@@ -1,4 +1,5 @@
-"""What the tests of the server share: a server in a temporary folder, and clients of it."""
+"""The parts that the tests of the server share: a server in a temporary folder, and clients of
+it."""
 
 import base64
 import contextlib
@@ -107,7 +108,7 @@ def cpu(pid: int) -> float:
 
 
 def ran(*words: str) -> helpers.Ended:
-    """How the program ends with these words."""
+    """The end of the program with these words."""
     return helpers.ended([PYTHON, SERVER, *words])
 
 
@@ -117,7 +118,7 @@ def is_listening(path: pathlib.Path) -> bool:
 
 
 def as_user(uid: int, gid: int, path: pathlib.Path, *lines: str) -> str:
-    """What a user of one group is answered at a socket, or the system's refusal."""
+    """The answer to a user of one group at a socket, or the system's refusal."""
     groups = os.getgroups()
     os.setgroups([])
     os.setegid(gid)
@@ -198,7 +199,7 @@ class Client(contextlib.AbstractContextManager["Client"]):
 
 @dataclass
 class Given:
-    """How a server is started: over a fast book, with sockets in a folder, if nothing else is
+    """The start of a server: over a fast book, with sockets in a folder, if nothing else is
     said."""
 
     folder: pathlib.Path
@@ -279,7 +280,7 @@ class Service:
         return [it for it in lines if it not in ("show -", "verify - -")]
 
     def stats(self) -> dict[str, float]:
-        """What the server counted."""
+        """The counts of the server."""
         with Client(self.path("admin")) as admin:
             words = admin.ask("stats").split()
         same(words[0], "stats")

@@ -83,7 +83,7 @@ class CredkeepAsk(Case):
         return ended(self.command(words), given, env=environment, start_new_session=True)
 
     def noted(self, name: str) -> str:
-        """What the stand-in noted of its words, its input or its environment."""
+        """The stand-in's notes of its words, its input or its environment."""
         path = self.folder / name
         return path.read_text() if path.exists() else ""
 
@@ -133,7 +133,7 @@ class CredkeepAsk(Case):
         ("reset", ("", 1), 1, ""),
     )
     def test_not_asked(self, operation: str, account: Account, status: int, said: str) -> None:
-        """Where no password would help, credkeep's answer is told at once."""
+        """If no password would help, credkeep-ask prints credkeep's answer at once."""
         shown = self.asked(f"users.db|{operation}|ada", [], account)
         self.assertEqual(shown.text.strip(), said.encode())
         self.nothing_was_given(shown, status)
@@ -162,8 +162,8 @@ class CredkeepAsk(Case):
         *MARKS,
     )
     def test_other_words(self, words: str) -> None:
-        """What reads no password is credkeep's alone, and so is a call for help or without a
-        name."""
+        """A command that reads no password is credkeep's alone, and so is a call for help or
+        without a name."""
         status, _, faults = self.without_a_terminal(words, "as it is")
         self.assertEqual((status, faults), (7, ""))
         self.assertEqual(self.noted("words"), f"{words}|\n")

@@ -152,7 +152,7 @@ class AskServer(Case):
         self.assertEqual(self.asked([str(service.path("admin")), "list"]), (" ".join(names), 0))
 
     def check(self, path: pathlib.Path, name: bytes, *typed: bytes) -> tuple[str, int]:
-        """What `check` says of a name, and the status."""
+        """The answer of `check` to a name, and the status."""
         return self.asked([str(path), "check", text_of(name)], [it + b"\n" for it in typed])
 
     def test_hostile_fields(self) -> None:

@@ -114,8 +114,8 @@ class BookMarks(Case):
         )
 
     def test_orders_on_the_file(self) -> None:
-        """What is locked or unlocked without the server is so behind its sockets, and the other
-        way."""
+        """An account that is locked or unlocked without the server is so behind its sockets, and
+        the other way."""
         folder = self.room()
         book = (real_book(), folder / "users.db")
         self.over(folder=folder).enrol(ada="secret", bob="secret").stop()

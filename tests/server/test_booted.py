@@ -131,7 +131,7 @@ def not_booted(room: pathlib.Path, line: str) -> list[str]:
 
 
 def booted(room: pathlib.Path, command: str, *options: str) -> str:
-    """What a command says in the Debian in a folder, which boots, and powers itself off behind
+    """The output of a command in the Debian in a folder, which boots, and powers itself off behind
     it."""
     wanted = room / "etc/systemd/system/multi-user.target.wants"
     wanted.mkdir(exist_ok=True)

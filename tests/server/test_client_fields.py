@@ -44,7 +44,7 @@ class HostileFields(ClientCase):
                 yield f"after the password: {what}", right
 
     def test_hostile_fields(self) -> None:
-        """What a visitor may send gets an answer from the client for threads."""
+        """Each field that a visitor may send gets an answer from the client for threads."""
         with self.tapped() as path:
             client = self.server.Client(path)
             for what, (reply, call, *asked) in self.logins():
@@ -172,7 +172,7 @@ Login = tuple[bytes, bytes]  # a name and a password
 
 class OtherLanguages(Case):
     def php_answers(self, path: object, *rows: Login) -> list[str]:
-        """What the PHP function of docs/SERVERS.md says to each, as it is printed there."""
+        """The answers of the PHP function of docs/SERVERS.md to each, as it is printed there."""
         need("php")
         script = self.room() / "client.php"
         script.write_text(f"{block('php')}\n$path = 'unix://{path}';\n{PHP_ROWS}")

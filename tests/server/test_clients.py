@@ -63,7 +63,8 @@ class Clients(ClientCase):
         self.assertEqual(len(os.listdir("/proc/self/fd")), open_before, "what stays open")
 
     def test_refusals(self) -> None:
-        """What is denied, refused, too early or not there, by name; and what isn't even sent."""
+        """Calls that are denied, refused, too early or missing, by name; and those that aren't even
+        sent."""
         service = self.serving("--tries", "1").enrol(ada="secret")
         names = ["", "a b", "a\nb", "a\x7f", "a\tb", " ", "\r", "\ud800", "x" * 255, "x" * 2000]
         rows: list[tuple[Any, ...]] = [
@@ -154,7 +155,7 @@ class Clients(ClientCase):
         self.assertTrue(all(0 < it <= 0.05 for it in pauses), pauses)
 
     def test_closed_amid_a_call(self) -> None:
-        """Who waits is told of the connection's end by its own client."""
+        """Each waiting call learns of the connection's end from its own client."""
 
         async def closes(path: pathlib.Path) -> None:
             client = self.aio.Client(path, timeout=60)
@@ -167,7 +168,7 @@ class Clients(ClientCase):
         asyncio.run(closes(self.peer(b"", "waits")))
 
     def test_late_answers(self) -> None:
-        """What came too late is nobody's."""
+        """An answer that came too late is nobody's."""
         path = str(self.room() / "s")
 
         async def late(reader: asyncio.StreamReader, writer: asyncio.StreamWriter) -> None:

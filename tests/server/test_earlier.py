@@ -102,7 +102,9 @@ class Earlier(Case):
         self.assertFalse(any(map(is_listening, (service.path(), service.path("admin")))))
         service.process.terminate()
         self.assertEqual(service.process.wait(), 0)
-        self.assertIn(f"{self.marks(folder)} stays: the book lacks marks of it", service.log())
+        self.assertIn(
+            f"{self.marks(folder)} stays: the book lacks some of its marks", service.log()
+        )
         self.assertNotIn("start:", service.log())
         self.check(folder)
 
@@ -203,8 +205,8 @@ class Earlier(Case):
 
     @each(*range(16, 24))
     def test_users_of_an_old_file(self, kill: int) -> None:
-        """Who hasn't moved has the marks too, whenever the server is killed: gus is locked, and ira
-        must change the password."""
+        """A user who hasn't moved has the marks too, whenever the server is killed: gus is locked,
+        and ira must change the password."""
         folder, old = self.begun(f"{MARKS}gus lock {TIME}\nira expire {TIME}\n"), self.old_file()
         options = ("--tries", "0", "--foreign", str(old))
         self.serving(*options, folder=folder, faults=f"kills={kill}", waits=False).ended()
@@ -227,6 +229,6 @@ class Earlier(Case):
 
 
 def asked(service: Service) -> list[str]:
-    """What came to the book, once it is asked for a lock."""
+    """The lines that came to the book, once it is asked for a lock."""
     until(lambda: any(it.startswith("lock ") for it in service.asked()), "a mark")
     return service.asked()

@@ -107,7 +107,7 @@ class Expired(Case):
 
     @in_namespaces
     def test_a_name_in_both(self, room: pathlib.Path) -> None:
-        """Where pam_unix decides too about a name of the book, its password is changed as well."""
+        """If pam_unix decides too about a name of the book, its password is changed as well."""
         self.begin(room)
         install("/etc/pam.d/common-auth", "/etc/pam.d/common-password")
         lines = "account required pam_unix.so\naccount required pam_rigzumal.so\n"

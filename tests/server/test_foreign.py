@@ -128,8 +128,8 @@ class Foreign(ForeignCase):
         self.assertEqual(self.gone(), ["ada", "bob", "cid", "dan", "eve"])
 
     def test_a_file_that_comes_back(self) -> None:
-        """Who was disabled, removed, renamed or deleted while the file was away doesn't get in by
-        it later."""
+        """A user who was disabled, removed, renamed or deleted while the file was away doesn't get
+        in by it later."""
         names = ("ada", "bob", "cid", "dan")
         for name in names:
             self.add(name, "-s")
@@ -187,7 +187,7 @@ class Foreign(ForeignCase):
         login.talk("verify ada {secret} -> absent\nknown ada -> absent")
 
     def test_removed_amid_a_login(self) -> None:
-        """Whoever leaves the file while a right login is being judged is refused, and doesn't
+        """A user who leaves the file while a right login is being judged is refused, and doesn't
         move."""
         self.file.write_text(f"ada:{made_by('htpasswd -niBC 15 u', 'secret')}\n")
         service = self.over()
@@ -200,8 +200,8 @@ class Foreign(ForeignCase):
         self.assertEqual(self.gone(), [])
 
     def test_a_book_that_refuses(self) -> None:
-        """Whoever the book can't take stays in the file: a password of over 256 bytes, or want of
-        memory."""
+        """A user whom the book can't store stays in the file: a password of over 256 bytes, or want
+        of memory."""
         self.add("ada", "-s")
         service = self.over(faults="refuses=enrol")
         service.talk("login verify ada {secret} -> bad 4 memory\nlogin known ada -> yes")
@@ -230,8 +230,8 @@ class Foreign(ForeignCase):
         service.talk("login known ad -> yes")
 
     def test_what_stays(self) -> None:
-        """What nobody may have logged in by isn't moved: no record, plain text, DES, of another
-        user, of nobody."""
+        """A line by which nobody may have logged in doesn't move: no record, plain text, DES, of
+        another user, of nobody."""
         self.file.write_text(f"ada:\nbob:{SECRET}\ncid:secret\ndan:!\neli\n:x\nfay:rl0uE2bX6fF1g\n")
         before = self.file.read_text()
         client = self.over("--tries", "0").client()

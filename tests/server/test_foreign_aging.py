@@ -109,7 +109,7 @@ class ForeignAging(ForeignCase):
         )
 
     def test_changed_at_once(self) -> None:
-        """Who must change may do so by the first line, and an administrator's `reset` is a
+        """A user who must change may do so by the first line, and an administrator's `reset` is a
         change."""
         record = made_by(MAKERS["sha512crypt"], "secret")
         self.file.write_text("".join(f"{it}:{record}:0:0:99999:7:::\n" for it in ("ada", "bob")))

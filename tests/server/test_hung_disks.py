@@ -57,7 +57,7 @@ def has_ended(pid: int) -> bool:
 
 
 def notes(path: pathlib.Path) -> int:
-    """How many whole lines an audit log has."""
+    """The number of whole lines of an audit log."""
     whole, _, _ = path.read_text().rpartition("\n")
     return len([json.loads(line) for line in whole.splitlines()])
 

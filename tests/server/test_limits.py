@@ -95,7 +95,8 @@ class Limits(Case):
         service.process.kill()
 
     def test_lines_of_who_has_gone(self) -> None:
-        """What a client left behind that changes nothing is never asked; changes are made."""
+        """A line that a client left behind is never asked if it changes nothing; changes are
+        done."""
         service = self.serving("--at-once", "1", "--tries", "0", faults="slow=0.2")
         service.enrol(ada="secret")
         with service.client("admin") as client:
@@ -121,8 +122,8 @@ class Limits(Case):
         self.assertLess(service.asked().count("verify left -"), 5)
 
     def test_changes_together(self) -> None:
-        """Where a change mostly waits for the disk, many are at the book at once, and leave room
-        for others."""
+        """If a change mostly waits for the disk, many are at the book at once, and leave room for
+        others."""
         service = self.serving("--at-once", "4", "--tries", "0", faults="mute=change")
         service.enrol(ada="secret")
         client = service.client()
@@ -224,7 +225,7 @@ class Limits(Case):
         self.assertEqual(waits.line(), b"a noaccount", "0 is no limit")
 
     def test_slow_readers(self) -> None:
-        """Who doesn't read its answers is held back, and costs others nothing; then it is
+        """A client that doesn't read its answers is held back, and costs others nothing; then it is
         closed."""
         service = self.serving("--idle", "2", "--at-once", "2")
         for number in range(100):

@@ -30,7 +30,7 @@ def install_stack(*more: str) -> None:
 
 @contextlib.contextmanager
 def logged() -> Iterator[list[str]]:
-    """What programs log by syslog meanwhile."""
+    """The lines that programs log by syslog meanwhile."""
     lines: list[str] = []
     with socket.socket(socket.AF_UNIX, socket.SOCK_DGRAM) as it:
         it.bind("/dev/log")
@@ -95,8 +95,8 @@ class Logins(Case):
 
     @in_namespaces
     def test_local_users(self, room: pathlib.Path) -> None:
-        """Who isn't in the book and types the right password is let in each time, and logged as no
-        failed try."""
+        """A user outside of the book who types the right password is let in each time, and logged
+        as no failed try."""
         need("pamtester")
         started(room)
         install_stack()

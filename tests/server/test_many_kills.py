@@ -46,7 +46,7 @@ DONE = {
 
 
 def row_after(word: str, row: Optional[str]) -> Optional[str]:
-    """What an operation that is done leaves of a row."""
+    """The row that an operation leaves."""
     marks = (row or "").rstrip("$")
     lock = "!" if "!" in marks else ""
     if word == "delete":
@@ -190,8 +190,7 @@ class ManyKills(Case):
     seconds = 20 * max(KILLS, 30)
 
     def test_nothing_is_lost(self) -> None:
-        """What was answered is there after each kill, and what wasn't is there whole or not at
-        all."""
+        """An answered change is kept after each kill, and another is kept whole or not at all."""
         program, folder = chosen_book(), self.room()
         costs = () if program == FAST_BOOK else ("--setting", CHEAP)
         given = Given(folder, ("--tries", "0", *costs), program=program)
@@ -270,7 +269,7 @@ class EachSync(Case):
         print(f"{number - 2} syncs at which it was killed")
 
     def kill_at(self, number: int, program: pathlib.Path, folder: pathlib.Path, record: str) -> int:
-        """How many lines are answered, and the import behind them, if it is killed there."""
+        """The number of answered lines, and the import behind them, if it is killed there."""
         wrapper = folder / "killed"
         wrapper.write_text(KILLED_AT.format(number=number, program=program))
         wrapper.chmod(0o755)

@@ -55,7 +55,8 @@ PLAIN, DUE = "", ":0:0:99999:7:::"  # behind a record in the file; the second mu
 
 @dataclass(frozen=True)
 class Beginning:
-    """What the file has behind ada's record, the book's row of ada, and what HTPASSWD.moved has."""
+    """The file's text behind ada's record, the book's row of ada, and the lines of
+    HTPASSWD.moved."""
 
     fields: str = PLAIN
     row: Optional[str] = None  # with `RECORD` for that of ada's password
@@ -97,7 +98,7 @@ def stated(row: str) -> str:
 
 @dataclass
 class Left:
-    """What is on the disks: the book, and the marks in HTPASSWD.moved."""
+    """The contents of the disks: the book, and the marks in HTPASSWD.moved."""
 
     accounts: Accounts
     moved: set[tuple[bytes, bytes]]
@@ -120,7 +121,7 @@ class Left:
 
 @dataclass
 class Steps:
-    """What the book and the disk were asked for and haven't done; a choice says which is next."""
+    """The requests that the book and the disk haven't done; a choice says which is next."""
 
     waiting: list[tuple[Any, asyncio.Future[Any]]] = field(default_factory=list)
 
@@ -131,8 +132,8 @@ class Steps:
         return done
 
     async def finish(self, choices: list[int], most: float = float("inf")) -> list[int]:
-        """Takes the first that waits, or another as the choices say, until a kill behind so many;
-        returns how many there were each time."""
+        """Does the first waiting request, or another as the choices say, until a kill behind so
+        many; returns the numbers of waiting ones."""
         counts = list[int]()
         while len(counts) < most and await self.settled():
             choice = choices[len(counts)] if len(counts) < len(choices) else 0
@@ -196,7 +197,7 @@ class Server:
 
 @dataclass(frozen=True)
 class Outcome:
-    """What lines were answered, or nothing; and the answers to the probes behind them."""
+    """The answers to lines, or nothing; and the answers to the probes behind them."""
 
     answers: tuple[tuple[str, Optional[bytes]], ...]
     probes: tuple[bytes, ...]
@@ -216,8 +217,8 @@ ENDS_DUE = {"change", "reset", "disable", "delete", "rename"}
 
 
 def broken_law(beginning: Beginning, lines: tuple[str, ...], outcome: Outcome) -> str:
-    """What must hold whatever the server makes of the lines: who is locked isn't let in, and the
-    password that must be changed neither, but by a line that ends that."""
+    """The facts that hold in each order of the lines: a locked user isn't let in, nor a password
+    that must be changed, but by a line that ends that."""
     operations = {it.split(" ")[0] for it in lines if not it.endswith(f"{SECRET} {SECRET}")}
     known, right = outcome.probes[:2]
     has_lock = (beginning.row or "").startswith("!")
@@ -239,7 +240,7 @@ class Play:
     known: dict[State, tuple[bytes, ...]] = field(default_factory=dict)
 
     async def probes(self, left: Left) -> tuple[bytes, ...]:
-        """What the probes are answered, which take what is left."""
+        """The answers to the probes, which use up `left`."""
         state = left.state()
         if state not in self.known:
             server = Server(self.path, left, NoSteps())
@@ -247,7 +248,7 @@ class Play:
         return self.known[state]
 
     async def in_turn(self, lines: tuple[str, ...]) -> Outcome:
-        """What comes of lines that go one behind the other."""
+        """The results of lines one behind the other."""
         left = self.beginning.left()
         server = Server(self.path, left, NoSteps())
         answers = tuple([(it, await server.ask(it)) for it in lines])
@@ -256,7 +257,7 @@ class Play:
     async def at_once(
         self, lines: tuple[str, ...], choices: list[int], most: float
     ) -> tuple[Outcome, list[int]]:
-        """What comes of lines that are open together, with a kill behind so many steps."""
+        """The results of lines that are open together, with a kill behind so many steps."""
         left = self.beginning.left()
         server = Server(self.path, left, Steps())
         tasks = [server.begin(it) for it in lines]

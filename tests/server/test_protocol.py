@@ -28,7 +28,7 @@ def stands(word: str, text: str) -> bool:
 
 class Answers(Case):
     def test_written_files(self) -> None:
-        """What tools/protocol.py writes is of the table, also after an answer more."""
+        """The output of tools/protocol.py is of the table, also after an answer more."""
         run("python3", TOP / "tools/protocol.py")
         with mock.patch.dict(ANSWERS, {"unheard": Answer("it is new", reply="UNHEARD")}):
             texts = {path.name: text for path, text in protocol.texts()}

@@ -21,7 +21,7 @@ from tests.ports import free_port
 
 
 def noted(path: pathlib.Path) -> list[dict[str, object]]:
-    """What an audit log has."""
+    """The lines of an audit log."""
     return [json.loads(line) for line in path.read_text().splitlines()]
 
 

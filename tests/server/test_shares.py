@@ -57,7 +57,7 @@ class Floods(Case):
                 self.assertLess(self.answers(clients, answer), 100 * 200, "each had its turn")
 
     def answers(self, clients: list[Client], answer: bytes) -> int:
-        """How many answers came, each of which is this one."""
+        """The number of answers, each of which is this one."""
         count = 0
         for client in clients:
             with contextlib.suppress(BlockingIOError):
@@ -184,7 +184,7 @@ class Floods(Case):
         many = [f"user {number}" for number in range(20) for _ in range(16)]
 
         async def are_let_in(*others: str) -> list[int]:
-            """How many of each come in, once many users have what they get."""
+            """The numbers of connections of each, once many users have theirs."""
             share_of = mock.Mock(side_effect=[*many, *others])
             few = mock.patch.multiple(doors, MOST_CLIENTS=256, LAST_PLACES=32)
             with few, mock.patch.object(doors, "share_of", share_of):

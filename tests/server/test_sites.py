@@ -80,7 +80,7 @@ def run_dovecot(*changes: tuple[str, str]) -> None:
 
 
 def remove_system_users() -> None:
-    """What the page has removed of Dovecot's own configuration."""
+    """The lines of Dovecot's own configuration that the page removes."""
     (line, path) = re.findall(r"`(!include\s\S+)` from (\S+),", PAGE.read_text())[0]
     own = pathlib.Path(path)
     own.write_text(own.read_text().replace(" ".join(line.split()), ""))
@@ -135,7 +135,7 @@ def install_pages() -> None:
 
 
 def fetched(user: str, port: int, count: int = 40) -> dict[int, int]:
-    """How often each status came for so many pictures, on one connection."""
+    """The count of each status for so many pictures, on one connection."""
     url = f"http://127.0.0.1:{port}/[1-{count}].png"
     text = shell(f"curl -s -o /dev/null -w '%{{http_code}}\\n' -u {user} '{url}'")
     return dict(collections.Counter(map(int, text.split())))

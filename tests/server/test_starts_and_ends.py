@@ -49,8 +49,8 @@ class Starting(Case):
         self.assertEqual([it for it in service.log().splitlines() if not own.match(it)], [])
 
     def test_a_systemd_that_isnt_there(self) -> None:
-        """What its environment can't mean is passed over, and a socket that nobody reads is named
-        in the log."""
+        """A value that the environment can't mean is passed over, and a socket that nobody reads is
+        named in the log."""
         for usec in ("x", "0", "-1", "", "9" * 400):
             given = {"NOTIFY_SOCKET": f"{self.room()}/none", "WATCHDOG_USEC": usec}
             service = self.serving(environment=given)
@@ -104,7 +104,8 @@ class Endings(Case):
             self.assertIn(f"end: status {ought}", log)
 
     def test_unread_answers(self) -> None:
-        """Whoever leaves answers unread delays the end by a moment, and the book ends by itself."""
+        """A client that leaves answers unread delays the end by a moment, and the book ends by
+        itself."""
         for lines in ("a known ada\n" * 1000, "a list\n" * 300, "\n" * 900):
             service = self.serving()
             client = service.client()
@@ -154,7 +155,8 @@ class Endings(Case):
             self.assertEqual((is_killed, status), (is_stopped, 128 + 9 if is_stopped else 0))
 
     def test_listening_fails(self) -> None:
-        """What can't be listened at ends it with a cause, and the book in order."""
+        """An address that can't be listened at ends the server with a cause, and the book in
+        order."""
         need("systemd-socket-activate")
         for option, name, said in (
             ("--datagram", "admin", "systemd handed over no stream socket with the name login"),
@@ -243,6 +245,6 @@ class Systemd(Case):
             self.assertTrue((room / "login.handed").exists(), "systemd's socket is gone")
 
     def test_sockets_of_another_process(self) -> None:
-        """What systemd hands to another process isn't taken."""
+        """A socket that systemd hands to another process isn't used."""
         others = {"LISTEN_PID": "1", "LISTEN_FDS": "2", "LISTEN_FDNAMES": "login:admin"}
         self.serving(environment=others).client().talk("known ada -> noaccount")

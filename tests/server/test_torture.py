@@ -33,7 +33,7 @@ LOGIN = frozenset(("verify", "change"))
 
 
 class Log:
-    """What was asked, and what was answered, of each account."""
+    """The questions and the answers of each account."""
 
     def __init__(self) -> None:
         self.operations: dict[str, list[Operation]] = {name: [] for name in NAMES}
@@ -100,7 +100,7 @@ class Asking:
         self.log.note(name, operation, said)
 
     def answer(self, door: str, line: str) -> Optional[str]:
-        """What is answered, or none if the connection ends first."""
+        """The answer, or none if the connection ends first."""
         while door not in self.clients:
             try:
                 self.clients[door] = Client(self.folder / f"{door}.sock")
@@ -142,7 +142,7 @@ def surely_stood(operations: list[Operation]) -> dict[Optional[str], tuple[float
 
 
 def judged(service: Service, log: Log) -> int:
-    """How many operations have a legal history; Illegal if they have none."""
+    """The number of operations of a legal history; Illegal if they have none."""
     for name in NAMES:
         last, operations = stands(service, log, name), log.operations[name]
         end = Operation.end(last, time.monotonic())
@@ -157,7 +157,7 @@ def judged(service: Service, log: Log) -> int:
 
 
 def tortured(given: Given, seconds: float, kills: int) -> int:
-    """How many operations had a legal history, while so many kills were done."""
+    """The number of operations of a legal history, with so many kills."""
     chance, log, service = random.Random(SEED), Log(), given.begun().wait_until_started()
     try:
         service.talk("".join(f"admin account {name} -> ok\n" for name in NAMES))
@@ -181,7 +181,7 @@ class Torture(Case):
     seconds = 30 * SECONDS
 
     def test_killed(self) -> None:
-        """What was answered has one legal history, whatever is killed."""
+        """The answers have one legal history, whatever is killed."""
         program, kills = chosen_book(), SECONDS // 3
         costs = () if program == FAST_BOOK else ("--setting", CHEAP)
         options = ("--tries", "0", "--at-once", "8", *costs)

@@ -63,7 +63,7 @@ ODD_TEXTS: dict[str, tuple[bytes, int, int]] = {
 
 class Imports(TransferCase):
     def test_failed_tries(self) -> None:
-        """What was counted before ends with the book's process: as many may fail again."""
+        """The earlier counts end with the book's process: as many may fail again."""
         service = self.over("--tries", "2")
         service.guess("ada", 4)
         service.talk("login verify ada {secret} -> later")
@@ -141,7 +141,7 @@ class Imports(TransferCase):
                 self.assertEqual(admin.ask("known ada"), "yes")
 
     def test_who_may(self) -> None:
-        """Who may ask the administrator's socket; nobody at another one."""
+        """The users who may ask the administrator's socket; nobody at another one."""
         service = self.over()
         for words in (["import"], ["export"], ["backup", f"{self.room()}/copy.db"]):
             with self.subTest(words=words):
@@ -155,7 +155,7 @@ class Imports(TransferCase):
             self.assertEqual((done.status, done.written), (5, ""))
 
     def test_odd_texts(self) -> None:
-        """What isn't lines of accounts is named by credkeep, and changes nothing."""
+        """credkeep names a text that isn't lines of accounts, which changes nothing."""
         service = self.over()
         admin = service.client("admin")
         for what, (text, status, added) in ODD_TEXTS.items():

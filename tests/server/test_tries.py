@@ -132,8 +132,8 @@ class Tries(Case):
         client.talk("verify Ada@example.org {secret} -> noaccount")
 
     def test_listed_and_logged(self) -> None:
-        """Who has to wait is listed and logged, and can be forgiven; a wait's begin and end are a
-        line each."""
+        """A user who has to wait is listed and logged, and can be forgiven; a wait's begin and end
+        are a line each."""
         service = self.serving("--tries", "2", clocked=True)
         service.enrol(ada="secret", bob="secret", cid="secret")
         for name, count in (("ada", 2), ("bob", 2), ("cid", 1)):

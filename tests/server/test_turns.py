@@ -22,13 +22,13 @@ class Waiting(IsolatedAsyncioTestCase):
         self.users, self.waiting = dict[str, int](), dict[str, asyncio.Future[None]]()
 
     def take(self, places: Places, user: int, letters: str) -> str:
-        """What is taken as a user wants so many."""
+        """The places that a user gets who wants so many."""
         for letter in letters:
             self.users[letter], self.waiting[letter] = user, places.take(user)
         return self.released(places, "")
 
     def released(self, places: Places, letters: str) -> str:
-        """What is taken once these are free."""
+        """The places in use once these are free."""
         for letter in letters:
             places.release(self.users[letter])
         taken = [letter for letter, place in self.waiting.items() if place.done()]
@@ -62,7 +62,7 @@ class Waiting(IsolatedAsyncioTestCase):
         self.assertEqual(said, "-Ax!ByC")
 
     async def test_an_end(self) -> None:
-        """Whoever is cancelled as it waits takes no place."""
+        """A user who is cancelled in the wait gets no place."""
         places = Places(3)
         self.take(places, 1, "abcde")
         for letter in "cd":
@@ -167,7 +167,7 @@ class Changes(Case):
         self.played(("A", 1, 30, "A"), ("B", 0, 0, "B"), *[("", 0, 0, "")] * 5, ("", 1, 100, ""))
 
     def test_the_last_login_ends(self) -> None:
-        """What waits goes on at once when nobody logs in any more."""
+        """A waiting change goes on at once when nobody logs in any more."""
         self.played(("AbcD", 0, 0, "A"), ("-", 1, 0, "bcD"))
 
     def test_an_older_rest_ends(self) -> None:

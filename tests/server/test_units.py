@@ -103,8 +103,8 @@ class Units(Case):
         self.assertIn(line, unit.splitlines())
 
     def test_system_calls(self) -> None:
-        """What the server and the book call of the system is within what the unit allows, or isn't
-        needed: it is refused here too."""
+        """The system calls of the server and the book are those that the unit allows, or aren't
+        needed: they are refused here too."""
         need("strace", "systemd-analyze", "systemd-socket-activate")
         room = self.room()
         (room / "old").write_text("bob:{SHA}5en6G6MezRroT3XKqkdPOmY/BfQ=\n")

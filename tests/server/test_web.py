@@ -80,7 +80,7 @@ class Web(Case):
         return self.serving("--http", f"{room}/http.sock", *options, folder=room, **fields)
 
     def raw(self, service: Service, text: bytes) -> bytes:
-        """What comes for these bytes, until the server closes."""
+        """The answer to these bytes, until the server closes."""
         with socket.socket(socket.AF_UNIX) as it:
             it.settimeout(30)
             it.connect(str(service.path("http")))
@@ -180,7 +180,7 @@ class Web(Case):
         self.assertEqual(service.stats()["no"], 5)
 
     def test_requests(self) -> None:
-        """What is no request, or too much of one, is refused, and its connection closed."""
+        """A text that is no request, or too much of one, is refused, and its connection closed."""
         service = self.serving_web().enrol(ada="secret")
         login = RIGHT
         for text, statuses in (
@@ -232,7 +232,7 @@ class Web(Case):
         self.assertEqual(client.getresponse().status, 503)
 
     def test_requests_of_who_has_gone(self) -> None:
-        """What is asked over a connection that was closed meanwhile is never hashed."""
+        """A request over a connection that was closed meanwhile is never hashed."""
         service = self.serving_web("--tries", "0", "--at-once", "1", faults="slow=0.2")
         service.enrol(ada="secret")
         head = b"GET / HTTP/1.1\r\nHost: a\r\nAuthorization: " + basic(b"left", b"") + b"\r\n\r\n"

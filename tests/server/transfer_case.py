@@ -1,4 +1,4 @@
-"""What the tests of imports, exports and backups share."""
+"""The parts that the tests of imports, exports and backups share."""
 
 import os
 import subprocess
@@ -25,7 +25,7 @@ class TransferCase(Case):
         return self.serving(*costs, *options, program=program, **fields).enrol(ada="secret")
 
     def ask(self, service: Service, *words: str, given: bytes = b"", door: str = "admin") -> Ended:
-        """How credkeep-ask ends."""
+        """The end of credkeep-ask."""
         command = [ASK, "--server", str(service.path(door)), *words]
         environment = {**os.environ, "CREDKEEP": str(chosen_book())}
         done = subprocess.run(

@@ -1,5 +1,5 @@
-"""What a new user types in an empty Debian that has booted, as docs/SERVERS.md tells him:
-test_booted.py runs it there."""
+"""The commands of a new user in an empty Debian that has booted, by docs/SERVERS.md: test_booted.py
+runs it there."""
 
 import pathlib
 import re
@@ -25,7 +25,7 @@ def block(title: str, word: str) -> list[str]:
 
 
 def packages(title: str) -> str:
-    """What a part of the page needs."""
+    """The needs of a part of the page."""
     (names,) = re.findall(r"^Packages?: ([^.;]+)[.;]", part(title), re.M)
     return names.replace(",", "")
 
@@ -38,7 +38,7 @@ class Walk(Case):
     seconds = 600
 
     def type(self, line: str, *typed: str, status: int = 0) -> str:
-        """What a line says at a terminal where so much is typed, and no more."""
+        """The output of a line at a terminal where so much is typed, and no more."""
         shown = at_a_terminal(["sh", "-c", line], [f"{it}\n".encode() for it in typed])
         said = shown.text.decode()
         self.assertEqual(shown.status, status, f"{line}: {said}")

@@ -53,7 +53,7 @@ mv linked "$last"
 
 class Clock(unittest.TestCase):
     def rest(self, below, done, running):
-        """What is left of crates of 600 s each."""
+        """The time left of crates of 600 s each."""
         known = mock.patch.multiple(
             build, below=below.get, expected=lambda _: 600, tell_each=mock.Mock()
         )
@@ -128,7 +128,7 @@ class Build(Case):
         self.assertEqual(asked[-1], "program")
 
     def told(self, *words):
-        """What a build tells; its first crates go on once it has told of them."""
+        """The progress of a build; its first crates go on once it has named them."""
         lines, go = [], self.top / "go"
         env = {**self.env, "GO": str(go)}
         with subprocess.Popen(
@@ -157,8 +157,8 @@ class Build(Case):
         )
 
     def test_clock(self):
-        """What took longer the last time is expected to take as long; what runs counts by its own
-        time."""
+        """A crate that took longer the last time is expected to take as long; a running one counts
+        by its own time."""
         last = {"low": 600, "other": 1200, "high": 600, "program": 60}
         write_files(
             self.top, {f"crates/{it}/out/seconds": f"{seconds}\n" for it, seconds in last.items()}
@@ -173,7 +173,7 @@ class Build(Case):
         self.assertEqual(json.loads((self.top / "tools/build_seconds.json").read_text()), seconds)
 
     def test_clock_of_others(self):
-        """Where nothing was built yet, what others noted is expected."""
+        """If nothing was built yet, the noted times of others are expected."""
         write_files(
             self.top, {"tools/build_seconds.json": '{"low": 600, "other": 1200, "high": 600}'}
         )
@@ -182,7 +182,7 @@ class Build(Case):
         )
 
     def test_built(self):
-        """What is built is taken as it is, until a source, the level or the program changes."""
+        """A built program is used as it is, until a source, the level or the program changes."""
         self.assertEqual(self.build("--built", "--cpu", "x86-64", "program").status, 1)
         self.assertEqual(self.asked(), [])
         self.build("--cpu", "x86-64", "program")
@@ -199,8 +199,8 @@ class Build(Case):
         self.assertEqual(self.build("--built", "--cpu", "x86-64", "program").status, 1)
 
     def test_arm64(self):
-        """What was proved for that processor is linked with what the toolchain lacks for it, beside
-        the program for this one."""
+        """The code that was proved for that processor is linked with the parts that the toolchain
+        lacks for it, beside the program for this one."""
         built, other = (self.top / "crates/program/out" / it for it in ("arm64/program", "program"))
         self.build("--cpu", "x86-64", "program")
         for said in ("", PROVED.replace("proved", "assumed"), PROVED.replace("aarch64", "x86_64")):
@@ -255,8 +255,8 @@ class Build(Case):
         self.asked()
 
     def test_without_rt(self):
-        """Where rt is missing a C compiler links the object that is packed for the level, if it is
-        of these sources."""
+        """Without rt a C compiler links the object that is packed for the level, if it is of these
+        sources."""
         self.packed()
         without = {"RT": "no-such-rt", "CC": "aarch64-linux-gnu-gcc"}
         self.assertEqual(self.build("--built", "--cpu", "x86-64", "program", **without).status, 1)

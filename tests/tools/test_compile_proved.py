@@ -46,7 +46,7 @@ def module(level="x86-64-v3", prefetch=EMPTY, inlined=INLINED):
 
 class Build(helpers.Case):
     def built(self, status=0, level="x86-64-v4", text=module(), **env):
-        """What it says and writes, over a toolchain that does so."""
+        """Its messages and its output, over a toolchain that does so."""
         room = self.room()
         page, clang = f"#!/bin/sh\necho {room}/START-HERE.md\n", "toolchain/bin/clang"
         files = {"rt": page, "bin/rattle": RATTLE, clang: CLANG, "module": text}
@@ -120,8 +120,8 @@ class Build(helpers.Case):
         ("another processor", {"SAID": PROVED.replace("x86_64", "aarch64")}, "aarch64"),
     )
     def test_refusals(self, name, env, reason):
-        """What isn't proved, or isn't compiled for that level, is no library: the status says so,
-        and the last line why."""
+        """Code that isn't proved, or isn't compiled for that level, is no library: the status says
+        so, and the last line why."""
         said, _, _ = self.built(status=1, **env)
         self.assertIn(reason, said)
         self.assertTrue(

@@ -172,7 +172,7 @@ class Completions(Case):
                     self.assertNotRegex(shown, r"\badd\b|\bada\b.*\bann\b")
 
     def typed_to_zsh(self, line):
-        """What zsh shows after a line and the key Tab, twice."""
+        """The lines of zsh after a line and the key Tab, twice."""
         (self.at / ".zshrc").write_text(ZSHRC.format(self.folders[1]))
         pid, terminal = pty.fork()
         if pid == 0:

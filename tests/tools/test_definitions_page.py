@@ -157,7 +157,7 @@ class DefinitionsPage(Case):
         ("low/specs/Sizes.antt", "-- Sizes, and", "-- Sizes and"),
     )
     def test_same(self, file: str, old: str, new: str) -> None:
-        """What no block has changes none."""
+        """A definition that no block has changes none."""
         self.write_and_change(file, old, new)
         self.assertEqual(self.told(), (0, AS_THEY_ARE))
 

@@ -1,4 +1,4 @@
-"""How all Python of the tree is laid out: black by pyproject.toml, and what needs no program."""
+"""The layout of all Python of the tree: black by pyproject.toml, and tests that need no program."""
 
 import ast
 import pathlib

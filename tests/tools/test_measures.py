@@ -1,4 +1,4 @@
-"""What the figures rest on: bench/turns.py and bench/c/libraries.py."""
+"""The code that the figures rest on: bench/turns.py and bench/c/libraries.py."""
 
 import pathlib
 import sys
@@ -54,7 +54,7 @@ class Libraries(unittest.TestCase):
 
 
 class Pages(Case):
-    """What bench/c/run.py has of huge pages, in a process that maps 16 MiB and asks for none."""
+    """bench/c/run.py's count of huge pages, in a process that maps 16 MiB and asks for none."""
 
     MAPS = """
 import mmap, sys

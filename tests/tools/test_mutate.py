@@ -274,7 +274,7 @@ class Mutate(Case):
         )
 
     def test_counts(self):
-        """What doesn't compile is counted apart, and the file stays as it was."""
+        """A change that doesn't compile is counted apart, and the file stays as it was."""
         source = "int f(void) {\n    int list[2 - 1] = {0};\n    return list[0];\n}"
         done = self.mutate("m.c", source, in_c("f() || 1"), "--build", "cc -fsyntax-only m.c")
         self.assertRegex(

@@ -288,7 +288,7 @@ class Statements(Case):
         return done.status, done.written.splitlines()
 
     def replace(self, name: str, old: str, new: str) -> None:
-        """Puts one text for another that the file has once."""
+        """Replaces a text that the file has once by another."""
         file = self.top / "crates" / name
         text = file.read_text()
         self.assertEqual(text.count(old), 1, f"{name}: {old}")

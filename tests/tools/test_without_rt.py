@@ -1,5 +1,5 @@
-"""What the commands of the tree say where the toolchain isn't there, in a clean copy: each that
-needs rt looks for it first. tests/packages tries what a C compiler builds then."""
+"""The messages of the tree's commands without the toolchain, in a clean copy: each that needs rt
+looks for it first. tests/packages tries what a C compiler builds then."""
 
 import os
 import pathlib
@@ -63,7 +63,7 @@ class WithoutRt(helpers.Case):
         subprocess.run(["git", "add", "."], cwd=cls.top, check=True)
 
     def ended(self, command: str) -> helpers.Ended:
-        """How a command ends in the copy, where `python` is this one."""
+        """The end of a command in the copy, where `python` is this one."""
         words = [sys.executable if it == "python" else it for it in command.split()]
         env = {"PATH": PATH, "HOME": str(self.room()), "LANG": "C.UTF-8"}
         return ended(words, cwd=self.top, env=env)
@@ -80,7 +80,7 @@ class WithoutRt(helpers.Case):
         return [it.format(top=self.top) for it in heads]
 
     def test_pages(self) -> None:
-        """What the toolchain tells is left out, and named; the rest is compared."""
+        """The parts that need the toolchain are left out, and named; the rest is compared."""
         lines = self.ended("python tools/pages.py").written.splitlines()
         self.assertRegex(lines[-1], r"^\d{4} passed, \d+ failed, 2 left out$")
         left_out = [it for it in lines if it.startswith("left out, as rt isn't there: ")]

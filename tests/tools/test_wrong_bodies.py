@@ -91,8 +91,8 @@ class WrongBodies(Case):
         self.assertEqual(self.tried("high"), (0, self.refused(*EDITS), 5))
 
     def test_sums(self):
-        """What was refused is tried again if it's named, or if its crate, a wrong body of the
-        crate, or what can be cited below has changed, but not for a comment."""
+        """A refused body is tried again if it's named, or if its crate, a wrong body of the crate,
+        or an item that can be cited below has changed, but not for a comment."""
         self.assertEqual(self.tried()[1], self.refused(*EDITS))
         self.assertEqual(self.tried(), (0, self.refused("one"), 2))
         self.assertEqual(self.tried("--all")[1], self.refused(*EDITS))

@@ -45,7 +45,7 @@ class Case(helpers.Case):
     def check(
         self, answer: bytes, ought: Pam, *lines: bytes, task: str = "authenticate", **question: Any
     ) -> "Said":
-        """What a task comes to if each line gets the same answer, and the lines that it sends."""
+        """The result of a task if each line gets the same answer, and the lines that it sends."""
         said, sent = said_at(answer, Question(tasks=task, **question))
         what = f"{task} {answer!r:.40} {question!r:.200}"
         self.assertEqual((said.codes, sent), ([ought], list(lines)), what)
@@ -85,7 +85,7 @@ VALGRIND = Build(
 
 @dataclass
 class Said:
-    """What a run of the driver printed."""
+    """The output of a run of the driver."""
 
     results: list[tuple[str, int]] = field(default_factory=list)
     prompts: list[str] = field(default_factory=list)
@@ -114,7 +114,7 @@ class Question:
 
 
 def asked(question: Question, path: pathlib.Path) -> Said:
-    """What the driver says of a question at a socket."""
+    """The driver's answer to a question at a socket."""
     module = question.build.module()
     options = f"socket={path} timeout=60 {question.options}"
     default = "".join(
@@ -152,7 +152,7 @@ def asked(question: Question, path: pathlib.Path) -> Said:
 
 
 def found_in(pid: int, needles: Sequence[bytes]) -> list[int]:
-    """How often each of these is in the memory of a process that may be written."""
+    """The number of places of each of these in the writable memory of a process."""
     parts = [*helpers.memory_of(pid, "w")]
     return [sum(part.count(it) for part in parts) for it in needles]
 
@@ -171,7 +171,7 @@ def answers(**words: bytes) -> Callable[[bytes, socket.socket], None]:
 
 
 def said_at(answer: bytes, question: Question) -> tuple[Said, list[bytes]]:
-    """What a question comes to if each line gets the same answer, and the lines."""
+    """The result of a question if each line gets the same answer, and the lines."""
     with peer(sends(answer)) as it:
         return asked(question, it.path), it.lines
 

@@ -53,12 +53,13 @@ class Answers(Case):
         self.assertEqual(said.prompts, [])
 
     def test_all_answers(self) -> None:
-        """What comes of a password at each answer that the server has."""
+        """The results of a password at each answer that the server has."""
         for answer, meaning in importlib.import_module("daemon.protocol").ANSWERS.items():
             self.check(f"1 {answer}\n".encode(), Pam[meaning.pam], VERIFY)
 
     def test_no_answers(self) -> None:
-        """What isn't exactly an answer to this line lets nobody in, and lets the stack go on."""
+        """Text that isn't exactly an answer to this line lets nobody in, and lets the stack go
+        on."""
         for answer in sorted(NO_ANSWERS):
             self.check(answer, Pam.AUTHINFO_UNAVAIL, VERIFY, options="debug timeout=2")
         for answer in (YES, b"1 no\n2 replaced\n", b"1 enrolled\n"):
@@ -188,7 +189,7 @@ class Answers(Case):
             it.close()
 
     def test_no_server(self) -> None:
-        """Where no server is, the result is that the information isn't available, and at once."""
+        """Without a server the result is that the information isn't available, and at once."""
         plain = ROOM / "plain-file"
         plain.write_text("")
         gone = peer(sends(b""))

@@ -15,7 +15,7 @@ LONGEST = (b"x" * 256, b"y" * 256, b"y" * 256)
 def changed(
     given: Sequence[bytes], verify: bytes = b"yes", change: bytes = b"replaced", **question: Any
 ) -> tuple[Said, list[bytes]]:
-    """What a change comes to at a peer that answers each operation in its way."""
+    """The results of a change at a peer that answers each operation in its way."""
     with peer(answers(verify=b"1 " + verify + b"\n", change=b"1 " + change + b"\n")) as it:
         said = asked(Question(tasks="change", answers=given, **question), it.path)
         return said, [line for line in it.lines if not line.startswith(b"1 known ")]
@@ -116,7 +116,7 @@ class Changes(Case):
             self.assertEqual((said.codes, sent[1:]), ([Pam.SUCCESS], [line]))
 
     def test_expired_passwords(self) -> None:
-        """Where the book's needn't be changed the new one is asked for, and is for the next
+        """If the book's password needn't be changed, the module asks for the new one, for the next
         module."""
         service = "password [ignore={} default=die] {{module}}\npassword required pam_{}.so\n"
         prompts = ["New password: ", "Retype new password: "]

@@ -14,7 +14,7 @@ struct stored {
     unsigned char masks[MASKS * MASK_SIZE];       /* p0 to p15 and FFR */
 };
 
-/* How many bytes each has. */
+/* The size of each in bytes. */
 struct vectors {
     size_t size;
     bool has_masks;

@@ -25,7 +25,7 @@ struct stored {
 #define STORE_WIDEST(n) __asm__ volatile("vmovups %%zmm" #n ", %0" : "=m"(to->vectors[n]));
 #define STORE_MASK(n) __asm__ volatile("kmovw %%k" #n ", %0" : "=m"(to->masks[n]));
 
-/* How many vectors there are, and how many bytes each has. */
+/* The number of vectors, and the size of each in bytes. */
 struct vectors {
     int count;
     size_t size;

@@ -51,7 +51,7 @@ class Rows:
         return self._changed("DELETE FROM {t} WHERE {k} = {m}", key)
 
     def rename(self, key: Key, new: Key) -> bool:
-        """Gives the account another name; False if it doesn't exist.
+        """Renames the account; False if it doesn't exist.
 
         The driver's IntegrityError says that another account has the name.
         """
@@ -168,7 +168,7 @@ class Import:
         return words
 
     def _by_copy(self, session: Session, batch: Sequence[Line]) -> Optional[list[str]]:
-        """Puts a large batch in the engine's own way; None if it has none, or refuses it."""
+        """Writes a large batch in the engine's own way; None if it has none, or refuses it."""
         if len(batch) <= SHARE or not self.copies:
             return None
         try:
@@ -181,9 +181,9 @@ class Import:
         return None
 
     def _by_shares(self, session: Session, batch: Sequence[Line]) -> list[str]:
-        """Puts a batch by large statements: as if all names were new, and then without that.
+        """Writes a batch by large statements: as if all names were new, and then without that.
 
-        If both fail, it puts line by line, which shows the account at fault.
+        If both fail, it writes line by line, which shows the account at fault.
         """
         # In the order of the names, which is the index's: its pages are read once each.
         lines = sorted(batch, key=_KEY)
@@ -202,7 +202,7 @@ class Import:
         return words if len({*words}) == 1 else _as_they_came(batch, words)
 
     def _put_at_once(self, session: Session, share: Sequence[Line]) -> list[str]:
-        """Puts some lines by a few statements; StoreFault if their rows have other records."""
+        """Writes some lines by a few statements; StoreFault if their rows have other records."""
         keys = [] if self.are_new else [key for key, _ in share]
         stands = dict(self._standing(session, keys))
         lines = [it for it in share if stands.get(it[0]) is None] if stands else share

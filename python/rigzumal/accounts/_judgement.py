@@ -225,7 +225,7 @@ class Judge:
         return step(kind, copy, password, new, setting, secret)
 
     def _spend(self, record: str, password: Secret, secrets: Iterable[Optional[bytes]]) -> None:
-        """Makes as many hashes as a wrong password costs."""
+        """Computes as many hashes as a wrong password costs."""
         for secret in secrets:
             is_right(record, password, secret)
 

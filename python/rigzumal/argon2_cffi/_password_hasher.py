@@ -60,16 +60,12 @@ def _parameter(name: str) -> Any:
 
 
 class PasswordHasher:
-    """Makes and verifies encoded hashes of Argon2.
+    """Builds and verifies encoded hashes of Argon2.
 
-    Args:
-        time_cost: passes, 1 or more.
-        memory_cost: in KiB, 8 a lane to 2097152.
-        parallelism: lanes, 1 to 255, and how many threads may work them.
-        hash_len: bytes of the tag, 4 or more.
-        salt_len: bytes of a drawn salt, 8 or more.
-        encoding: of passwords that are text.
-        type: the kind of Argon2.
+    Args: time_cost: passes, 1 or more. memory_cost: in KiB, 8 a lane to 2097152. parallelism:
+    lanes, 1 to 255, and the number of threads that may work them. hash_len: bytes of the tag, 4 or
+    more. salt_len: bytes of a drawn salt, 8 or more. encoding: of passwords that are text. type:
+    the kind of Argon2.
 
     Raises:
         TypeError: a value is of another type.

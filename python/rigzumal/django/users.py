@@ -87,7 +87,7 @@ class CompareAndSetMixin(models.Model):
         super().set_password(raw_password)
 
     def set_unusable_password(self) -> None:
-        """Makes every password wrong, which `save` writes."""
+        """Sets an unusable record, under which every password is wrong; `save` writes it."""
         _ = self.password
         super().set_unusable_password()
 

@@ -139,8 +139,8 @@ def table(engine, url, rows, counts, seconds, turns):
 
 
 def statements(load):
-    """What a login and a change send, and how long each takes: the medians, in ms; and the share of
-    a change under 64 MiB that isn't a hash, in percent."""
+    """The statements of a login and of a change, and the time of each: the medians, in ms; and the
+    share of a change under 64 MiB that isn't a hash, in percent."""
     execute, lines, dear, shares = Session.execute, [], load.over(DEAR), []
 
     async def timed(session, sql, *values):
@@ -179,7 +179,7 @@ def statements(load):
 
 
 def times():
-    """How long a verify takes by what stands, in ms: medians of 60, with 8 MiB."""
+    """The time of a verify by the record in the table, in ms: medians of 60, with 8 MiB."""
     load = Load(SQLITE())
     load.fill()
     accounts, took = load.over(MIDDLE), collections.defaultdict(list)

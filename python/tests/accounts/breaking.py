@@ -1,4 +1,4 @@
-"""What is altered in the accounts of a torture, to see that it is legal or refused."""
+"""Changed parts of the accounts of a torture, whose histories must be legal, or refused."""
 
 import dataclasses
 import functools
@@ -64,7 +64,7 @@ def snapshots(accounts):
 
 
 def unlooked(accounts):
-    """What makes no change is answered at the copy, with no look at the primary."""
+    """An operation without a change is answered at the copy, with no look at the primary."""
     commit = accounts._commit
 
     async def blind(worked, *given):
@@ -87,7 +87,7 @@ class LeavesOpen(PerThread):
 
 
 class Left(BaseException):
-    """What a pool raises as it is interrupted on a connection's way back."""
+    """The exception of a pool that is interrupted on a connection's way back."""
 
 
 class Queue:
@@ -155,7 +155,7 @@ def lossy(accounts, pool=LeavesOpen):
 
 
 def losing(dialect, breaks, may_be_late=False):
-    """What commits loses its answer at times."""
+    """Lets COMMITs lose their answers at times."""
 
     def late(commit, session, *given):
         time.sleep(random.uniform(0, 0.1))

@@ -115,7 +115,8 @@ class OnPostgres(OnServer):
         return servers.psycopg.errors.DeadlockDetected("planted")
 
     def reading(self):
-        """What connects to a standby, as an address that moved early does, and what promotes it."""
+        """The connect of a standby, as an address that moved early has it; and the call that
+        promotes the standby."""
         standby = servers.PostgresServer("standby", self.server).start()
         self.addCleanup(standby.kill)
         return standby.connect, standby.promote
@@ -143,7 +144,7 @@ class OnPostgres(OnServer):
         yield self.connect(row_factory=dict_row)
 
     def of_role(self, grants):
-        """What connects as a role that may do this alone."""
+        """The connect of a role that may do this alone."""
         name = f"looker{next(NUMBERS)}"
         self.execute(f"CREATE ROLE {name} LOGIN")
         self.execute(f"GRANT {grants} ON users TO {name}")
@@ -177,7 +178,7 @@ class OnMariaDB(OnServer):
         return servers.pymysql.err.OperationalError(1213, "planted")
 
     def reading(self):
-        """What connects to a server that is read only, and what ends that."""
+        """The connect of a server that is read only, and the call that ends that."""
 
         def set_to(value):
             self.server.as_root(f"SET GLOBAL read_only = {value}")
@@ -198,7 +199,7 @@ class OnMariaDB(OnServer):
         yield self.connect(cursorclass=DictCursor)
 
     def of_role(self, grants):
-        """What connects as a user who may do this alone."""
+        """The connect of a user who may do this alone."""
         name, password = "looker@'127.0.0.1'", self.server.password
         made = f"CREATE USER {name} IDENTIFIED BY '{password}'"
         granted = f"GRANT {grants} ON store.users TO {name}"

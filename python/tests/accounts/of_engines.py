@@ -1,5 +1,5 @@
-"""What every engine does: classes of tests, run over each by test_engines.py, as are those of
-of_tables.py and of_hooks.py.
+"""The behaviour of every engine: classes of tests, run over each by test_engines.py, as are those
+of of_tables.py and of_hooks.py.
 
 A dialect of one's own is tried by a subclass of these with what `engines.py` says of an engine:
 its `kind` (a server that is started, and connects), its `dialect`, and its settings.
@@ -138,7 +138,7 @@ class LostAnswers:
         self.assertTrue(self.is_right("another"))
 
     def test_what_was_done_is_put_over_itself(self):
-        """What stands may not be on the disk."""
+        """The record in the table may not be on the disk."""
         accounts = self.losing(before=False)
         put = accounts._dialect.put = mock.Mock(wraps=accounts._dialect.put)
         with self.assertLogs("rigzumal.accounts", "WARNING") as logs:
@@ -208,7 +208,7 @@ class AtOnce:
 
 
 class OnServers:
-    """What a server does by itself: it ends waits, and restarts."""
+    """A server's own acts: it ends waits, and restarts."""
 
     def test_restart(self):
         """The pool's connection is gone after a restart: another is made."""
@@ -246,7 +246,7 @@ class OnServers:
         self.assertTrue(self.is_right("one"))
 
     def test_a_rollback_that_fails(self):
-        """What the server refused is refused at once, and not tried for all of patience."""
+        """A refusal of the server is raised at once, and not after all of patience."""
         self.execute("ALTER TABLE users ADD CHECK (record LIKE '%m=64,%')")
         dialect = losing(self.another_dialect(), True, 99, ConnectionError("planted"), ["undo"])
         made, connect = [], lambda: made.append(self.connect()) or made[-1]

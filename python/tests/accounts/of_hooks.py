@@ -1,4 +1,5 @@
-"""What every engine does with a caller's hook: classes of tests, as those of of_engines.py."""
+"""The behaviour of every engine with a caller's hook: classes of tests, as those of
+of_engines.py."""
 
 import contextlib
 import contextvars
@@ -15,7 +16,7 @@ CHANGES = ("change ann one two", "login ann one", "remove ann one")
 
 
 class RowsOfOnesOwn:
-    """What is put by `also` stands exactly if the reply does."""
+    """A row that `also` writes stays exactly if the reply does."""
 
     def setUp(self):
         super().setUp()
@@ -236,7 +237,7 @@ class RowsOfOnesOwn:
         ("emptying", "another record|doesn't change it"),
     )
     def test_triggers(self, name, said):
-        """What one makes of a record is undone with all, and said without the record."""
+        """A hook's change of a record is undone with all, and the error doesn't show the record."""
         self.create()
         accounts, confirming = self.accounts(), self.accounts(confirm=True)
         for sql in getattr(self, name):

@@ -1,4 +1,4 @@
-"""What every engine does with its connections and tables: classes of tests, as those of
+"""The behaviour of every engine with its connections and tables: classes of tests, as those of
 of_engines.py."""
 
 import itertools
@@ -12,7 +12,7 @@ from rigzumal.accounts.types import Kind, Request, Ticket
 
 
 class Connections:
-    """What a connection is in, and what is sent on it."""
+    """The state of a connection, and the statements that are sent on it."""
 
     def test_modes(self):
         """Connections that aren't in autocommit, or have a transaction open."""
@@ -140,7 +140,7 @@ class Connections:
 
 
 class Tables:
-    """What a table makes of a record, and which ones there are."""
+    """The kinds of tables, and the values that they store for a record."""
 
     def test_rows_as_dictionaries(self):
         for conn in self.as_dictionaries():

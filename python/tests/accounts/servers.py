@@ -50,7 +50,7 @@ def need(driver, name, *programs):
 
 
 def as_user(name):
-    """What subprocess needs to run as another user, since no server runs as root."""
+    """The options of subprocess to run as another user, since no server runs as root."""
     if os.getuid() != 0:
         return {}
     needs.need_user(name)
@@ -162,7 +162,7 @@ class SqliteFile:
 
 
 class OfPostgres(Server):
-    """What speaks PostgreSQL's protocol on `port`."""
+    """A server of PostgreSQL's protocol on `port`."""
 
     user, stop = "postgres", signal.SIGINT
 
@@ -225,7 +225,7 @@ class PostgresServer(OfPostgres):
         until(lambda: self.shown(*settings) == [*settings.values()], f"{settings}")
 
     def shown(self, *names):
-        """What a new session has these settings at."""
+        """The values of these settings in a new session."""
         with self.connect() as conn:
             return [conn.execute(f"SHOW {name}").fetchone()[0] for name in names]
 
@@ -264,7 +264,7 @@ class PooledPostgres(OfPostgres):
 
 
 class OfMySql(Server):
-    """What speaks MySQL's protocol on `port`; the user `store` has all of the database `store`."""
+    """A server of MySQL's protocol on `port`; the user `store` has all of the database `store`."""
 
     password, more_grants, has_store = "store", (), False
 

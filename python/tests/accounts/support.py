@@ -1,4 +1,4 @@
-"""What the tests share: a table on an engine, accounts over it, and what goes wrong on purpose."""
+"""The parts that the tests share: a table on an engine, accounts over it, and faults on purpose."""
 
 import concurrent.futures
 import contextlib
@@ -125,7 +125,7 @@ class Base(unittest.TestCase):
         return conn
 
     def setting(self, *statements, **more):
-        """What makes connections with these settings."""
+        """A function that opens connections with these settings."""
 
         def connect():
             conn = self.connect(**more)
@@ -174,7 +174,7 @@ class Base(unittest.TestCase):
         return mock.patch.object(accounts._runtime, "pause", raises)
 
     def give(self, password, name="ann"):
-        """Gives an account this password, or no record; the record."""
+        """Sets an account's password, or no record; returns the record."""
         record = None if password is None else self.low.hash(password)
         self.put(record, name)
         return record
@@ -213,7 +213,7 @@ class Base(unittest.TestCase):
 
     @contextlib.contextmanager
     def statements(self, words):
-        """What is sent within are statements with these first words."""
+        """The statements that are sent within have these first words."""
         given = {"autospec": True, "side_effect": Session.execute}
         with mock.patch.object(Session, "execute", **given) as execute:
             yield
@@ -230,7 +230,7 @@ class Base(unittest.TestCase):
 
 
 class Commands(Base):
-    """The command on a file of SQLite; its table is there, if a class doesn't say otherwise."""
+    """The command on a file of SQLite; its table exists, unless a class says otherwise."""
 
     has_table = True
 
@@ -287,8 +287,8 @@ def called(accounts, text, **more):
 
 
 def streams(main, *words, given=b"", typed=(), shows=False, status=0):
-    """What a command writes on standard output, and on standard error, if it ends with this status:
-    with something typed the input is a terminal, and with `shows` standard error is one."""
+    """The output of a command on standard output, and on standard error, if it ends with this
+    status: with something typed the input is a terminal, and with `shows` standard error is one."""
     said, error = io.StringIO(), io.StringIO()
     error.isatty = lambda: shows
     given = given.encode() if isinstance(given, str) else given
@@ -350,7 +350,7 @@ def after_hash(accounts, act, times=1):
 
 
 def in_threads(act, count):
-    """What `act` answers to each number, at the same time."""
+    """The answers of `act` to each number, at the same time."""
     with concurrent.futures.ThreadPoolExecutor(count) as pool:
         return [*pool.map(act, range(count))]
 

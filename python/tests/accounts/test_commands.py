@@ -168,7 +168,7 @@ class Words(Commands):
 
 
 class Passwords(Commands):
-    """Where they come from, and in which form they are hashed."""
+    """The sources of passwords, and the form in which they are hashed."""
 
     def test_one_form_of_a_password(self):
         apart, typed = "cafe\u0301", "caf\u00e9"
@@ -193,7 +193,7 @@ class Passwords(Commands):
         )
 
     def test_a_passwords_end(self):
-        """Where another newline would be right, that is said."""
+        """If another newline would be right, the command says so."""
         self.assert_answers(("add ann", "one\n", "enrolled"))
         for given, hints in (("one\n\n", 1), ("two\n", 0)):
             said, error = self.streams("check", "ann", given=given, status=4)

@@ -1,5 +1,5 @@
-"""How long is waited, and for what, over a clock and a runtime that only note it; what a URL says
-to a database's driver, whose stand-ins note what they are given."""
+"""The waits and their causes, over a clock and a runtime that only note them; and the arguments of
+a database's driver by a URL, which stand-ins note."""
 
 import contextlib
 import contextvars

@@ -242,7 +242,7 @@ class StatementMode(support.Base):
         self.assertRegex(str(fault), self.named)
 
     def test_operations(self):
-        """What needs a transaction is a fault at once, and no record was written."""
+        """An operation that needs a transaction is a fault at once, and writes no record."""
         record = LOW.hash("one")
         self.put(record)
         self.put(None, "ben")

@@ -1,4 +1,4 @@
-"""What `examine` says: each table, role and setting that won't do by itself."""
+"""The findings of `examine`: each table, role and setting that won't do by itself."""
 
 import contextlib
 from unittest import mock
@@ -35,7 +35,7 @@ TABLES = (
 
 
 class Said:
-    """What is found is what was wrong, and nothing else: in an engine's own `tables`, and by the
+    """The findings are the faults, and nothing else: in an engine's own `tables`, and by the
     `settings` of a connection, which are statements."""
 
     table_of = "CREATE TABLE users ({})"
@@ -174,7 +174,7 @@ def lengths(varchar):
 
 
 class OnServer(Said):
-    """What both servers' tables have in common."""
+    """The common tests of both servers' tables."""
 
     def assert_no_account(self, accounts, text, **more):
         """After a hash."""

@@ -1,4 +1,4 @@
-"""What `examine` says of a table of SQLite by its rows and by what a trial of it shows."""
+"""The findings of `examine` in a table of SQLite, by its rows and by a trial."""
 
 from support import CHECK_FAILED, RECORD, Base, each
 from rigzumal.accounts import StoreFault

@@ -1,5 +1,5 @@
-"""What a report of an error shows of a password and of a pepper, of accounts: nothing, whatever an
-operation raises."""
+"""A report of an error of accounts shows nothing of a password or a pepper, whatever an operation
+raises."""
 
 import sqlite3
 from unittest import mock

@@ -14,7 +14,7 @@ from rigzumal.accounts import OutcomeUnknown, Reply, StoreFault
 
 
 class FullDisk(Base):
-    """What each operation answers, at once: nothing is waited for."""
+    """The answers of each operation, which come at once: it waits for nothing."""
 
     def setUp(self):
         super().setUp()
@@ -115,7 +115,7 @@ os._exit(0)
 
 
 class Room(Base):
-    """What `examine` says of the room that the filesystem tells."""
+    """The findings of `examine` on the room that the filesystem reports."""
 
     @each((9 << 20, []), (8 << 20, []), ((8 << 20) - 1, ["disk-full"]), (0, ["disk-full"]))
     def test_room_on_the_disk(self, free, codes):

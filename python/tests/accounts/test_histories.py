@@ -44,7 +44,7 @@ class ShortHistories(unittest.TestCase):
         self.told(killed_servers(Run(MARIADB(), kill=True, **SHORT), maria(), pause=3.0))
 
     def test_refused(self):
-        """What compares nothing is found out."""
+        """An UPDATE without a comparison is found out."""
         print(refused(lambda: Run(SQLITE(), **SHORT, **histories.UNCOMPARED)), flush=True)
 
 

@@ -1,6 +1,6 @@
 """The checker of histories against a search through all orders of small random ones.
 
-RIGZUMAL_HISTORIES is how many are tried: 100000 take some two minutes.
+RIGZUMAL_HISTORIES is the number of histories: 100000 take some two minutes.
 """
 
 import copy
@@ -155,7 +155,7 @@ def add_lost_ones(rng, account, record):
 
 
 def tried(account, op):
-    """What others, without an answer, tried to put: fresh, as all salts are."""
+    """The records that others, without an answer, tried to write: fresh, as all salts are."""
     others = [it for it in account.operations if it is not op and not it.reply]
     return {attempt.after for it in others for attempt in it.attempts} - {None}
 

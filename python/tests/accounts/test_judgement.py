@@ -1,4 +1,4 @@
-"""What a whole operation does at a copy, and what it costs."""
+"""The effect of a whole operation at a copy, and its costs."""
 
 import asyncio
 import functools

@@ -1,4 +1,4 @@
-"""What goes wrong on a real server of MariaDB, trap by trap."""
+"""Faults of a real server of MariaDB, trap by trap."""
 
 import tempfile
 import tracemalloc
@@ -71,7 +71,7 @@ class OnMariaDB(engines.OnMariaDB, Base):
 
     @each((1305, False), (2013, None), (1317, None))
     def test_a_mark_that_is_asked_for(self, number, is_held):
-        """That none is there is told from a broken connection, after which all is done again."""
+        """A missing mark differs from a broken connection, after which all is done again."""
         error = servers.pymysql.err.OperationalError(number, "planted")
         asked = self.dialect.is_held(scripted(error))
         if is_held is None:
@@ -161,7 +161,7 @@ class OnMariaDB(engines.OnMariaDB, Base):
         self.assertIs(accounts.commit(slow).reply, Reply.CHANGED)
 
     def test_names_that_the_server_cuts_off(self):
-        """Where it isn't strict, nothing is left of what was begun."""
+        """Where it isn't strict, a begun operation leaves nothing."""
         self.execute("DROP TABLE IF EXISTS accounts")
         self.execute(MariaDB("accounts", "name", "record").create())
         ((mode,),) = self.server.as_root("SELECT @@global.sql_mode")
@@ -199,8 +199,8 @@ class OnMariaDB(engines.OnMariaDB, Base):
         ("SET touched", "SIGNAL SQLSTATE '45000'; SET touched", True),
     )
     def test_a_statement_that_the_server_does_not_take(self, old, new, is_again):
-        """As MySQL: it is asked once, and then transactions do it. What fails after the UPDATE
-        is undone within the statement, and a transaction does it."""
+        """As MySQL: it is asked once, and then transactions do it. A failure after the UPDATE
+        undoes it within the statement, and a transaction does it."""
         self.give("one")
         self.dialect = self.another_dialect()
         self.dialect.at_once = self.dialect.at_once.replace(old, new, 1)
@@ -234,7 +234,7 @@ class OnMariaDB(engines.OnMariaDB, Base):
             self.assertEqual(made._table.confirm, confirm)
 
     def test_the_two_updates(self):
-        """What stands between them is never committed."""
+        """A record between them is never committed."""
         refused = (1, 0, StoreFault), (1, 2, StoreFault)
         for first, second, wanted in ((0, None, 0), (2, None, 2), (1, 1, 1), *refused):
             session = scripted(Result([], first), Result([], second))

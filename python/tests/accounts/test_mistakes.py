@@ -215,7 +215,7 @@ class InPython(Base):
 
 class AtAShell(support.Commands):
     def typed(self, *words, status=0):
-        """What `rigzumal` writes on both streams."""
+        """The output of `rigzumal` on both streams."""
         with mock.patch.object(sys, "argv", ["rigzumal", *words]):
             return streams(lambda _: __main__.main(), given="secret", status=status)
 

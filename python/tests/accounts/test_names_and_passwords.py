@@ -31,7 +31,7 @@ class NewNames(Commands):
         self.execute("DELETE FROM users")
 
     def command(self, *words, given="", status=0):
-        """What a command over the accounts' own table writes, if it ends with this status."""
+        """The output of a command over the accounts' own table, if it ends with this status."""
         return self.run_command("--table", "users", *words, given=given, status=status)
 
     def import_of(self, name):

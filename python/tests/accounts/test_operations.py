@@ -1,4 +1,4 @@
-"""What the operations do whatever the engine: over SQLite, with threads and with asyncio."""
+"""The operations, whatever the engine: over SQLite, with threads and with asyncio."""
 
 import asyncio
 import base64
@@ -117,7 +117,7 @@ class Operations(Base):
         self.assertEqual(uses.mock_calls, [mock.call("replica"), mock.call("primary")])
 
     def test_a_late_replica_costs_one_hash(self):
-        """What stands at the primary is then judged, and not looked at again."""
+        """The primary's record is then judged, and not looked at again."""
         stale = sqlite3.connect(":memory:", isolation_level=None)
         self.addCleanup(stale.close)
         stale.execute("CREATE TABLE users (name TEXT PRIMARY KEY, record TEXT)")
@@ -214,7 +214,7 @@ class Operations(Base):
         self.assertTrue(101.0 <= clock[0] < 102.0, clock)
 
     def test_a_connection_that_is_not_rolled_back_is_given_up(self):
-        """Where the server wants the transaction anew, and ROLLBACK fails."""
+        """The server wants the transaction anew, and ROLLBACK fails."""
         made = []
         accounts = self.accounts(connect=lambda: made.append(self.connect()) or made[-1])
         busy, table = sqlite3.OperationalError("database is locked"), accounts._table
@@ -235,7 +235,7 @@ class Operations(Base):
         self.assertTrue(self.is_right("one"))
 
     def test_a_login_goes_on(self):
-        """What is unknown of the upgrade is no matter of the answer."""
+        """An upgrade's unknown outcome changes no answer."""
         accounts = self.losing(before=True, times=1000, hasher=HIGH, patience=0.5)
         self.assert_replies("login ann one yes; login ann two no", accounts)
         self.assertIn("m=64,", self.stands())
@@ -255,7 +255,7 @@ class Operations(Base):
 
 
 class Tasks(engines.OnSqliteTasks, Base):
-    """What is particular over coroutines."""
+    """Tests of coroutines alone."""
 
     def test_a_hash_holds_up_no_task(self):
         """It is made in another thread, one operation's beside the next one's."""

@@ -72,11 +72,11 @@ class OfTasks(OfThreads, engines.OnSqliteTasks):
 
 
 class Endings:
-    """What a pool does at its end changes nothing of what its caller is told."""
+    """A pool's end changes no answer to its caller."""
 
     @each(*((it, StoreFault) for it in WAYS), *(("is_interrupted", it) for it in INTERRUPTS))
     def test_a_fault_is_said(self, way, wanted):
-        """What a job raised is what its caller is told, and an interrupt above it."""
+        """The caller gets a job's exception, and an interrupt above it."""
         self.way, self.interrupt = way, wanted
         accounts = self.accounts()
         self.conn.execute("ALTER TABLE users RENAME TO gone")
@@ -111,7 +111,7 @@ class Endings:
         self.assertTrue(self.is_right(right))
 
     def test_a_pool_that_gives_nothing(self):
-        """What it raises before a job was begun comes through, and nothing was done."""
+        """A pool's exception before a job was begun comes through, and nothing was done."""
 
         class Shut(Pool):
             __enter__ = mock.Mock(side_effect=RuntimeError("the pool is shut"))

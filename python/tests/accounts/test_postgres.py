@@ -1,4 +1,4 @@
-"""What goes wrong on a real server of PostgreSQL, trap by trap."""
+"""Faults of a real server of PostgreSQL, trap by trap."""
 
 import asyncio
 import contextlib
@@ -78,7 +78,7 @@ class OnPostgres(engines.OnPostgres, Base):
 
     @each("uuid", "kinds")
     def test_a_policy_that_reads_no_row(self, kind):
-        """That it can't read its own setting is a fault, and no name that doesn't exist."""
+        """A session that can't read its own setting is a fault, and no name that doesn't exist."""
         self.execute("DROP TYPE IF EXISTS kinds CASCADE")
         self.execute("CREATE TYPE kinds AS ENUM ('ann')")
         self.create()
@@ -152,8 +152,8 @@ class OnPostgres(engines.OnPostgres, Base):
             caller.execute("ROLLBACK")
 
     def test_a_commit_that_answers_rollback(self):
-        """Who swallows a statement's error has a transaction that has failed, whose COMMIT
-        raises nothing: that is a fault at once, and nothing was done or is looked for."""
+        """A caller that swallows a statement's error has a failed transaction, whose COMMIT raises
+        nothing: that is a fault at once, and nothing was done or is looked for."""
         accounts, calls = self.accounts(patience=60.0), []
 
         def swallows(conn, reply):

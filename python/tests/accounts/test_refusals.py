@@ -1,4 +1,4 @@
-"""What is refused before anything is hashed, and what errors mean and say."""
+"""Refusals before any hash, and the meaning and the text of errors."""
 
 import contextlib
 import enum
@@ -138,7 +138,7 @@ class Arguments(Base):
 
     @each("one", "", "$2b$of another scheme", None)
     def test_a_password_that_nobody_can_have_is_a_wrong_one(self, stands):
-        """Whoever tries it may be anybody: it is answered after one hash, and not raised."""
+        """Anybody may try such a password: it is answered after one hash, and not raised."""
         hook = mock.Mock(side_effect=AssertionError("it was asked"))
         accounts = self.accounts(HIGH, foreign=hook)
         record = stands if stands and stands[0] == "$" else self.give(stands)
@@ -172,18 +172,18 @@ class Error(Exception):
 
 
 def of_states(states, severity=None):
-    """What psycopg raises of these."""
+    """The exceptions of psycopg for these."""
     diag = mock.Mock(severity_nonlocalized=severity)
     return [mock.Mock(sqlstate=it, diag=diag) for it in states.split()]
 
 
 def of_numbers(*numbers):
-    """What PyMySQL raises of these."""
+    """The exceptions of PyMySQL for these."""
     return [Error(number, "in words") for number in numbers]
 
 
 def of_codes(*codes):
-    """What sqlite3 raises of these: a code counts, whatever the text says."""
+    """The exceptions of sqlite3 for these: the code counts, whatever the text says."""
     for code, text in itertools.product(codes, ("database is locked", "disk I/O error")):
         error = sqlite3.OperationalError(text)
         error.sqlite_errorcode = code

@@ -1,4 +1,4 @@
-"""What a torture does to its processes, notes of them, and judges."""
+"""A torture: the kills of its processes, its notes and its verdicts."""
 
 import contextlib
 import io

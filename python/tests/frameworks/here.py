@@ -1,5 +1,5 @@
-"""Where the package and the tests are: read first by each test, so that they are found by it and by
-the processes that it starts."""
+"""The places of the package and the tests: read first by each test, so that they are found by it
+and by the processes that it starts."""
 
 import os
 import pathlib

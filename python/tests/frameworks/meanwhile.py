@@ -116,7 +116,7 @@ def rows(user):
 
 
 def unseen():
-    """What isn't one of the UPDATEs that are waited for, for a `with`."""
+    """The statements that aren't among the UPDATEs that are waited for, for a `with`."""
     return mock.patch.object(connections["default"], "execute_wrappers", [])
 
 

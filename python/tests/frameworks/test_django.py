@@ -64,8 +64,7 @@ class Files(Ann, TestCase):
 
 
 class Reports(Cheap, TransactionTestCase):
-    """What Django shows of the frames of an exception, in a report to administrators, and what
-    other reporters keep of them."""
+    """The frames of an exception in Django's report to administrators, and in other reporters."""
 
     def setUp(self):
         super().setUp()
@@ -150,14 +149,15 @@ class Logins(Ann, TestCase):
         User.objects.create_user("una")  # no usable password
 
     def costs(self, name, password):
-        """Who is let in, the lengths of what is hashed, and how many queries come."""
+        """Whether the user is let in, the lengths of the hashed passwords, and the number of
+        queries."""
         hashing = mock.patch.object(rigzumal, "argon2", side_effect=rigzumal.argon2)
         with hashing as hashed, CaptureQueriesContext(connections["default"]) as queries:
             user = authenticate(username=name, password=password)
         return user, [len(it.args[0]) for it in hashed.call_args_list], len(queries)
 
     def test_a_login_costs_one_hash_and_two_queries(self):
-        """Who isn't let in can't be told from who isn't there, nor by a round trip. A long password
+        """A refused user can't be told from a missing one, nor by a round trip. A long password
         takes as long for each name, and so does text without UTF-8."""
         of_django, wrong = hashers.UNUSABLE_PASSWORD_SUFFIX_LENGTH, ("wrong", "x" * 5000, "")
         for names, password, costs in (

@@ -1,4 +1,4 @@
-"""What `manage.py check` says."""
+"""The messages of `manage.py check`."""
 
 import contextlib
 import itertools

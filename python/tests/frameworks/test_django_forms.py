@@ -144,7 +144,7 @@ class Views(Ann, TestCase):
             self.assertContains(self.client.post(change, GIVEN), CHANGED)
 
     def link(self):
-        """Where a link for a reset leads to."""
+        """The address of a link for a reset."""
         token = default_token_generator.make_token(User.objects.get())
         link = f"/accounts/reset/{urlsafe_base64_encode(force_bytes(self.ann.pk))}/{token}/"
         return self.client.get(link, follow=True).redirect_chain[-1][0]

@@ -42,7 +42,7 @@ def change(user, new):
 
 
 class Written(Cheap):
-    """What holds of each way to write a password; `model` says whose, and `writes` which ways."""
+    """The facts of each way to write a password; `model` says whose, and `writes` which ways."""
 
     writes = [set_, set_twice]
 
@@ -98,7 +98,7 @@ class OfStock(Written, TestCase):
 
 
 class Compared(Written):
-    """What each model with the mixin has to do beside."""
+    """The other duties of each model with the mixin."""
 
     writes = [*Written.writes, save, save_one_field]
 
@@ -115,7 +115,7 @@ class Compared(Written):
         return SimpleLazyObject(self.again)
 
     def ways(self):
-        """How one may have come by a user whose password is "old"."""
+        """The ways to get a user whose password is "old"."""
 
         def made():
             self.model.objects.all().delete()

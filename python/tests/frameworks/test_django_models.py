@@ -36,7 +36,7 @@ def beside(expected):
 
 
 class AsDjangos(Cheap, TransactionTestCase):
-    """What has nothing to do with races is as with AbstractUser alone."""
+    """All that has nothing to do with races is as with AbstractUser alone."""
 
     @beside([None] * 4 + [{"password"}] * 2 + [{"email"}] * 2 + [{"email", "password"}] * 2)
     def test_signals(self, model, ann):

@@ -156,7 +156,7 @@ class Races(Cheap, TransactionTestCase):
         self.assertEqual([it for it in (NEW, "reset", OLD) if is_right(user, it)], done or [OLD])
 
     def test_djangos_own_undoes_the_change(self):
-        """What all of this is for: by Django's backend the old password is put back."""
+        """The reason for all of this: Django's backend puts the old password back."""
         ann = self.signed_up(User)
         with override_settings(AUTHENTICATION_BACKENDS=[THEIRS]), cheap(memory=128):
             with meanwhile(lambda: reset_elsewhere(ann, "reset")):

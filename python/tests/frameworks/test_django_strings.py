@@ -37,7 +37,7 @@ def scrypt_by_hashlib(password, n, r, p, size=64):
 
 
 class Strings(unittest.TestCase):
-    """What stands in the database is what Django's own hashers write and read."""
+    """The strings in the database are those that Django's own hashers write and read."""
 
     @unittest.skipIf(argon2_cffi is None, "needs Python's module argon2")
     def test_argon2_both_ways(self):

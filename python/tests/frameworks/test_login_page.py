@@ -66,7 +66,7 @@ class Forms(Page):
         ("/change", ["old password current-password", *PASSWORDS]),
     )
     def test_fields(self, path, wanted):
-        """What a keeper of passwords, and a reader of screens, goes by."""
+        """The attributes that a keeper of passwords, and a reader of screens, need."""
         self.ann.ask("GET", path)
         text, form = self.ann.text, '<input id="(.*?)".* type="(.*?)".* autocomplete="(.*?)"'
         self.assertEqual([" ".join(it) for it in re.findall(form, text)], wanted)
@@ -212,7 +212,7 @@ class Sessions(Page):
         self.assertEqual((self.opens(OLD), self.opens(NEW)), (False, True))
 
     def test_session_and_change_are_one(self):
-        """What fails between them leaves neither."""
+        """A failure between them leaves neither."""
         fault = mock.patch.object(store.Store, "_begin_session", side_effect=OSError("no"))
         with fault, self.assertLogs("login_page") as logged:
             self.assertEqual(self.ann.change(), 500)
@@ -346,7 +346,7 @@ class Limits(Page):
 
 
 class Style(unittest.TestCase):
-    """What can be seen, by WCAG 2.2: 1.4.11 of the focus, and a button where colours are forced."""
+    """Visible parts, by WCAG 2.2: 1.4.11 of the focus, and a button where colours are forced."""
 
     def setUp(self):
         style = (EXAMPLE / "static/style.css").read_text()

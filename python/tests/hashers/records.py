@@ -1,5 +1,5 @@
-"""What the tests of the hashers share: where the package is, records of other programs, hashers
-that are quick, the calls of the library counted, and Python run apart. Each test reads it first, so
+"""The parts that the tests of the hashers share: the package's place, records of other programs,
+quick hashers, counts of the library's calls, and runs of Python apart. Each test reads it first, so
 that the package is found by it and by the processes that it starts."""
 
 import base64
@@ -25,7 +25,7 @@ LEAST = PasswordHasher(**LEAST_COSTS)
 
 
 def python(*words, given="", status=0, at=HERE, **env):
-    """What this Python writes on both streams, if it ends with the status."""
+    """The output of this Python on both streams, if it ends with the status."""
     return run(sys.executable, *words, given=given, status=status, at=at, env=env)
 
 

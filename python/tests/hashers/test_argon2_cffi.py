@@ -29,7 +29,7 @@ def encoded(costs, salt, tag):
 
 
 def outcome(call, *given, **named):
-    """What a call answers, or the name and the message of what it raises."""
+    """The answer of a call, or the name and the message of its exception."""
     try:
         return call(*given, **named)
     except Exception as raised:

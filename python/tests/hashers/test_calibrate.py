@@ -69,7 +69,7 @@ class Trials(unittest.TestCase):
 
 
 class Safety(unittest.TestCase):
-    """What is never gone below unless it is asked for: OWASP's least costs."""
+    """The least costs unless lower ones are asked for: OWASP's."""
 
     @each(
         *((*it, True) for it in ((19456, 2), (47104, 1), (65536, 3))),
@@ -113,7 +113,7 @@ class Timing(unittest.TestCase):
 
 class Shell(unittest.TestCase):
     def asked(self, *words):
-        """What the shell's command asks for, what it writes, and what it says."""
+        """The shell's command: its costs, its output and its messages."""
         out, err, argv = io.StringIO(), io.StringIO(), ["rigzumal", "calibrate", *words]
         asked = mock.Mock(side_effect=lambda *given: iter(tried(linear(1 / 1024), *given)))
         with mock.patch.object(__main__, "trials", asked), mock.patch.object(sys, "argv", argv):

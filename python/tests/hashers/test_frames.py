@@ -167,7 +167,7 @@ class Frames(unittest.TestCase):
         self.assert_hidden(_hidden.hidden(called), TYPED)
 
     def raised_by(self, module, password):
-        """What a function of a module raises, whose variable is the password."""
+        """The exception of a function of a module, whose variable is the password."""
         try:
             failing(module, "raise")(password)
         except KeyError as error:
@@ -201,7 +201,7 @@ class Frames(unittest.TestCase):
             self.fail("it raises nothing")
 
     def raised_with(self, held):
-        """What a function raises, in no file of a test, whose variable is this."""
+        """The exception of a function, in no file of a test, whose variable is this."""
         names = {}
         exec(compile("def called(new): raise KeyError", "a module", "exec"), names)
         try:

@@ -76,7 +76,7 @@ class Judged(unittest.TestCase):
             self.assertEqual(found, [True, False])
 
     def check_argon2(self, make, passwords):
-        """What a program makes of each kind and version."""
+        """The records of a program, of each kind and version."""
         passwords = itertools.cycle(passwords)
         rows = [*itertools.product(("d", "i", "id"), (0x13, 0x10), ARGON2)]
         for kind, version, numbers in (*rows, *(("id", 0x13, it) for it in ARGON2_WIDE)):

@@ -17,7 +17,7 @@ COSTS = {"time_cost": 1, "memory_cost": 64, "parallelism": 4}
 
 
 class Defaults(unittest.TestCase):
-    """What a user has who names nothing."""
+    """The values of a user who names none."""
 
     @each(
         (PasswordHasher(), "$argon2id$v=19$m=65536,t=3,p=4"),

@@ -133,7 +133,7 @@ class Dialect:
         return (sql + self._unless_exists.format(k=self.key), *itertools.chain(*lines))
 
     def enrolling(self, lines: Sequence[Line]) -> Sequence[Any]:
-        """Puts records into rows that have none."""
+        """Writes records into rows that have none."""
         k, r, m = self.key, self.record, self.mark
         record = f"CASE {k}{f' WHEN {m} THEN {m}' * len(lines)} END"
         keys = ", ".join([m] * len(lines))

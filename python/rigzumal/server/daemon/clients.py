@@ -173,7 +173,7 @@ class Client:
         return False
 
     def end(self, how: int = socket.SHUT_RD) -> None:
-        """Takes no more requests; by SHUT_RDWR those that run aren't answered either."""
+        """Accepts no more requests; by SHUT_RDWR those that run aren't answered either."""
         self.is_ending = True
         with suppress(OSError):
             self.socket.shutdown(how)

@@ -80,7 +80,7 @@ class Door:
         raise Problem(f"systemd handed over no stream socket with the name {self.name}")
 
     def lock(self) -> None:
-        """Makes its folder, and locks the path to the process's end."""
+        """Creates its folder, and locks the path to the process's end."""
         folder = os.path.dirname(self.path)
         if not os.path.isdir(folder):
             os.mkdir(folder)

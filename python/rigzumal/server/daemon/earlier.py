@@ -36,7 +36,9 @@ async def take_in(service: Service) -> None:
         marks.sync_name()
     finally:
         if os.path.lexists(path):
-            log.error("%s stays: the book lacks marks of it, so the server doesn't start", path)
+            log.error(
+                "%s stays: the book lacks some of its marks, so the server doesn't start", path
+            )
     log.info("%s is gone: %d of its marks are in the book now", path, sum(taken))
     if lacking := len(taken) - sum(taken):
         log.warning("%d of its marks were of names without an account, or a record", lacking)

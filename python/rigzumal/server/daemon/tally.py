@@ -1,4 +1,4 @@
-"""What is counted of answers since the start."""
+"""The counts of answers since the start."""
 
 import re
 import socket

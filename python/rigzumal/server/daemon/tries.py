@@ -21,14 +21,14 @@ class Failed:
 
 
 class Tries:
-    """How often each of these users may be tried."""
+    """The limits on the tries at each of these users."""
 
     def __init__(self, limit: int) -> None:
         self.limit = limit or math.inf  # failed tries until the next has to wait
         self.failed = dict[bytes, Failed]()
 
     def count(self, name: bytes) -> int:
-        """How many failed in a row; a day after the last they are forgotten."""
+        """The number of failures in a row, which a day without another ends."""
         failed = self.failed.get(name)
         return failed.count if failed and time.monotonic() < failed.last + FORGOTTEN else 0
 

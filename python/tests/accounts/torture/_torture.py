@@ -1,5 +1,5 @@
-"""What is done to a database, by how many processes, and what each of them asks of accounts whose
-operations are logged."""
+"""The load on a database: the number of processes, and the operations that each asks of accounts,
+which are logged."""
 
 import asyncio
 import dataclasses
@@ -43,7 +43,7 @@ def hasher(memory):
 
 @dataclasses.dataclass
 class Torture:
-    """What is done to a database: as the command does it, or as tests alter it."""
+    """The load on a database, as the command has it, or as tests alter it."""
 
     url: str
     table: str = "rigzumal_torture"  # made, and dropped again if the history is legal
@@ -172,7 +172,7 @@ class Torture:
 
 
 async def done(said):
-    """What was said, or is once it was awaited."""
+    """The answer, awaited if it must be."""
     return await said if inspect.isawaitable(said) else said
 
 

@@ -1,4 +1,4 @@
-"""Decides whether what was answered is one legal history of each account.
+"""Decides whether the answers are those of one legal history of each account.
 
 A history is legal if each operation can be given one moment between its call and its answer, so
 that every reply, and the record after it, is what the whole operation does at the record that
@@ -61,7 +61,7 @@ class Operation:
 
     @classmethod
     def seed(cls, record, password, costs=0):
-        """What stood at first."""
+        """The first record."""
         first = -math.inf
         made = cls("seed", "seed", password, first, None, costs, first, "seed")
         made.after = record
@@ -69,7 +69,7 @@ class Operation:
 
     @classmethod
     def end(cls, record, time):
-        """What stands when all is over."""
+        """The last record."""
         return cls("end", "end", None, time, reply="end", before=record, after=record)
 
     @property
@@ -139,7 +139,7 @@ class _Span(NamedTuple):
 
 
 class _Records:
-    """What was done at each record, and who put and replaced it."""
+    """The operations at each record, and those that wrote and replaced it."""
 
     def __init__(self, events):
         self.maker, self.replacer, self.at_none = {}, {}, []
@@ -249,7 +249,7 @@ class Illegal(Exception):
 
 
 def verdict(accounts):
-    """What is illegal, with the name of the first account of which something is."""
+    """The fault of the history, with the name of its first account."""
     for key, account in accounts.items():
         try:
             check(account)

@@ -25,7 +25,7 @@ from torture.history import Account, Attempt, Operation, verdict
 
 
 class Log:
-    """What one process writes down.
+    """The log of one process.
 
     At this risk it kills itself at its own worst moments: between an UPDATE and its
     COMMIT, and between a COMMIT and its answer.
@@ -103,7 +103,7 @@ def _lines(path):
 
 
 def _note(line, accounts, operations):
-    """Takes a line in, once those of the EVENTS before its own were taken in."""
+    """Adds a line, after those of the EVENTS before its own."""
     event = line["event"]
     if event == "seed":
         seed = Operation.seed(line["record"], line["password"], line["costs"])
@@ -125,7 +125,7 @@ def _note(line, accounts, operations):
 
 
 def summary(accounts):
-    """How much was judged, in one line."""
+    """The counts of the verdict, in one line."""
     every = [it for account in accounts for it in account.operations]
     lost = [it for it in every if it.answered == math.inf or it.found_out]
     counts = {

@@ -58,7 +58,7 @@ class Commands:
         return ANSWERS[said].ask if said in ANSWERS else 0
 
     def answer(self, command: str, names: list[str], is_whole: bool) -> str:
-        """What a command prints."""
+        """The output of a command."""
         if command == "add":
             return self.add(names[0])
         if command in ("check", "reset"):
