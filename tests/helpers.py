@@ -207,7 +207,7 @@ def runnable(program: pathlib.Path) -> pathlib.Path:
 
 @functools.cache
 def common_folder() -> pathlib.Path:
-    """A folder for what is made once a process."""
+    """A folder for the files that each process builds once."""
     folder = pathlib.Path(tempfile.mkdtemp(prefix="rigzumal-"))
     folder.chmod(0o755)
     atexit.register(shutil.rmtree, folder, ignore_errors=True)

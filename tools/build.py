@@ -105,7 +105,7 @@ class Progress:
 
     def pace(self, done):
         """The ratio of a crate's time here to the expected one. The last ones count most, since a
-        build's first ones also prepare what all need; a minute as expected stands before them."""
+        build's first ones also prepare what all need; a minute as expected precedes them."""
         taken = foreseen = 60
         weight = 1
         for name in reversed(done):

@@ -75,7 +75,7 @@ def imported(path: list[str], front: Place = ()) -> Iterator[tuple[str, Place]]:
 
 
 def parts(name: str) -> list[str]:
-    """A name, and if it is an operator's, `◌+◌`, what stands for it between its arguments."""
+    """A name, and if it is an operator's, `◌+◌`, the sign between its arguments."""
     return [name, *(it for it in name.split("◌") if it and it != name)]
 
 
@@ -110,7 +110,7 @@ def constructors(piece: str) -> list[str]:
 
 @dataclasses.dataclass
 class Text:
-    """Some words of antt or of Rattle, and the names of the file that they stand in."""
+    """Some words of antt or of Rattle, and the names of their file."""
 
     words: list[str]
     names: Names
@@ -174,7 +174,7 @@ class Definitions:
         return path
 
     def at(self, path: Place) -> Place | None:
-        """The definition that a path leads to; behind its name fields may stand."""
+        """The definition that a path leads to; fields may follow its name."""
         rest = path[3:]
         for end in range(len(rest), 0, -1):
             place = (path[1], *rest[:end])

@@ -40,7 +40,7 @@ class Clause:
 
 @dataclasses.dataclass
 class Item:
-    """An item: what stands before its braces, and what stands in them."""
+    """An item: the words before its braces, and those in them."""
 
     kind: str
     name: str

@@ -78,7 +78,7 @@ NO_CALL = TESTED | {"for", "switch", "sizeof", "return", "match", "pub", "in", "
 
 
 class Tokens:
-    """The tokens of a file and, of each, the bracket that it stands in."""
+    """The tokens of a file and, of each, the bracket around it."""
 
     def __init__(self, source, language):
         self.source, self.language = source.decode("latin-1"), language

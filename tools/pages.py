@@ -246,8 +246,8 @@ def plain(code: str) -> str:
 
 
 def callers(page: pathlib.Path) -> Facts:
-    """Code after a line `<!-- from FILE -->`: it stands there word for word, but for what is left
-    out at a line of two dots."""
+    """Code after a line `<!-- from FILE -->`: the file has it word for word, but for the part that
+    a line of two dots leaves out."""
     form = r"^<!-- from (\S+) -->\n```\w+\n(.*?)^```$"
     for name, code in re.findall(form, page.read_text(), re.S | re.M):
         parts = re.split(r"^\s*(?://\s*)?\.\.\s*$", code, flags=re.M)
@@ -291,8 +291,8 @@ def definitions() -> Facts:
 
 
 def walks() -> Facts:
-    """The proofs by hand, which may give a ghost field any value: each stands in a folder that is
-    named here."""
+    """The proofs by hand, which may give a ghost field any value: each is in a folder that is named
+    here."""
     for proof in CRATES.glob("*/proofs/**/Proof.antt"):
         place = proof.relative_to(CRATES).as_posix()
         is_known = any(place.startswith(f"{it}/") for it in WALKS)

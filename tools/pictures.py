@@ -50,7 +50,7 @@ def lines_of(name):
 
 
 def element(name, **attributes):
-    """An element of SVG with nothing in it; `_` in a name stands for `-`."""
+    """An element of SVG with nothing in it; `_` in a name means `-`."""
     words = (f'{key.replace("_", "-")}="{value}"' for key, value in attributes.items())
     return f"<{name} {' '.join(words)}/>"
 
@@ -193,7 +193,7 @@ def cluster(name, label, colour, style, more=""):
 
 
 def node(line):
-    """A box that stands for what is no crate, for dot."""
+    """A box for a thing that is no crate, for dot."""
     _, name, words, _ = line
     return f'"{name.strip()}" [label="{name.strip()}\\n{words.strip()}"];'
 

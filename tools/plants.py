@@ -31,7 +31,7 @@ BUILT += [f"crates/{name}/out/{name}" for name in ("credbook", "credkeep")]
 
 
 class Plant(NamedTuple):
-    """A file, a text of it, what stands in its place, and the jobs that must fail."""
+    """A file, a text of it, the text in its place, and the jobs that must fail."""
 
     file: str
     old: str

@@ -39,14 +39,14 @@ def contract_of(text):
 
 
 def file_of(path):
-    """The file in which the function stands that a path names."""
+    """The file with the function that a path names."""
     crate, *modules, _ = path.split("::")
     modules = [it for it in modules if it.islower()]
     return CRATES / crate / "src" / f"{'/'.join(modules) or 'lib'}.rt"
 
 
 def owner(text, place):
-    """The head of the impl or the trait within which this place stands, or nothing."""
+    """The head of the impl or the trait around this place, or nothing."""
     heads = re.finditer(r"^(?:pub(?:\(\w+\))? )?(?:impl|trait)\b[^\n]*", text[:place], re.M)
     *_, last = (None, *heads)
     is_open = last and not re.search(r"^}", text[last.end() : place], re.M)
@@ -141,8 +141,8 @@ def cells(text):
 
 
 def reached(libraries):
-    """The toolchain's crates that ours stand on: those of crates.txt, and what each of these
-    libraries is built on."""
+    """The toolchain's crates that ours use: those of crates.txt, and the ones below each of
+    them."""
     found, more = set(), {
         "std",
         *(

@@ -200,7 +200,7 @@ class Statements:
                 definitions.add_names(file.names, definitions.words(item.clauses[0].text))
 
     def add_others(self, file: Source) -> None:
-        """Adds what stands behind a name of the code: an import from another crate or under another
+        """Adds the meaning of a name of the code: an import from another crate or under another
         name, and a type's other name. A crate's own file may have any name."""
         for item in all_items(file.items):
             if item.kind == "use":
@@ -235,7 +235,7 @@ class Statements:
         self.lines.append((name, self.found.sum_of(Text(words, names or {}))))
 
     def read(self, file: Source, item: Item, owner: Item | None = None) -> None:
-        """Adds the lines of an item, whose owner is the impl, trait or struct that it stands in."""
+        """Adds the lines of an item, whose owner is the impl, trait or struct around it."""
         if item.kind in ("use", "ghost use") or is_for_tests(item):
             return
         names = (file.crate, name_of(owner) if owner else "", name_of(item))

@@ -54,7 +54,7 @@ def listed() -> dict[str, tuple[str, list[str]]]:
 
 
 def below(name: str) -> list[str]:
-    """The crates of the tree that a crate stands on."""
+    """The crates of the tree that a crate uses."""
     return [it for it in listed()[name][1] if it in listed()]
 
 

@@ -91,7 +91,7 @@ class Bench:
         return files
 
     def has(self, function):
-        """Whether the crate has a function of that name as it stands: an edit may add one."""
+        """Whether the crate has a function of that name now: an edit may add one."""
         head = re.compile(rf"\bfn {function.split('::')[-1]}\b")
         return any(head.search(it) for it in self.texts.values())
 
@@ -135,8 +135,8 @@ class Bench:
 
 
 def link(one, other):
-    """A second copy, by links where they can be made: a check replaces such files, and changes
-    none."""
+    """A second copy, by links where the system allows them: a check replaces such files, and
+    changes none."""
     if subprocess.run(["cp", "-al", one, other], capture_output=True).returncode:
         shutil.rmtree(other, ignore_errors=True)
         subprocess.run(["cp", "-a", one, other], check=True)
@@ -231,7 +231,7 @@ class Trial:
                 SUMS.write_text("".join(lines))
 
     def try_edits(self, bench, edits):
-        """Tries edits of a crate: those that apply, over its functions as they stand."""
+        """Tries edits of a crate: those that apply, over its functions as they are."""
         applying = [it for it in edits if it.planted(bench.texts) is not None]
         for it in edits:
             if it not in applying:

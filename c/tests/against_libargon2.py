@@ -2,10 +2,9 @@
 
     /usr/bin/python3 tests/against_libargon2.py OURS THEIRS SEED [TURNS]
 
-Each of the 22 calls is made on both. Their answers, and all bytes that they could write, are the
-same, as is the memory that they ask of a context's callbacks. What the original takes and ours
-refuses is listed in src/libargon2.c: there the answer is the one that is listed, and nothing is
-written.
+Each of the 22 calls runs on both. Their answers, and all bytes that they could write, are the same,
+as is the memory that they ask of a context's callbacks. What the original takes and ours refuses is
+listed in src/libargon2.c: there the answer is the one that is listed, and nothing is written.
 """
 
 import base64
@@ -238,7 +237,7 @@ def compare_pairs_of_faults(comparison):
 
 
 def compare_memory_askew(ours):
-    """Memory that no number can lie in is given back, and is as none."""
+    """Memory that no number can lie in is freed, and is as none."""
     arena = ctypes.create_string_buffer(ARENA)
     it = Inputs.plain(callbacks="gives")
     for askew in (1, 2, 4):

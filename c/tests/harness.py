@@ -73,7 +73,7 @@ def need_original():
 
 
 def wraps(sources):
-    """The linker's flags for the functions of tests that stand before others: those of WRAP."""
+    """The linker's flags for the functions of tests that replace others: those of WRAP."""
     text = "".join((TOP / it).read_text() for it in sources if it.startswith("tests/"))
     headers = re.findall(r'#include "(\w+\.h)"', text)
     text += "".join((HERE / it).read_text() for it in headers if (HERE / it).exists())

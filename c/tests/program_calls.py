@@ -28,7 +28,7 @@ CALLS.rattle_lock_range.argtypes = [ctypes.c_int, ctypes.c_int16, OFFSET, OFFSET
 
 class Calls(unittest.TestCase):
     def test_memory(self):
-        """Blocks of each size, in any order; of no bytes there is one too, and what can't be had
+        """Blocks of each size, in any order; of no bytes there is one too, and a refused size
         leaves the block as it was."""
         block, other, before = CALLS.rattle_alloc(0, 16), CALLS.rattle_alloc(24, 8), b""
         ctypes.memmove(other.at, b"x" * 24, 24)
@@ -70,7 +70,7 @@ class Calls(unittest.TestCase):
 
     def test_locks(self):
         """A range that one open of a file has locked is refused to another in the same process,
-        wherever both stand in the file, until it is given up."""
+        wherever both are in the file, until it is released."""
         at, size = 1 << 30, 512
 
         def lock(file, kind, start=at, size=size):

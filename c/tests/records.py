@@ -170,7 +170,7 @@ class Salts(unittest.TestCase):
     pieces; where getrandom gives nothing there is no record."""
 
     def record_of(self, piece, costs, salt_size, **others):
-        """A record whose salt is given in pieces of so many bytes, or not at all, and the salt."""
+        """A record whose salt comes in pieces of so many bytes, or not at all, and the salt."""
         given, draws = bytearray(), itertools.count(1)
 
         @GETRANDOM

@@ -85,7 +85,7 @@ StepInputs = structure(
 
 
 def inputs(kind=Inputs, **given):
-    """Inputs by name: those of bytes with their size, unless the size is given."""
+    """Inputs by name: those of bytes with their size, unless the call names one."""
     made = kind()
     for name, value in given.items():
         value = value.encode() if isinstance(value, str) else value

@@ -153,8 +153,8 @@ class Package(unittest.TestCase):
         run("make", "RT=false", at=room / "c", status=2)
 
     def test_uninstalled(self):
-        """`make uninstall` takes away what `make install` put there, and nothing of anyone else's.
-        DESTDIR is where files are put, and stands in none of them."""
+        """`make uninstall` removes the files of `make install`, and no others. DESTDIR is the place
+        of the files, and none of them names it."""
         room = ROOM / "uninstalled"
         words = (f"DESTDIR={room}", "PREFIX=/opt/rigzumal")
         others = {

@@ -1,5 +1,4 @@
-"""The tests in C: what each is for stands at its head. Here is what it is built with and how it
-runs."""
+"""The tests in C: the head of each says its purpose. This file builds and runs them."""
 
 import os
 import shutil

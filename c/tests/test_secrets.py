@@ -111,8 +111,8 @@ class Secrets(unittest.TestCase):
                     run(built(name, [*JOBS, "-Wl,-z,lazy", *flags], linked), *words, **options)
 
     def test_cleared_memory(self):
-        """No secret stands anywhere after a call. While a tag is worked in parts nothing is left of
-        what is to be cleared, nor of the hash of the jobs' inputs, as RFC 9106 has it."""
+        """No secret is left after a call. While a tag is worked in parts nothing is left of the
+        cleared inputs, nor of the hash of the jobs' inputs, as RFC 9106 has it."""
         password, secret = (bytes((a * at + b) % 256 for at in range(n)) for n, a, b in VAULT)
         parts = [struct.pack("<6I", 3, 40, 64, 1, 0x13, 2)]
         for it in (password, b"sixteen of salt.", secret, b""):

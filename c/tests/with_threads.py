@@ -44,8 +44,8 @@ class WithThreads(unittest.TestCase):
 
     def check_refusals(self, record, given):
         """A record of which any letter of the tag is another one is of another password, or no
-        record if it is the last and has bits that stand for nothing. So it is once an input is one
-        byte shorter."""
+        record if it is the last and has bits of no byte. So it is once an input is one byte
+        shorter."""
         for at in range(record.rindex("$") + 1, len(record)):
             other = record[:at] + ("B" if record[at] == "A" else "A") + record[at + 1 :]
             allowed = (N.MISMATCH, N.TAG)[: 1 + (at == len(record) - 1)]

@@ -91,7 +91,7 @@ class Manual(Directive):
         self.text = None
 
     def begin_item(self, words):
-        """An item, whose term stands here or in the next line."""
+        """An item, whose term is here or in the next line."""
         if not (self.section.children and isinstance(self.section[-1], nodes.definition_list)):
             self.section.append(nodes.definition_list())
         self.term, self.at, self.text = nodes.term(), nodes.definition(), None

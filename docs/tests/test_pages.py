@@ -55,7 +55,7 @@ TESTED = {
 
 
 def samples(page):
-    """The pieces of code on a page, each with its language, but for those that stand in a file."""
+    """The pieces of code on a page, each with its language, but for those of a file."""
     return BLOCK.findall(FROM_FILE.sub("", (TOP / page).read_text()))
 
 
@@ -378,7 +378,7 @@ assert hasher.check_needs_rehash(record) is {is_old}
         self.php(page, "php_symfony.php")
 
     def test_migrating(self):
-        """The commands of docs/MIGRATING.md write what stands there."""
+        """The commands of docs/MIGRATING.md write the output on the page."""
         need("doveadm", "htpasswd", "php")
         need_module("django", "passlib", "argon2", "bcrypt")
         said = run(sys.executable, TOP / "tools/readme.py", "docs/MIGRATING.md")

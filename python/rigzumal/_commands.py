@@ -104,7 +104,7 @@ def _unknown(word: str, options: Sequence[str]) -> str:
 
 
 def _meant(word: str, options: Sequence[str]) -> str:
-    """The options that an unknown one may stand for; empty if none may."""
+    """The options that an unknown one may mean; empty if none."""
     synonym = _SYNONYMS.get(word)
     if synonym is None:
         return "".join(difflib.get_close_matches(word, options, 1, 0.7))

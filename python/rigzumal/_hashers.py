@@ -165,25 +165,19 @@ def _is_record(password: Secret) -> bool:
 class PasswordHasher(_Hasher):
     """Hashes passwords into records by Argon2 (RFC 9106), version 0x13, and verifies them.
 
-    Attributes:
-        time_cost: passes, 1 to 2^32 - 1.
-        memory_cost: in KiB, 8 a lane to 2097152.
-        parallelism: lanes, 1 to 255.
-        hash_len: bytes of the tag, 4 to 64.
-        salt_len: bytes of a generated salt, 8 to 48.
-        type: the kind of Argon2.
-        secret: a pepper, which you keep apart from the records: RFC 9106's K. With it the hasher
-            verifies records of the same secret alone, and none of scrypt. It is never empty: an
-            unset variable is no pepper. No repr shows it.
-        threads: how many threads may work the lanes of one record, the caller's among them; it
-            changes no record. 1 is right for a service: other logins use the other processors.
-            `parallelism` is right for a program that hashes one password at a time: 64 MiB and
-            four lanes need a third of the time on four idle processors. At most one thread for
-            each processor starts, and none below 4 MiB.
-        secrets: the new pepper and older ones, instead of `secret`, while peppers rotate. A new
-            record uses the first, which is then `secret`, and verifying tries them all: a wrong
-            password costs a hash for each. `verify_and_rehash` replaces records of older ones.
-            b"" among the older ones stands for records without a pepper.
+    Attributes: time_cost: passes, 1 to 2^32 - 1. memory_cost: in KiB, 8 a lane to 2097152.
+    parallelism: lanes, 1 to 255. hash_len: bytes of the tag, 4 to 64. salt_len: bytes of a
+    generated salt, 8 to 48. type: the kind of Argon2. secret: a pepper, which you keep apart from
+    the records: RFC 9106's K. With it the hasher verifies records of the same secret alone, and
+    none of scrypt. It is never empty: an unset variable is no pepper. No repr shows it. threads:
+    how many threads may work the lanes of one record, the caller's among them; it changes no
+    record. 1 is right for a service: other logins use the other processors. `parallelism` is right
+    for a program that hashes one password at a time: 64 MiB and four lanes need a third of the time
+    on four idle processors. At most one thread for each processor starts, and none below 4 MiB.
+    secrets: the new pepper and older ones, instead of `secret`, while peppers rotate. A new record
+    uses the first, which is then `secret`, and verifying tries them all: a wrong password costs a
+    hash for each. `verify_and_rehash` replaces records of older ones. b"" among the older ones is
+    for records without a pepper.
 
     Raises:
         InvalidNumbersError: a number is out of its range.

@@ -316,7 +316,7 @@ class BookTest(unittest.TestCase):
 
     def assertStopped(self, change: Change, done: Ended, found: Accounts) -> None:
         """A change that was stopped left the book before it or the one after it; status 0, and an
-        answer, say that it was made."""
+        answer, say that it was stored."""
         self.assertTrue(found in (change.before, change.after), f"a mixture: {done}")
         is_said = done.status == 0 or done.written
         self.assertTrue(found == change.after or not is_said, f"an answered change is gone: {done}")
@@ -327,7 +327,7 @@ class BookTest(unittest.TestCase):
         self.assertTrue({*found} in may, f"{answered} were answered, and not those are there")
 
     def assertFails(self, done: Ended, status: int, *texts: str) -> None:
-        """It wrote nothing, and each of these texts stands in what it told."""
+        """It wrote nothing, and its messages have each of these texts."""
         self.assertEqual((done.status, done.written), (status, ""), done.faults)
         for text in texts or (" ",):
             self.assertIn(text, done.faults)

@@ -1,5 +1,5 @@
-"""64 clients at once: the answers of a service of tagged lines are those of one history, and what
-was answered before a kill stands."""
+"""64 clients at once: the answers of a service of tagged lines are those of one history, and a
+change that was answered before a kill is kept."""
 
 import random
 import signal

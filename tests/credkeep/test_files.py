@@ -152,8 +152,8 @@ class FormatTest(BookTest):
 
 class NamesTest(BookTest):
     def test_files_of_init(self) -> None:
-        """A file that is there is taken if it is this user's alone and empty; a book is said to
-        be one."""
+        """An existing file is used if it is this user's alone and empty; a book is said to be
+        one."""
         book, owner = self.file("new.db"), os.getuid()
         book.path.touch()
         refused = [(mode, owner, "others can read or write it") for mode in (0o666, 0o644, 0o620)]

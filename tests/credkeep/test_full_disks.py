@@ -41,8 +41,8 @@ class DisksTest(LostTest):
         self.assertLost(*self.on_full_disk(256 * 1024), {})
 
     def test_imports(self) -> None:
-        """The import is named, and all or none of it is kept. The system's refusal is told as what
-        it was: which error a lost import names stands in no clause."""
+        """The import is named, and all or none of it is kept. The message has the system's refusal:
+        no clause says which error a lost import names."""
         self.book.add("ann")
         lines = lined(f"n{at}:{RECORD}" for at in range(COUNT))
         done = self.book("import", given=lines, **small_files(100_000))

@@ -34,7 +34,7 @@ class ImportTest(BookTest):
 
 class OthersTest(ImportTest):
     def test_files_of_htpasswd(self) -> None:
-        """Its own records are named, and ours are taken."""
+        """Its own records are named, and ours are imported."""
         need("htpasswd")
         path = self.room / "passwd"
         path.write_text(f"# the admins\n\nann:{RECORD}\n")
@@ -74,8 +74,8 @@ class OthersTest(ImportTest):
         self.assertEqual(self.book.accounts(), {"ann": RECORD, "bob": "", "cat": ""})
 
     def test_records_of_dovecot(self) -> None:
-        """As text they are taken; in hexadecimal and base64 once docs/MIGRATING.md's command wrote
-        them out."""
+        """As text they are imported; in hexadecimal and base64 once docs/MIGRATING.md's command
+        wrote them out."""
         need("doveadm", "perl")
         command = of_the_page("perl -MMIME::Base64")
         forms = [f"{it}{end}" for it in ("ARGON2ID", "ARGON2I") for end in ("", ".HEX", ".B64")]

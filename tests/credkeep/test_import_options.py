@@ -179,7 +179,7 @@ class OptionsTest(ImportTest):
 
     def test_counts(self) -> None:
         """In JSON they are numbers by name; --quiet hides them, and bad lines are named all the
-        same. An answer that can't be written is told, and its change is made."""
+        same. An answer that can't be written is named, and its change is stored."""
         lines = f"ann:{OTHER}\nx\nfay:\n"
         for option, counts in (
             ("--update", {"added": 1, "updated": 1, "there": 0, "bad": 1}),

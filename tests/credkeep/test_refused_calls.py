@@ -122,8 +122,8 @@ class RefusedCallsTest(BookTest):
         self.assertFails(done, 5, "a sync of the file")
 
     def copies(self, order: str, file: str, before: Accounts, after: Accounts) -> None:
-        """A copy is made or put back whole or not at all, whatever is refused or killed. The next
-        run is done whole, and leaves no file beside the others."""
+        """A copy is written or restored whole or not at all, whatever is refused or killed. The
+        next run is done whole, and leaves no file beside the others."""
         change = Change(before, [order, "copy.db"], after)
         self.begun(OLD, "base/copy.db").log.unlink()
         book = self.begun({"ann": RECORD, "bob": ""}, "base/users.db")

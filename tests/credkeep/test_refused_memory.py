@@ -47,7 +47,7 @@ class RefusedMemoryTest(BookTest):
         self.assertIn("t bad 4 memory\nt ok\n", [it.written for it in found])
 
     def test_imports(self) -> None:
-        """All of an import is taken in, or none."""
+        """All of an import is stored, or none."""
         self.book.add("ann")
 
         def judge(done: Ended, names: list[str]) -> None:

@@ -215,7 +215,7 @@ MEMBERS = [f"n{at}" for at in range(64)]
 
 
 class GroupsTest(BookTest):
-    """Changes that are made together."""
+    """Changes that are stored together."""
 
     def setUp(self) -> None:
         super().setUp()
@@ -240,7 +240,7 @@ class GroupsTest(BookTest):
         return {name for name, record in book.accounts().items() if record}
 
     def test_changes_together(self) -> None:
-        """Changes that wait together are one transaction; each is answered, and stands after a
+        """Changes that wait together are one transaction; each is answered, and kept after a
         kill."""
         with self.book.tagged() as service:
             for turn in range(5):
@@ -256,8 +256,8 @@ class GroupsTest(BookTest):
 
     def test_disk_full_in_a_group(self) -> None:
         """A file that can't grow ends the service, and no line after that is answered. Of changes
-        that are made together those that were answered are kept, and the others are named, and kept
-        all or none."""
+        that are stored together those that were answered are kept, and the others are named, and
+        kept all or none."""
         standing: set[str] = set()
         with self.book.tagged(**small_files(100_000)) as service:
             for turn in range(1000):

@@ -24,7 +24,7 @@ class TerminalsTest(BookTest):
                     self.assertEqual(line.encode() in shown.text, echoes)
 
     def test_echo(self) -> None:
-        """A terminal shows what is typed, so it is refused unless --echo is given."""
+        """A terminal shows the typed text, so it is refused without --echo."""
         shown = at_a_terminal(self.book.command("add", "ann"), [])
         self.assertEqual(shown.status, 1)
         self.assertRegex(shown.text, b"(?s)credkeep-ask.*--echo|--echo.*credkeep-ask")

@@ -63,7 +63,7 @@ class EmptyRoot(Packing):
     seconds = 2400  # of which a debootstrap may take most
 
     def debian(self):
-        """A small Debian in a folder of its own, where it can be had."""
+        """A small Debian in a folder of its own, if it can be fetched."""
         room = self.room() / "root"
         if kept := os.environ.get("EMPTY_ROOT"):
             run("cp", "-a", kept, room)

@@ -50,7 +50,7 @@ TOOLCHAIN = {"bin/rt": RT, "kit/bin/rattle": RATTLE, "kit/toolchain/bin/clang": 
 
 
 def copy(room):
-    """The files of the tree as they stand, as a clone has them."""
+    """The files of the tree as they are now, as a clone has them."""
     listed = ("ls-files", "-z", "--cached", "--others", "--exclude-standard")
     for name in run("git", "-c", f"safe.directory={TOP}", *listed).split("\0"):
         if name and (TOP / name).exists():

@@ -22,7 +22,7 @@ RUN = pathlib.Path("/run/rigzumal/users")
 
 
 def on_page(path: str) -> str:
-    """The text of a file as the page has it, which may stand there for several."""
+    """The text of a file as the page has it; one text may be of several files."""
     form = rf"```\n# (?:[^\n]+, )?{re.escape(path)}(?:, [^\n]+)?\n(.*?)```"
     found = re.search(form, PAGE.read_text(), re.S)
     assert found, f"{path} isn't on the page"

@@ -225,7 +225,7 @@ class Given:
         return [*words, *self.options, str(self.path())]
 
     def begun(self) -> "Service":
-        """Starts it, over a book that is made if there is none."""
+        """Starts the server, over a new book if none exists."""
         if self.program != FAST_BOOK and not self.path().exists():
             subprocess.run([self.program, self.path(), "init"], check=True)
         (self.folder / "clock").write_text("0.0")

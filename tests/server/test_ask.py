@@ -1,7 +1,7 @@
 """Tests of bin/credkeep-ask over credkeep: when it asks at the terminal, what it shows there, and
 what credkeep gets of it.
 
-A script stands in for credkeep: it notes the words and the input that it is given.
+A script replaces credkeep: it notes its words and its input.
 """
 
 import signal
@@ -202,7 +202,7 @@ class CredkeepAsk(Case):
         self.nothing_was_given(shown, status, said)
 
     def test_no_terminal(self) -> None:
-        """Without a terminal there is nobody to ask: what stands at its input is no password."""
+        """Without a terminal there is nobody to ask: its input is no password."""
         said = self.without_a_terminal("users.db|check|ada", "old\n")
         self.assertEqual(said, (2, "", "credkeep-ask: there is no terminal to ask at\n"))
         self.assertEqual((self.noted("words"), self.noted("given")), (f"{SHOW}\n", ""))

@@ -93,8 +93,8 @@ class BookMarks(Case):
                 service.stop()
 
     def test_a_backup(self) -> None:
-        """A copy that was made while the book was served has its marks, and so has the book once
-        it is put back."""
+        """A copy that was written while the book was served has its marks, and so has the book
+        after a restore."""
         folder = self.room()
         book, copy = (real_book(), folder / "users.db"), folder / "copy.db"
         service = self.over(folder=folder).enrol(ada="secret", bob="secret")

@@ -289,7 +289,7 @@ class OverCredkeep(Case):
             self.assertEqual(service.client("admin").ask(line), said)
 
     def test_long_lines(self) -> None:
-        """A line of 960 bytes is taken; a longer one, of any size, is refused under its tag, and
+        """A line of 960 bytes is answered; a longer one, of any size, is refused under its tag, and
         its client goes on."""
         service = self.over()
         client, admin = service.both()

@@ -167,7 +167,7 @@ class Booted(Case):
     seconds = 1500  # of which a debootstrap may take most
 
     def debian(self, included: str) -> pathlib.Path:
-        """A small Debian in a folder of its own, where it can be had."""
+        """A small Debian in a folder of its own, if it can be fetched."""
         need_root()
         real_book()
         need("debootstrap", "unshare", "systemd-nspawn")
@@ -178,8 +178,8 @@ class Booted(Case):
 
     def test_under_systemd(self) -> None:
         """The units start, hand over their sockets, are restarted after kills, and end in order, in
-        their whole sandbox. The profile that PAM is given lets the book's users in, and is gone
-        with the packages; the book stays.
+        their whole sandbox. PAM's profile lets the book's users in, and is gone with the packages;
+        the book stays.
         """
         room = self.debian(INCLUDED)
         for deb in debs():

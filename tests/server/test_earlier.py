@@ -76,8 +76,8 @@ class Earlier(Case):
         return service.log()
 
     def test_taken(self) -> None:
-        """The marks that stood are the book's, and those that were taken back aren't. The log has
-        how many, and of how many there was nobody."""
+        """The last marks are the book's, and those that were ended aren't. The log has their
+        number, and the number of those whose account is gone."""
         folder = self.begun(MARKS + NOBODYS)
         service = self.serving("--tries", "0", folder=folder)
         gone = f"{self.marks(folder)} is gone: 5 of its marks are in the book now"

@@ -85,8 +85,8 @@ class BesideLocks(BesideCase):
         self.assertRegex(marks, f"^marks {names[-1]}:!")
 
     def test_imports(self) -> None:
-        """A lock that is answered stands behind an import that replaces the account's record, and
-        one of other accounts."""
+        """An answered lock stays after an import that replaces the account's record, and one of
+        other accounts."""
         service = self.over(ada="secret", bob="secret")
         admin, other = service.client("admin"), service.client("admin")
         line = f"ada:{admin.ask('show bob')}\n"

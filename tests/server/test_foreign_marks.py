@@ -46,7 +46,7 @@ class ForeignMarks(ForeignCase):
         self.add("ada", "-s")
 
     def test_locked(self) -> None:
-        """Each password is wrong until the user is given back to the file, also after a kill."""
+        """Each password is wrong until the file has the user again, also after a kill."""
         folder = self.room()
         service = self.over("--tries", "0", folder=folder).enrol(bob="other")
         service.talk(LOCKED)
@@ -127,8 +127,8 @@ class ForeignMarks(ForeignCase):
         service.talk("admin marks - 10 -> marks bob:! eve:!")
 
     def test_pages_of_marks(self) -> None:
-        """Whom the file bars stands among those who are marked, each once, and no page is longer
-        than it may be."""
+        """Users whom the file bars are among the marked ones, each once, and no page is longer than
+        it may be."""
         record = made_by(MAKERS["sha1"], "secret")
         barred = ("bo", "cy", "fay", "gus", "not a name")
         self.file.write_text("".join(f"{it}:{record}:::::::nologin\n" for it in barred))

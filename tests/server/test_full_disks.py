@@ -95,7 +95,7 @@ class FullDisks(Case):
         service.stop()
 
     def test_the_audit_log(self) -> None:
-        """No change is made that couldn't be noted; logins go on without their lines."""
+        """No change is stored that couldn't be noted; logins go on without their lines."""
         folder = self.disk()
         audit = folder / "audit"
         service = self.over(self.room(), "--audit", str(audit)).enrol(ada="secret")
@@ -181,7 +181,7 @@ class FullDisks(Case):
         self.assertTrue(service.client("admin").ask("show ada").startswith("$"))
 
     def test_a_disk_without_a_size(self) -> None:
-        """A filesystem that names no size is taken to have room."""
+        """A filesystem that names no size counts as one with room."""
         folder = self.disk("mode=0755", "ramfs")
         self.assertEqual(os.statvfs(folder).f_bavail, 0)
         self.over(folder).enrol(ada="secret").talk(LOGINS)

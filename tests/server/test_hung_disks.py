@@ -64,8 +64,8 @@ def notes(path: pathlib.Path) -> int:
 
 class HungDisks(Case):
     def test_an_audit_log(self) -> None:
-        """Logins go on, and no more lines wait than are told; then no change is made. Once the
-        disk goes on so do changes."""
+        """Logins go on, and no more lines wait than the log says; then no change is stored. Changes
+        go on once the disk does."""
         disk = Disk(self)
         audit = disk.folder / "audit"
         service = self.serving("--audit", str(audit), "--tries", "0").enrol(ada="secret")

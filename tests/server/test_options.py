@@ -119,8 +119,8 @@ class Mistakes(Case):
         first.client().talk("known ada -> noaccount")
 
     def test_words_of_the_book(self) -> None:
-        """The book gets each option that is given, and no other but a place more; new costs go
-        before the setting.
+        """The book gets each option of the command line, and no other but a place more; new costs
+        go before the setting.
 
         This one ends at once: no client is let in, and the status says so."""
         room, own = self.room(), len(os.sched_getaffinity(0)) + 1

@@ -203,7 +203,7 @@ class Outcome:
     probes: tuple[bytes, ...]
 
     def has_answers_of(self, cut: "Outcome") -> bool:
-        """Whether each answer that was given before a kill is one of these."""
+        """Whether each answer before a kill is one of these."""
         return all(it in self.answers for it in cut.answers if it[1] is not None)
 
     def is_stricter(self, legal: "Outcome") -> bool:

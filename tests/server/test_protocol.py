@@ -37,8 +37,8 @@ class Answers(Case):
         self.assertIn('.IP "\\fBunheard\\fP"\nIt is new.\n', texts["credkeep-server.8"])
 
     def test_pages(self) -> None:
-        """Each answer stands in a manual and among the errors, and each operation in a manual and
-        among those of the sockets."""
+        """Each answer is in a manual and among the errors, and each operation in a manual and among
+        those of the sockets."""
         manuals = "".join(map(manual, MANUALS))
         errors = (TOP / "docs/ERRORS.md").read_text()
         servers = (TOP / "docs/SERVERS.md").read_text()

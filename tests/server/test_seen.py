@@ -350,7 +350,7 @@ class Audited(Case):
         self.assertEqual(found, ["account", "ok", "enrol", "enrolled", "yes", "verify"])
 
     def test_no_room(self) -> None:
-        """A change whose line can't be written isn't said to be made; logins go on, and changes
+        """A change whose line can't be written isn't answered as stored; logins go on, and changes
         once there is room."""
         need("prlimit")
         path, said = self.room() / "audit", list[str]()

@@ -165,7 +165,7 @@ class Sites(Case):
 
     @in_namespaces
     def test_nginx_htpasswd(self, room: pathlib.Path) -> None:
-        """A user of an htpasswd file gets in by it until the name is taken out, and by the book
+        """A user of an htpasswd file gets in by the file until the name is removed, and by the book
         from then on."""
         server = run_nginx(room, "both", 8082)
         old = pathlib.Path("/etc/nginx/htpasswd")

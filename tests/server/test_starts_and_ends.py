@@ -227,7 +227,8 @@ class Systemd(Case):
         service.process.kill()
 
     def test_sockets_handed_over(self) -> None:
-        """Sockets of systemd's are taken by their names, whatever their order, and none is made."""
+        """The server finds systemd's sockets by their names, whatever their order, and opens
+        none."""
         need("systemd-socket-activate")
         for order in (["login", "admin"], ["admin", "login"]):
             room = self.room()

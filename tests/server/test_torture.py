@@ -1,10 +1,11 @@
 """64 clients on 8 accounts through the server's sockets, while the server and the book are killed.
 
-Every new password is another one, so an answer that lets a password in names the record that stood.
-python/tests/accounts/torture judges these, and those without an answer as made once or never. An
-answer that doesn't let a password in is judged apart: it must not lie within the time in which that
-password surely stood. What was answered before a kill has to be there after it. TORTURE_SECONDS in
-the environment is how long it goes on (60, with a kill every three), TORTURE_SEED its seed.
+Every new password is another one, so an answer that lets a password in names the record of that
+moment. python/tests/accounts/torture judges these, and those without an answer as made once or
+never. An answer that doesn't let a password in is judged apart: it must not lie within the time in
+which that password surely stood. What was answered before a kill has to be there after it.
+TORTURE_SECONDS in the environment is how long it goes on (60, with a kill every three),
+TORTURE_SEED its seed.
 """
 
 import concurrent.futures
@@ -123,7 +124,7 @@ def kill(service: Service, kind: str) -> None:
 
 
 def stands(service: Service, log: Log, name: str) -> Optional[str]:
-    """The record that stands at last, or none."""
+    """The last record, or none."""
     with Client(service.path("admin")) as admin:
         if admin.ask(f"known {name}") == "absent":
             return None

@@ -49,8 +49,8 @@ class Tries(Case):
         )
 
     def test_what_counts(self) -> None:
-        """Each answer that a try failed counts, and after each that one was right, or is made so,
-        none does."""
+        """Each answer that a try failed counts, and none does after a right one, or a new
+        password."""
         service = self.serving("--tries", "2", clocked=True).enrol(ada="secret")
         admin = service.client("admin")
         for row in (

@@ -137,8 +137,8 @@ class Completions(Case):
 
     @unittest.skipUnless(shutil.which("zsh"), "needs the program zsh")
     def test_zsh(self):
-        """It completes accounts, whatever stands before them, and no account where a new name is
-        due; a list says what each word does."""
+        """It completes accounts, whatever precedes them, and no account where a new name is due; a
+        list says what each word does."""
         for line, completed, listed in (
             ("credkeep users.db check a", "credkeep users.db check ada", "ada ann"),
             ("credkeep-ask users.db check an", "credkeep-ask users.db check ann", ""),

@@ -53,7 +53,7 @@ class Pages(Case):
         (["low", "high"], ["no other"]),
     )
     def test_order(self, rows: list[str], wrong: list[str]) -> None:
-        """A crate stands below what it uses."""
+        """A crate is below those that it uses."""
         page = "".join(map(ROW.format, rows))
         self.assertEqual(
             self.order(page), [f"docs/ARCHITECTURE.md's table has {it}" for it in wrong]
@@ -72,5 +72,5 @@ class Pages(Case):
         self.assertIn(pages.statements.check, pages.OF_TREE)
 
     def test_two_in_a_row(self) -> None:
-        """Crates of one row stand beside each other."""
+        """Crates of one row are beside each other."""
         self.assertEqual(self.order(ROW.format("other") + TESTS), [])

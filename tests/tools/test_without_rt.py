@@ -52,7 +52,7 @@ NEEDING = [
 class WithoutRt(helpers.Case):
     @classmethod
     def setUpClass(cls) -> None:
-        """A copy of the committed files as they stand, as a clone has them."""
+        """A copy of the committed files as they are now, as a clone has them."""
         cls.top = helpers.common_folder() / "a copy"
         git = ["git", "-c", f"safe.directory={TOP}", "ls-files", "-z"]
         names = subprocess.run(git, cwd=TOP, capture_output=True, text=True, check=True).stdout
@@ -108,7 +108,7 @@ class WithoutRt(helpers.Case):
         self.assertIn(f"\nImportError: {LIBRARY}", done.faults)
 
     def test_archive(self) -> None:
-        """Compiled code that differs from what was taken before is taken anew."""
+        """Compiled code that differs from the copy of before is copied again."""
         self.assertEqual(self.ended("make -s -C c out/v1.a").status, 0)
         proved = self.top / "c/proved"
         for file in (proved / "x86_64/v1.a", proved / "archives.sum"):

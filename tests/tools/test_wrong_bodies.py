@@ -1,4 +1,4 @@
-"""tools/wrong_bodies.py over a toolchain that stands in: which wrong bodies it tries, how many at
+"""tools/wrong_bodies.py over a stand-in of the toolchain: which wrong bodies it tries, how many at
 once, and what it says of each."""
 
 import os
@@ -86,7 +86,7 @@ class WrongBodies(Case):
         return sorted(f"high/{it}: refused, in {functions.get(it, it)}: `returns`" for it in names)
 
     def test_all(self):
-        """One check as the crate stands; one, two and three at once, of whom three waits for one
+        """One check of the crate as it is; one, two and three at once, of whom three waits for one
         and is tried alone; one-otherwise; and the limit alone, since other functions see it."""
         self.assertEqual(self.tried("high"), (0, self.refused(*EDITS), 5))
 
@@ -162,7 +162,7 @@ class WrongBodies(Case):
             self.assertEqual([it.split()[0] for it in self.checks], ["3"])
 
     def test_functions_that_are_not_proved(self):
-        """Nothing is said of a wrong body of a function that isn't proved as it stands."""
+        """No verdict on a wrong body of a function that isn't proved as it is."""
         self.write({"crates/high/src/lib.rt": SOURCE.replace("{ 2 }", "{ wrong 2 }")})
         status, lines, _ = self.tried()
         self.assertEqual((status, [it for it in lines if "refused" in it]), (1, []))

@@ -109,9 +109,8 @@ class Passwords:
 class Judge:
     """Does requests on copies of records, with new records by the hasher of Accounts.
 
-    Attributes:
-        sample: a record of the hasher's costs that no password is right for.
-        foreign: the hook for texts of other schemes, if one was given.
+    Attributes: sample: a record of the hasher's costs that no password is right for. foreign: the
+    hook for texts of other schemes, or None.
     """
 
     def __init__(

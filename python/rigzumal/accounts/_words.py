@@ -15,7 +15,7 @@ from rigzumal._commands import read_password
 
 
 def _options() -> Words:
-    """The options of each command, which may stand before it too."""
+    """The options of each command, which may precede it too."""
     words = Words(add_help=False, argument_default=argparse.SUPPRESS)
     words.add_argument("--database", metavar="URL")
     words.add_argument("--table", help="by default: accounts")

@@ -1,9 +1,9 @@
 """The command: python3 -m rigzumal accounts --database URL --table T COMMAND.
 
-At a terminal the command asks for a password; otherwise the password is standard
-input, without one newline at its end. `change` reads two lines: the old password and
-the new one. An empty password is refused. The URL may be in RIGZUMAL_DATABASE instead,
-where no list of processes shows it. Options stand before COMMAND or behind it.
+At a terminal the command asks for a password; otherwise the password is standard input, without one
+newline at its end. `change` reads two lines: the old password and the new one. An empty password is
+refused. The URL may be in RIGZUMAL_DATABASE instead, where no list of processes shows it. Options
+precede COMMAND or follow it.
 
 Exit statuses are credkeep's: 0 done or yes, 1 a word was refused, 2 reading or
 writing failed, 3 out of memory, 4 no, 5 the database failed or has a fault, 6 the
@@ -90,7 +90,7 @@ class _Command:
             raise Refusal(fault, Status.WORDS)
         database = Database(url)
         if database.is_missing and self.args.command != "init":
-            fault = f"{url}: no such file; init makes one"
+            fault = f"{url}: no such file; init creates one"
             raise Refusal(fault, Status.DATABASE)
         return database
 

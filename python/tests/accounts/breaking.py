@@ -19,7 +19,7 @@ def take_pool(accounts, pool):
 
 
 def uncompared(accounts):
-    """The UPDATE puts the record whatever stands."""
+    """The UPDATE writes the record over any other."""
     dialect = accounts._dialect
     mark = "%s::text" if isinstance(dialect, Postgres) else dialect.mark
     dialect.at_once = ""
@@ -219,7 +219,7 @@ def resent(accounts):
 
 
 def resent_at_none(accounts):
-    """An enrolment whose COMMIT was lost is sent again if no record stands."""
+    """An enrolment whose COMMIT was lost is sent again if the account has no record."""
     lossy(accounts)
     settled = accounts._settled
 

@@ -114,7 +114,8 @@ class LostAnswers:
                 self.assertEqual(self.stands() is not None, is_record)
 
     def at_second_look(self, accounts, act, is_after=False):
-        """Does `act` before one looks what stands, or between that and what is sent again."""
+        """Does `act` before a look at the record, or between the look and the statement that is
+        sent again."""
         look, looks = accounts._table.look, []
 
         async def looked(*given):
@@ -130,7 +131,8 @@ class LostAnswers:
 
     @each(*itertools.product((True, False), (True, False)))
     def test_another_change_meanwhile(self, before, is_after):
-        """The new record may have stood and been replaced: nobody knows, and nothing is put."""
+        """The new record may have been stored and replaced: nobody knows, and nothing is
+        written."""
         self.give("one")
         accounts = self.losing(before)
         self.at_second_look(accounts, lambda: self.give("another"), is_after)
@@ -151,7 +153,7 @@ class LostAnswers:
 
     @each(True, False)
     def test_a_fault_after_a_lost_answer_says_nothing_of_it(self, before):
-        """The change stands, or may come to stand: it is unknown, and no StoreFault."""
+        """The change is stored, or may be later: its outcome is unknown, and no StoreFault."""
         self.give("one")
         accounts = self.losing(before)
         self.at_second_look(accounts, mock.Mock(side_effect=StoreFault("the disk is full")))
@@ -166,7 +168,7 @@ class Confirmed:
 
     @each(("one", "two", Reply.NO), ("one", None, Reply.ABSENT), (None, "two", Reply.NO))
     def test_what_was_replaced_meanwhile(self, stands, other, reply):
-        """It is worked anew at what stands, and nothing of the old comes back."""
+        """It is worked again at the present record, and nothing of the old comes back."""
         accounts = self.accounts(confirm=True)
         stood = self.give(stands)
         worked = self.worked(accounts, Kind.VERIFY, "one")
@@ -192,7 +194,8 @@ class AtOnce:
     """A change by one statement: what it promises is what a transaction did."""
 
     def test_it_is_told_before_it_is_sent(self):
-        """As a log of what was tried has to be written first; and what stands is the answer's."""
+        """A log of attempts has to be written first; and the record in the table is the
+        answer's."""
         accounts, seen = self.accounts(), []
         accounts._table.before_commit = lambda it: seen.append((it.reply, self.is_right("one")))
         answer = accounts.commit(self.worked(accounts, Kind.CHANGE, "one", "two"))
@@ -211,7 +214,7 @@ class OnServers:
     """A server's own acts: it ends waits, and restarts."""
 
     def test_restart(self):
-        """The pool's connection is gone after a restart: another is made."""
+        """The pool's connection is gone after a restart: it opens another."""
         accounts = self.accounts()
         self.assert_replies("verify ann one yes", accounts)
         self.server.end()

@@ -47,7 +47,7 @@ class RowsOfOnesOwn:
         self.assertEqual(self.rows(), [reply])
 
     def test_an_exception_undoes_all(self):
-        """It comes through as it is, be it a driver's, and nothing stands."""
+        """The exception comes through as it is, be it a driver's, and nothing is stored."""
         accounts = self.accounts(patience=60.0)
         # A mail server's looks as a connection's, and another's refusal as this server's.
         network = (ConnectionRefusedError("mine"), TimeoutError("mine"), self.broken)
@@ -74,7 +74,7 @@ class RowsOfOnesOwn:
 
     @each(("login ann one", "no"), ("change ann one x", "wrong"))
     def test_it_is_called_again_at_each_turn(self, text, reply):
-        """Another record stands at the first commit: its row was undone with it."""
+        """The row has another record at the first commit: the hook's row was undone with it."""
         accounts, owner = self.accounts(self.high), self.accounts()
         self.begin()
         after_hash(accounts, lambda: owner.reset("ann", "two"))
@@ -258,7 +258,7 @@ class RowsOfOnesOwn:
 
     @each(True, False)
     def test_a_commit_without_an_answer(self, before):
-        """Of a change one row stands, as the record does; otherwise nobody knows."""
+        """Of a change one row is stored, as the record is; otherwise nobody knows."""
         self.begin()
         losing = self.losing(before)
         self.assert_replies("change ann one two replaced", losing, also=self.also)

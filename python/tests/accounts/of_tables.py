@@ -63,8 +63,8 @@ class Connections:
 
     @each(*CALLS)
     def test_what_is_sent(self, costs, stands, text, reply):
-        """No statement too many: docs/SCALE.md has these lists. Of none to a record, and of a
-        record to none, what stands wouldn't tell enough for one statement."""
+        """No statement too many: docs/SCALE.md has these lists. From none to a record, and from a
+        record to none, the row wouldn't tell enough for one statement."""
         hasher, conn, several = getattr(self, costs), self.another(), self.several
         plain, confirming = (self.kept(hasher, conn, confirm=it) for it in (False, True))
         begin, _, rest = several.partition(" ")
@@ -87,7 +87,7 @@ class Connections:
                 self.assertEqual(self.stands(), record)
 
     def test_changes_at_any_level(self):
-        """Of eight changes of one record one is made, whatever the session's level is; of eight
+        """Of eight changes of one record one is stored, whatever the session's level is; of eight
         logins all are let in, and the record has the higher costs."""
         for setting in self.levels:
             connect = self.setting(setting)
@@ -215,7 +215,7 @@ class Tables:
             cursor.close()
 
     def test_columns_that_change_a_record(self):
-        """They are found as a record is put, and none stands."""
+        """They are found as a record is written, and none is stored."""
         for column, mode, stands in itertools.product(self.changing, self.modes, ("short", None)):
             self.table(column)
             self.put(stands)

@@ -255,7 +255,7 @@ class Crashes:
         return process
 
     def turn(self, answered, changer):
-        """The number of the password that stands after a kill."""
+        """The number of the password in the table after a kill."""
         looking, end = self.accounts(confirm=self.confirm), time.monotonic() + LONGEST
         while time.monotonic() < end:
             now = answered.value

@@ -87,7 +87,7 @@ class Answers(Commands):
         """It isn't made; what `init` makes has what SCALE.md asks of SQLite."""
         path, typo = f"{self.server.path}.typo", ("--database", f"{self.server.url}.typo")
         said = self.run_command(*typo, "list", status=5)
-        self.assertIn("typo: no such file; init makes one", said)
+        self.assertIn("typo: no such file; init creates one", said)
         self.assertFalse(os.path.exists(path))
         self.run_command(*typo, "init")
         with contextlib.closing(sqlite3.connect(path)) as conn:

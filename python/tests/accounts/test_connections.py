@@ -276,7 +276,7 @@ class Urls(unittest.TestCase):
 
     @each("ada:secret", "ada:secret/d", "one:5432,ada:secret/d", "[::1]:secret/d", "ada:123456/d")
     def test_a_password_without_a_host(self, rest):
-        """It stands where a port does, which a driver's error shows."""
+        """It is in the place of a port, which a driver's error shows."""
         for kind in ("mysql", "postgresql"):
             with self.assertRaisesRegex(ValueError, "and @ ends them") as raised:
                 Database(f"{kind}://{rest}").connect()

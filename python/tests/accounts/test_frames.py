@@ -28,7 +28,7 @@ class Frames:
     high = low.replace(memory_cost=128)
 
     def assert_hidden(self, kind, call, *given, **named):
-        """The call raises this, and neither a frame nor a text has what it was given."""
+        """The call raises this, and neither a frame nor a text has its arguments."""
         with self.assertRaises(kind):
             call(*given, **named)
         try:
@@ -139,4 +139,4 @@ class OfThreads(Frames, Base):
 
 
 class OfTasks(Frames, engines.OnSqliteTasks, Base):
-    """AsyncAccounts, whose hashes are made in other threads."""
+    """AsyncAccounts, whose hashes run in other threads."""

@@ -32,7 +32,7 @@ class FullDisk(Base):
 
     @each("WAL", "DELETE")
     def test_what_each_operation_answers(self, mode):
-        """Logins go on, each change is a fault, and what stood stands."""
+        """Logins go on, each change is a fault, and the old records stay."""
         self.begin(mode)
         accounts = self.accounts(HIGH, patience=60.0)
         accounts.verify("ann", "one")
@@ -71,7 +71,7 @@ class FullDisk(Base):
         self.assertEqual((str(found["disk-full"]), found["disk-full"].is_error), (said, False))
 
     def test_a_crash_after_a_refused_commit(self):
-        """The record that was acknowledged last stands, wherever the log of SQLite ended."""
+        """The row has the record that was acknowledged last, wherever the log of SQLite ended."""
         for before in range(9):
             self.begin("WAL")
             words = (self.server.path, str(before), os.path.join(self.folder, "filling"))

@@ -241,7 +241,7 @@ class Costs(Base):
 
     @each((None, "enrol ann one"), (None, "reset ann one"), ("one", "reset ann two"))
     def test_a_new_record_costs_one_hash(self, stands, text):
-        """No dummy beside it, where none stood."""
+        """No dummy beside it, where the account had no record."""
         self.give(stands)
         with self.hashes(1):
             called(self.accounts(), text)

@@ -117,7 +117,7 @@ class OnMariaDB(engines.OnMariaDB, Base):
             del conn
 
     def test_a_statement_that_was_ended_at_its_commit(self):
-        """max_statement_time may be over as the COMMIT is done: what stands tells."""
+        """max_statement_time may be over as the COMMIT is done: the row tells."""
         over = self.again.__class__(1969, "max_statement_time exceeded")
         for stands, expected in (("new", None), ("old", OSError), ("other", ConnectionError)):
             session = scripted(over, Result([], 0), Result([(stands,)], 1))

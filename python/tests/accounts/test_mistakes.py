@@ -289,7 +289,7 @@ class AtAShell(support.Commands):
 
     @each(
         ("list", "no database: --database URL, or RIGZUMAL_DATABASE", 1),
-        ("--database sqlite:///none.db list", "none.db: no such file; init makes one", 5),
+        ("--database sqlite:///none.db list", "none.db: no such file; init creates one", 5),
         ("--database sqlite:///nodir/u.db init", "nodir: no such folder", 5),
         ("--database postgresql://127.0.0.1:1/x init", "Connection refused", 5),
         ("--database mariadb://127.0.0.1:1/x init", "Can't connect to MySQL server on", 5),

@@ -47,7 +47,8 @@ class Operations(Base):
             self.assertIs(accounts.change("ann", other, "new"), Reply.WRONG, other)
 
     def test_changed_after_so_many_tries(self):
-        """An upgrade that never stood is no yes; what changes nothing is answered as read."""
+        """An upgrade that was never stored is no yes; an operation without a change is answered as
+        read."""
         accounts, turns = self.accounts(HIGH, tries=3), []
 
         def changed():
@@ -258,7 +259,7 @@ class Tasks(engines.OnSqliteTasks, Base):
     """Tests of coroutines alone."""
 
     def test_a_hash_holds_up_no_task(self):
-        """It is made in another thread, one operation's beside the next one's."""
+        """It runs in another thread, one operation's beside the next one's."""
         accounts, threads = self.accounts().core, set()
         work = accounts._judge.work
         both = threading.Barrier(2, timeout=LONGEST)

@@ -102,7 +102,7 @@ class OnPostgres(engines.OnPostgres, Base):
         "CREATE CONSTRAINT TRIGGER tr AFTER UPDATE ON users DEFERRABLE INITIALLY DEFERRED",
     )
     def test_a_trigger_that_warns(self, when):
-        """As an auditing one may: each change is made once, and its COMMIT is believed."""
+        """As an auditing one may: each change is stored once, and its COMMIT is believed."""
         self.execute("DROP TABLE IF EXISTS audit")
         self.execute("CREATE TABLE audit (record text)")
         self.create()
@@ -202,7 +202,7 @@ class OnPostgres(engines.OnPostgres, Base):
     )
 
     def imported(self, connect, lines, **sizes):
-        """The words for these lines, put in batches of so many; and what stands then."""
+        """The words for these lines, written in batches of so many; and the records then."""
         self.create()
         for name, record in (("there", RECORD), ("none", None), ("other", TWO)):
             self.put(record, name)

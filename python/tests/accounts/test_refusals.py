@@ -19,7 +19,7 @@ from rigzumal.accounts.dialects import MySQL, Verdict
 
 class Arguments(Base):
     def test_pools_and_hashers(self):
-        """Of another kind they are refused as Accounts are made, and named."""
+        """Of another kind they are refused as Accounts are built, and named."""
         engine = type("Engine", (), {"connect": self.no_connection})()
         for kind, pool in ((Accounts, "PerThread"), (AsyncAccounts, "PerUse")):
             for given in (self.conn, engine, "sqlite:///x"):
@@ -238,7 +238,7 @@ class Errors(Base):
                     self.assertEqual(dialect.gave_up(error), gave_up)
 
     def test_modes_of_sqlite(self):
-        """From Python 3.12 on there is an attribute; -1 stands for the older way."""
+        """From Python 3.12 on there is an attribute; -1 means the older way."""
         cases = {(True, ""): True, (False, None): False, (-1, None): True, (-1, ""): False}
         for (autocommit, level), wanted in cases.items():
             conn = mock.Mock(in_transaction=False, autocommit=autocommit, isolation_level=level)

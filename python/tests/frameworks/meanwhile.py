@@ -133,12 +133,12 @@ def delete_elsewhere(user):
 
 
 def stands(user):
-    """The record that stands."""
+    """The record in the row."""
     return rows(user).values_list("password", flat=True).get()
 
 
 def is_right(user, password):
-    """Whether the password is one of the record that stands."""
+    """Whether the password is one of the record in the row."""
     return hashers.check_password(getattr(user, "pepper", "") + password, stands(user))
 
 

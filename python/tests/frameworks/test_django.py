@@ -31,7 +31,7 @@ VALIDATORS = "django.contrib.auth.password_validation.password_changed"
 
 class Operations(Ann, TestCase):
     def test_one_column_is_written_and_validators_hear_of_new_passwords(self):
-        """An upgrade is none, and neither is a password that is taken away."""
+        """An upgrade is none, and neither is a removed password."""
         User.objects.update(email="new@example.org")
         with cheap(memory=128), mock.patch(VALIDATORS) as told:
             passwords.check_password(self.ann, "old")

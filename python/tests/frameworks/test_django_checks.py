@@ -291,7 +291,7 @@ class Records(Cheap, TestCase):
                 self.assertEqual(self.found(), [])
 
     def test_no_table_and_no_column(self):
-        """Before the tables are made, and of a model without a password."""
+        """Before the tables are created, and of a model without a password."""
         User.objects.create(username="ann", password="topsecret$1")
         with mock.patch.object(User._meta, "db_table", "not_made_yet"):
             self.assertEqual(self.found(), [])

@@ -36,7 +36,7 @@ CHANGED = "password was changed meanwhile"
 
 class Forms(Ann, TestCase):
     def valid(self, form, given=GIVEN):
-        """The form, with the user as she stands, whose password is "old"."""
+        """The form, with the user as in the database, whose password is "old"."""
         self.reset("old")
         found = form(User.objects.get(), given)
         self.assertTrue(found.is_valid(), found.errors)
@@ -70,7 +70,7 @@ class Forms(Ann, TestCase):
 
     @each((False, 2), (True, 4))
     def test_a_change_costs_two_hashes(self, is_reset, hashes):
-        """As Django's: the old password is judged once, where its record still stands."""
+        """As Django's: the old password is judged once, if its record is still there."""
         self.reset("old")
         with mock.patch.object(rigzumal, "argon2", side_effect=rigzumal.argon2) as hashed:
             form = forms.PasswordChangeForm(User.objects.get(), GIVEN)

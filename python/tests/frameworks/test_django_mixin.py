@@ -79,7 +79,7 @@ class Written(Cheap):
             self.assertTrue(self.right("reset"))
 
     def test_a_part_that_was_rolled_back(self):
-        """The first of two changes in a transaction stands, the second doesn't."""
+        """The first of two changes in a transaction is stored, the second isn't."""
         for write in self.writes:
             with transaction.atomic():
                 write(self.ann, "first")()

@@ -125,7 +125,7 @@ class AsDjangos(Cheap, TransactionTestCase):
 
     @beside(("(models.Model,)", None))
     def test_a_migration_names_what_it_does_of_djangos(self, model, ann):
-        """So the package can be taken out again, and no migration is to be edited."""
+        """So the package can be removed again, and no migration needs an edit."""
         state = ModelState.from_model(model)
         return MigrationWriter.serialize(state.bases)[0], state.options.get("verbose_name")
 

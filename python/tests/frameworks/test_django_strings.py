@@ -41,7 +41,7 @@ class Strings(unittest.TestCase):
 
     @unittest.skipIf(argon2_cffi is None, "needs Python's module argon2")
     def test_argon2_both_ways(self):
-        """Servers with each hasher, by turns: at most one record is made anew."""
+        """Servers with each hasher, by turns: at most one record is replaced."""
         theirs, ours, alike = hashers.Argon2PasswordHasher(), Argon2(), Argon2()
         alike.hash_len = argon2_cffi.DEFAULT_HASH_LENGTH  # 16 before 21.2, then 32
         theirs.memory_cost, theirs.time_cost, theirs.parallelism = 64, 1, 1

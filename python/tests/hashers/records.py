@@ -30,7 +30,7 @@ def python(*words, given="", status=0, at=HERE, **env):
 
 
 def unpadded(data):
-    """Base64, as it stands in a record."""
+    """Base64, as a record has it."""
     return base64.b64encode(data).decode().rstrip("=")
 
 

@@ -103,7 +103,7 @@ def failing(module, words):
 
 class Frames(unittest.TestCase):
     def assert_hidden(self, call, *given):
-        """The call raises, and neither a frame nor a text has what it was given."""
+        """The call raises, and neither a frame nor a text has its arguments."""
         named = given[-1] if isinstance(given[-1], dict) else {}
         raised = None
         try:

@@ -42,7 +42,7 @@ class Places(unittest.TestCase):
 
     @each(("own", "python/rigzumal"), ("made", "c/out"))
     def test_the_package_comes_first(self, package, library):
-        """Its own library is taken before that of a make beside it, which is no library here."""
+        """It loads its own library before that of a make beside it, which is no library here."""
         room = self.room / package
         shutil.copytree(PYTHON / "rigzumal", room / "python/rigzumal")
         (room / "c/out").mkdir(parents=True)

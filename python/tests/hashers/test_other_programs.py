@@ -47,7 +47,7 @@ def by_program(kind, version, numbers, password):
 
 
 def argon2_by_passlib(kind, version, numbers, password):
-    """A string of version 0x10 is made only after another one's settings, and without `v=`."""
+    """A string of version 0x10 is written only after another one's settings, and without `v=`."""
     from passlib.hash import argon2
 
     m, t, p, salt, tag = numbers

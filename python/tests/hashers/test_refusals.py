@@ -69,7 +69,7 @@ class Refusals(unittest.TestCase):
         (ScryptHasher, SCRYPT_COSTS, "salt_len", 1, 48, "salt"),
     )
     def test_numbers_of_a_hasher(self, kind, given, name, least, most, word):
-        """Each is refused as the hasher is made, by its name, its range and its fault."""
+        """Each is refused as the hasher is built, by its name, its range and its fault."""
         for number in (least, most):
             self.assertEqual(getattr(kind(**{**given, name: number}), name), number)
         for number in (least - 1, most + 1, -1):

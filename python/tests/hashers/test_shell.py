@@ -51,7 +51,7 @@ class Shell(unittest.TestCase):
         *((it, None) for it in ("hunter2$", "hunter2")),
     )
     def test_what_is_no_record_of_ours(self, text, name):
-        """The scheme's name is given where one stands; nothing else of the text is shown."""
+        """The message has the scheme's name if the text has one, and nothing else of the text."""
         status, out, fault = run(["verify", text], "secret")
         self.assertEqual((status, out), (1, ""))
         self.assertNotIn("hunter2", fault)
@@ -92,7 +92,7 @@ class Shell(unittest.TestCase):
         self.assertEqual(run(["verify", record], given)[:2], (0, "yes\n"))
 
     def at_a_terminal(self, words, *lines):
-        """The status of the command, and what stood on its terminal."""
+        """The status of the command, and the text on its terminal."""
         shown = at_a_terminal([*COMMAND, *words], lines)
         return shown.status, shown.text.decode()
 

@@ -103,8 +103,8 @@ class Package(unittest.TestCase):
 
     @each((), ("/of_another.py", "/django/of_another.py"))
     def test_uninstalled(self, others):
-        """`make uninstall` takes away what `make install` put there, and nothing of anyone
-        else's: the folder's path has a space, and what stands before it is another's."""
+        """`make uninstall` removes the files of `make install`, and no others: the folder's path
+        has a space, and the files before it are another's."""
         room, another = ROOM / "uninstalled here", ROOM / "uninstalled"
         another.mkdir(exist_ok=True)
         words = (f"DESTDIR={room}", "PREFIX=/opt/rigzumal")
@@ -151,8 +151,7 @@ class Package(unittest.TestCase):
         self.assertTrue(run(*emulated, env=env, at=ROOM).startswith("True "))
 
     def test_editable(self):
-        """`pip install -e` has the folder itself imported, and leaves nothing when it is taken
-        away."""
+        """`pip install -e` has the folder itself imported, and leaves nothing after its removal."""
         room = new_environment("editable")
         python = room / "bin/python"
         run(room / "bin/pip", "install", "-q", "--no-index", "-e", PYTHON, env=CLEAN)
@@ -189,7 +188,7 @@ class Package(unittest.TestCase):
         run("mypy", "--strict", cache, "rigzumal", at=PYTHON)
 
     def test_types_of_a_reply(self):
-        """mypy names a reply of accounts that is taken for a truth value."""
+        """mypy names a reply of accounts that is used as a truth value."""
         need("mypy")
         file = ROOM / "let_in.py"
         file.write_text(LETS_IN)

@@ -161,7 +161,7 @@ class Marks(Journal):
                     self.apply(found[1], found[2] or b"")
 
     def apply(self, name: bytes, mark: bytes) -> None:
-        """Counts a mark of a name, or one that takes another back."""
+        """Counts a mark of a name, or one that ends another."""
         if mark in UNDOES:
             self.pairs.discard((name, UNDOES[mark]))
         else:

@@ -141,7 +141,7 @@ ANSWERS = {
         ask=1,
     ),
     "unavailable": Answer(
-        "the book has ended, or is ending: a change may be made or not, so look at the account",
+        "the book has ended, or is ending: a change may be stored or not, so look at the account",
         ask=5,
     ),
     "bad 1 exists": refused("the book, or the file of `--foreign`, has the name already", ask=4),

@@ -207,7 +207,7 @@ class Service:
         return await self.answer(request)
 
     def has_room(self) -> bool:
-        """Whether the disks have room for a change: one that finds none ends the book, or is made
+        """Whether the disks have room for a change: one that finds none ends the book, or is stored
         and not noted."""
         full = [path for path, folder in self.folders.items() if not has_room(folder)]
         for path in full:

@@ -41,7 +41,7 @@ class Metric:
 TRIES = ("yes", "no", "absent", "noaccount", "later")
 METRICS = (
     Metric("tries_total", "Tries by their answer.", TRIES),
-    Metric("changes_total", "Changes that were made.", ("changes",)),
+    Metric("changes_total", "Changes that were stored.", ("changes",)),
     Metric("upgraded_total", "Records that --upgrade upgraded.", ("upgraded",)),
     Metric("memory_total", "Lines that found no memory for a hash.", ("memory",)),
     Metric("disk_total", "Changes that found no room on a disk.", ("disk",)),

@@ -43,8 +43,8 @@ class Attempt(NamedTuple):
 
 @dataclass(eq=False)
 class Operation:
-    """An operation with the times of its call and its answer, in any unit; and what
-    stands at first and at the end, of the kinds "seed" and "end"."""
+    """An operation with the times of its call and its answer, in any unit; and the first and the
+    last record, of the kinds "seed" and "end"."""
 
     id: str
     kind: str
@@ -82,7 +82,7 @@ class Operation:
         return self.new_password if self.kind in ("change", "reset") else self.password
 
     def took_place(self, end):
-        """Notes that its last attempt was made before the end, and its answer was lost."""
+        """Notes that its last attempt was stored before the end, and its answer was lost."""
         self.before, self.after, self.reply = self.attempts[-1]
         self.answered, self.found_out = end, True
 
@@ -177,7 +177,7 @@ class _Records:
             raise _Conflict(f"{it.id} was answered {it.reply}, and put {put}")
 
     def spans(self):
-        """The spans of the chains, and of what was done where no record stood."""
+        """The spans of the chains, and of operations at accounts without a record."""
         records = self.maker.keys() | self.replacer.keys() | self.looks.keys()
         spans, walked = [], 0
         for record in records:
@@ -259,7 +259,8 @@ def verdict(accounts):
 
 
 def check(account):
-    """Raises Illegal unless the account's history is legal; notes which lost changes were made."""
+    """Raises Illegal unless the account's history is legal; notes which lost changes were
+    stored."""
     account.operations.sort(key=lambda operation: operation.called)
     _settle(account)
     events = [account.seed, *_effective(account.operations), account.end]
