@@ -27,8 +27,8 @@ class RefusedMemoryTest(BookTest):
         return found
 
     def test_new_accounts(self) -> None:
-        """Of accounts that a service adds to a larger book those that were answered are kept, and
-        at most the one after them that wasn't. One that was refused memory isn't there."""
+        """Of the accounts that a service adds to a larger book, the book keeps the answered ones,
+        and at most the next. An account that was refused memory isn't in the book."""
         large = [f"n{at}" for at in range(300)]
         given = lined(f"{it}:" for it in large)
         self.assertEqual(self.book("import", "--quiet", given=given), DONE)

@@ -214,7 +214,7 @@ class RunTests(Case):
         text = "all check-proved:\n\t@while ! test -e ../at_work; do sleep 0.1; done\n"
         text += "\t@echo built >> ../order\n"
         write_files(self.top, {"c/Makefile": text, "tests/credbook/test_slow.py": HEAD + BESIDE})
-        done = self.run_tests("turns", "test_slow")
+        done = self.run_tests("turns", "test_slow", RT="true")
         self.assertEqual(done.written.splitlines()[-1], "tests: 2 passed, 0 failed, 0 skipped")
         self.assertEqual((self.top / "order").read_text(), "built\nbuilt\nturned\n")
 

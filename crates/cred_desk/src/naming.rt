@@ -1,4 +1,4 @@
-//! Which list of entries it is, and from which book it starts.
+//! The name of a list of entries, and the book that the list starts from.
 
 ghost use Rattle.std.specs.Prelude.{◌≡◌, [], IfSome};
 

@@ -34,7 +34,7 @@ pub(crate) enum Place {
     Free,
     /// As many run as may.
     Taken,
-    /// It is too early by this many seconds.
+    /// The try is too early by this many seconds.
     Early(u64),
 }
 

@@ -30,14 +30,15 @@ impl Try {
     }
 }
 
-/// The answer to one who asks for a try.
+/// The answer to a request for a try.
 #[derive(Debug)]
 pub enum Turn {
-    /// It has begun.
+    /// The try has begun.
     Begun(Try),
-    /// As many tries run at the name as may fail there: it may begin once one of them has ended.
+    /// As many tries run at the name as may fail there: the try may begin once one of them has
+    /// ended.
     Waits,
-    /// It is too early by this many seconds, 1 to 900.
+    /// The try is too early by this many seconds, 1 to 900.
     Later(u64),
 }
 

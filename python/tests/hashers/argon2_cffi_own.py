@@ -44,7 +44,7 @@ class Expected:
 
 
 def stand_in():
-    """Has the tests find Rigzumal's names for argon2-cffi's."""
+    """Lets the tests import Rigzumal's names as argon2-cffi's."""
     sys.modules["argon2"] = argon2_cffi
     for name in ("exceptions", "low_level", "profiles"):
         sys.modules[f"argon2.{name}"] = getattr(argon2_cffi, name)

@@ -133,7 +133,7 @@ class Torture:
     def _load(self, names):
         """Runs the processes; returns how many ended by an exception.
 
-        If they are killed, the first of them is so at its first change.
+        If processes are to be killed, the first one is at its first change.
         """
         end, faults, running = time.monotonic() + self.seconds, 0, {}
         for number in range(self.processes):

@@ -280,8 +280,8 @@ def _effective(operations):
 def _settle(account):
     """Notes which operations without an answer took place, by their last attempts.
 
-    A record that an answer names was put, and so was the one that it replaced. A record that is
-    gone, and that nothing so far replaced, was led to a removal by others without an answer.
+    A record that an answer names was stored, and so was the one before it. If a record is gone, and
+    no known operation replaced it, operations without an answer led from it to a removal.
     """
     end, putting, at = account.end.called, {}, collections.defaultdict(list)
     for it in account.operations:

@@ -74,7 +74,7 @@ def ask_credkeep(words: list[str]) -> int:
 
 
 def status_without_asking(meant: Words) -> Optional[int]:
-    """Prints credkeep's answer and returns its status, if no password would help; otherwise None."""
+    """Prints credkeep's answer and returns its status if no password would help; otherwise None."""
     show = [PROGRAM, "--wait", meant.wait, meant.file, "show", meant.account]
     try:
         shown = subprocess.run(show, stdin=subprocess.DEVNULL, stdout=subprocess.PIPE)

@@ -89,7 +89,7 @@ class Server:
         self.socket.settimeout(None)
         said = self.ask(*words)
         if said != f"send {len(text)}":
-            end(5, f"{self.path}: the server's answer is none: {said:.40}")
+            end(5, f"{self.path}: no answer of a server: {said:.40}")
         with suppress(OSError):  # a server that has gone answers nothing
             self.socket.sendall(text)
         return self.copy_result(self.answer(), sys.stdout.buffer)
@@ -98,7 +98,7 @@ class Server:
         """Copies what credkeep wrote on both streams, and returns its status."""
         word, *numbers = said.split(" ")
         if word != "ended" or len(numbers) != 3 or not all(map(str.isdecimal, numbers)):
-            end(5, f"{self.path}: the server's answer is none: {said:.40}")
+            end(5, f"{self.path}: no answer of a server: {said:.40}")
         status, size, size_of_faults = map(int, numbers)
         self.copy(size, output)
         self.copy(size_of_faults, sys.stderr.buffer)
