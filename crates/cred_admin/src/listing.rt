@@ -31,7 +31,7 @@ pub fn a_piece_has_64_kib()
 /// The form of an account's line.
 #[derive(Clone, Copy, Debug, PartialEq, Eq)]
 pub enum Line {
-    /// Its name.
+    /// The account's name.
     Name,
     /// A line of a passwd-file: `NAME:` and this detail of its record, if it has one. Before the
     /// detail there is `!` if the account is locked, and `~` if its password must be changed.

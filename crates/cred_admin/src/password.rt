@@ -25,9 +25,9 @@ pub struct NewPassword {
 /// The treatment of an empty new password.
 #[derive(Clone, Copy, Debug, PartialEq, Eq)]
 pub enum EmptyPassword {
-    /// It is refused.
+    /// An empty password is refused.
     Refused,
-    /// It is accepted like any other.
+    /// An empty password is accepted like any other.
     Taken,
 }
 

@@ -9,7 +9,8 @@ use cred_phc::Password;
 /// The reason why a password may differ from the intended one.
 #[derive(Clone, Copy, Debug, PartialEq, Eq)]
 pub enum Hint {
-    /// Its last byte is a carriage return, as each line of a Windows file has it before its end.
+    /// The password's last byte is a carriage return, which each line of a Windows file has before
+    /// its end.
     CarriageReturn,
 }
 

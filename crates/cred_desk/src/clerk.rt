@@ -204,7 +204,7 @@ impl<J: Naming, W: EntryWriter> Clerk<J, W> {
     }
 }
 
-/// Has an entry kept, and then shown: once the writer has it, nothing can fail.
+/// Keeps an entry, and then shows it: once the writer has it, nothing can fail.
 ///
 /// Errors: `Memory` if it runs out, or if the list has 2^64 - 1 entries; the writer's own. Nothing
 /// changes then.

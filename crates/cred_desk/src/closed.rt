@@ -80,7 +80,7 @@ pub struct Kept<W> {
     /// The number of entries that each session added (admissions, loads and deletions), in the
     /// order of the counts.
     pub additions: Vec<u64>,
-    /// It keeps all entries.
+    /// The writer, which keeps all entries.
     pub writer: W,
 }
 
@@ -100,6 +100,6 @@ pub struct Finished<W> {
     pub remains: Remains,
     /// The number of entries of the sessions that weren't handed in.
     pub missing: u64,
-    /// It keeps all entries.
+    /// The writer, which keeps all entries.
     pub writer: W,
 }

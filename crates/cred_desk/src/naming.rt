@@ -15,10 +15,10 @@ pub trait Naming: Ledger {
     ghost use Rattle.logbook.specs.Pages.{Book};
     ghost use Rattle.cred_book.specs.Accounts.{Accounts};
 
-    /// Which list.
+    /// The name of the list.
     ghost list: { Book };
 
-    /// Which ledger counts the entries that are handed out of it.
+    /// The ledger that counts the entries which are handed out of it.
     ghost handouts: { ℕ };
 
     /// The opening book.

@@ -49,7 +49,7 @@ where
 }
 
 impl<J: Naming> Publisher<J> {
-    /// One with no entry yet.
+    /// A publisher with no entry yet.
     pub(crate) fn new(writer: BookWriter<J>, history: History<J>) -> Publisher<J>
         requires empty { history ≡ [] }
         requires shown { (writer.desk.shown.value.front ≡ [])

@@ -36,7 +36,7 @@ impl<J: Naming, W: EntryWriter> Model for Recorder<J, W> {
 }
 
 impl<J: Naming, W: EntryWriter> Recorder<J, W> {
-    /// One with no entry.
+    /// A recorder with no entry.
     pub(crate) fn new(alloc: Global, cut: Cut<J>, writer: W) -> Recorder<J, W>
         requires cut { cut ≡ [] }
         requires kept { W.keeps writer [] }

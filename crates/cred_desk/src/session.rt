@@ -1,4 +1,4 @@
-//! One who reads the published book in a thread of its own, with no lock.
+//! A reader of the published book in a thread of its own, with no lock.
 
 ghost use Rattle.std.specs.Prelude.{◌≡◌, ◌+◌, ◌<◌, ◌^◌, [], IfSome, MatchBool, false, true};
 ghost use mathlib.Core.List.{IsPrefix};
@@ -63,7 +63,7 @@ impl<J: Naming> fmt::Debug for Session<J> {
 }
 
 impl<J: Naming> Session<J> {
-    /// One that knows nothing and has settled nothing.
+    /// A session that knows nothing and has settled nothing.
     pub(crate) fn new(reader: BookReader<J>, known: Front<J>, share: Share<J>) -> Session<J>
         requires known { known ≡ [] }
         requires share { (share.parts ≡ 1) × (share.amount ≡ 0) }

@@ -17,9 +17,9 @@ use std::io::Read;
 /// The treatment of bad lines in an import.
 #[derive(Clone, Copy, Debug, PartialEq, Eq)]
 pub enum BadLines {
-    /// They are refused, and the import changes nothing.
+    /// Bad lines are refused, and the import changes nothing.
     Refused,
-    /// They are left out.
+    /// Bad lines are left out.
     LeftOut,
 }
 

@@ -27,9 +27,9 @@ pub(crate) struct Draft<'a> {
 /// The treatment of a log at the place.
 #[derive(Clone, Copy, PartialEq, Eq)]
 pub(crate) enum OldLog {
-    /// It stays: it has no changes, or the draft isn't put there.
+    /// The log stays: it has no changes, or the draft isn't put there.
     Kept,
-    /// It is removed.
+    /// The log is removed.
     Removed,
 }
 

@@ -64,11 +64,11 @@ struct Frames {
 /// The relation of a frame to those before it.
 #[derive(Clone, Copy, PartialEq, Eq)]
 enum Frame {
-    /// It continues them.
+    /// The frame continues them.
     Next,
-    /// It doesn't belong to this log, or not yet.
+    /// The frame doesn't belong to this log, or not yet.
     Other,
-    /// It belongs to this log, and its bytes were changed.
+    /// The frame belongs to this log, and its bytes were changed.
     Damaged,
 }
 

@@ -17,7 +17,7 @@ use std::io::Write;
 /// The reason why the words of the command line are refused.
 #[derive(Drop)]
 pub(crate) enum Refusal<'a> {
-    /// They don't parse, or ask for help or the version.
+    /// The words don't parse, or ask for help or the version.
     Words(Error),
     /// No word is a command.
     NoCommand,

@@ -12,7 +12,7 @@ const FAR: usize = 3;
 /// The fault of a word, and the option that it is or resembles.
 #[derive(Clone, Copy)]
 pub(crate) enum Slip {
-    /// It is one too many.
+    /// The word is one too many.
     Unnamed,
     /// An option of the program, after the command.
     Late(&'static str),

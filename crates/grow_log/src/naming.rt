@@ -1,4 +1,4 @@
-//! Which log it is, and what holds of it.
+//! The name of a log, and the property of its entries.
 
 ghost use Rattle.std.specs.Prelude.{◌≡◌, [], IfSome};
 
@@ -13,7 +13,7 @@ pub trait LogName<T> {
     ghost use Rattle.std.specs.Prelude.{List};
     ghost use Rattle.logbook.specs.Pages.{Book};
 
-    /// Which log.
+    /// The name of the log.
     ghost book: { Book };
 
     /// The property of its entries, however many it has yet.
@@ -46,7 +46,7 @@ impl<T> Model for NewLog<T> {
 }
 
 impl<T> NewLog<T> {
-    /// One that nobody holds yet.
+    /// A log that nobody holds yet.
     pub fn new() -> NewLog<T> {
         let (seen, mut first, _second) = Seen::open(Start::alone(), 0, 0);
         NewLog {

@@ -7,7 +7,7 @@ use std::process::Abort;
 use std::thread::Threads;
 use test_samples::{A, A_SETTING, SECRET, shows_secret};
 
-/// One request of each operation, at the account `a`, with the password wherever one stands.
+/// One request of each operation, at the account `a`, with the password in each place of one.
 fn requests<R: Abort>(rt: &R) -> [Request; 5] {
     let (name, pw, setting) = (name(rt, "a"), password(rt, SECRET), setting(rt, A_SETTING));
     [

@@ -1,4 +1,4 @@
-//! One step at a kept desk, and what is answered to it.
+//! One step at a kept desk, and its answer.
 
 use super::writer::{Log, Refused};
 use cred_book::{Name, Reply, Request, Ticket, Worked};
@@ -28,7 +28,7 @@ pub(super) enum Step {
     Close,
     /// Learns the first list that other sessions handed on.
     Learn,
-    /// Is told by the desk what the session at this place knows.
+    /// Hears from the desk the list that the session at this place knows.
     Hear(usize),
 }
 
@@ -182,7 +182,7 @@ impl<'a, J: Naming, R: Threads + Wait + Sync> Floor<'a, J, R> {
         }
     }
 
-    /// Has the desk tell a session what another one, or it itself, knows.
+    /// Has the desk tell a session the list that another one, or the session itself, knows.
     pub(super) fn tell(&self, session: &mut Session<J>, known: &Told<J>) -> Answer {
         let told = self.desk.tell(self.rt, session, &known.heard());
         Answer::Told(told.len())

@@ -218,7 +218,7 @@ class Book:
             answer.set_result(UNAVAILABLE)
 
     def end(self) -> None:
-        """Has its process end in order; no other one is started any more."""
+        """Lets the book's process end in order; no other one is started any more."""
         self.is_ending = True
         self.refuse_waiting()
         for process in self.living:

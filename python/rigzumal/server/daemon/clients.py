@@ -28,7 +28,7 @@ PAUSE_SECONDS = 0.001  # behind an answer without the book's work, times a user'
 
 
 class Client:
-    """One that sends lines, and gets an answer to each, in any order."""
+    """A client that sends lines, and gets an answer to each, in any order."""
 
     no_room = b"* unavailable\n"  # what one is told that isn't let in
 

@@ -104,7 +104,7 @@ class Door:
         return listener
 
     def listen(self) -> socket.socket:
-        """Its socket, at which clients may connect from now on."""
+        """The door's socket, at which clients may connect from now on."""
         try:
             listener = self.listener or self.own_socket()
             listener.setblocking(False)

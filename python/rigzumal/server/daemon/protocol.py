@@ -17,7 +17,7 @@ RIGHT, WRONG, ABSENT, NO_ACCOUNT = "yes", "no", "absent", "noaccount"
 
 @dataclass(frozen=True)
 class Answer:
-    """One that has no other words, such as names, behind it."""
+    """An answer with no other words, such as names, behind it."""
 
     meaning: str  # on pages
     tried: str = ""  # as what a try is counted that gets it

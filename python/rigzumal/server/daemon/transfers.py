@@ -66,7 +66,7 @@ class Result:
         yield self.faults
 
     def first_line(self) -> bytes:
-        """Its first line, such as the counts of an import."""
+        """The first line of the output, such as the counts of an import."""
         self.output.seek(0)
         return self.output.readline(PIECE).rstrip(b"\n")
 

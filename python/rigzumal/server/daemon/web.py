@@ -47,7 +47,8 @@ def status_of_framing(request: Any) -> int:
 
 
 class WebClient(Client):
-    """One that sends requests. It gets each answer before the server reads the next request."""
+    """A client that sends requests. It gets each answer before the server reads the next
+    request."""
 
     no_room = b"HTTP/1.1 503 Service Unavailable\r\nContent-Length: 0\r\nConnection: close\r\n\r\n"
 
