@@ -81,8 +81,8 @@ pub trait Host {
         ensures { EditsWithin capacity (book self.old) (book self.new) edit.now result };
 
     /// Stores at each of these accounts its record there, or none, in place of any other: all
-    /// together, so that a crash leaves the book with all of these changes, or with none. No
-    /// password of these need be changed any more, and locks stay.
+    /// together, so that a crash leaves the book with all of these changes, or with none. None of
+    /// their passwords need be changed any more, and locks stay.
     ///
     /// Errors: `NoAccount` if one of the names has no account; `Memory`. The book stays.
     fn replace_all(&mut self, changed: Register) -> Result<(), BookError>
