@@ -260,7 +260,6 @@ class OverABook(Case):
             admin rename ada eve -> renamed
             login verify eve {wrong} -> no
             login verify eve {secret} -> yes
-            login verify ada {secret} -> noaccount
             """
         )
 
