@@ -38,7 +38,7 @@ impl AddressBlock {
     }
 }
 
-/// What the address block of this number is made of.
+/// The input of the address block of this number.
 fn address_input(params: &Params, position: &Position, number: u32) -> Block
     ensures { result.0 ≡ address_input params.now position.now.pass position.now.lane
         position.now.slice number }
@@ -54,7 +54,7 @@ fn address_input(params: &Params, position: &Position, number: u32) -> Block
     Block(words)
 }
 
-/// How many blocks the memory has.
+/// The number of blocks of the memory.
 fn block_count(params: &Params) -> u64
     ensures { result ≡ 4 * segment_len params.now * params.now.lanes }
 {

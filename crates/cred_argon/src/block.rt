@@ -16,8 +16,8 @@ impl Block {
     pub(crate) const ZERO: Block = Block([0; 128]);
 }
 
-/// What G calls as soon as the new block's first word is there, which names the block that the next
-/// one refers to: it may prefetch that block, so that the memory brings it while G goes on.
+/// The call of G once the new block's first word is computed, which names the block that the next
+/// one refers to. The call may prefetch that block, so that the memory brings it while G goes on.
 pub(crate) trait Prefetch {
     ghost can_prefetch: { Self → Type 0 };
 
@@ -25,7 +25,7 @@ pub(crate) trait Prefetch {
         requires { can_prefetch self.now };
 }
 
-/// Where no block follows that is known: nothing is prefetched.
+/// No following block is known: nothing is prefetched.
 #[derive(Clone, Copy, Drop)]
 struct NoPrefetch;
 

@@ -22,7 +22,7 @@ impl<'a> Slice for FlatSlice<'a> {
     }
 }
 
-/// Where a lane's segment begins in a slice.
+/// The index in a slice at which a lane's segment begins.
 pub(crate) fn segment_start(params: &Params, lane: u32) -> usize
     requires { lane < params.now.lanes }
     ensures value { result ≡ lane * segment_len params.now }

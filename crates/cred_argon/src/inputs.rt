@@ -9,7 +9,7 @@ use crate::bytes::block_of_bytes;
 use crate::params::Params;
 use cred_blake::{Blake2b, Digest, hprime_block};
 
-/// What a tag is made of (RFC 9106, section 3.1): a password and a salt, and a secret and associated
+/// The inputs of a tag (RFC 9106, section 3.1): a password and a salt, and a secret and associated
 /// data, which may be empty.
 #[repr(C)]
 #[derive(Clone, Copy, Drop)]

@@ -2,7 +2,7 @@
 ghost use Rattle.std.specs.Prelude.{◌≡◌};
 ghost use Rattle.cred_argon.specs.Numbers.{kind_number, version_number};
 
-/// How Argon2 chooses the blocks that it reads (RFC 9106, section 3.1, type y).
+/// The way in which Argon2 chooses the blocks that it reads (RFC 9106, section 3.1, type y).
 #[derive(Clone, Copy, Debug, PartialEq, Eq)]
 pub enum Kind {
     /// By the contents of the memory, and so by the password.

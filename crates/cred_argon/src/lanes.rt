@@ -125,7 +125,7 @@ pub fn work_two_lanes(
     work_segments(&shared, index.lane, first, second);
 }
 
-/// What the lanes of a slice share while it is worked.
+/// The values that the lanes of a slice share while it is worked.
 fn shared_by_lanes<'a>(
     params: &Params,
     index: SegmentIndex,

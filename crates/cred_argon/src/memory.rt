@@ -16,7 +16,7 @@ pub(crate) struct Memory {
 }
 
 impl Memory {
-    /// Makes all passes.
+    /// Runs all passes.
     pub(crate) fn fill<W: Crew<Shared<Vec<Segment>>, Segment>>(&mut self, crew: &W)
         requires crew { W.ready crew.now }
         requires shape { IsMemory 0 self.old }
@@ -78,7 +78,7 @@ impl Memory {
         mem::swap(&mut self.shared.oldest, &mut self.shared.middle);
         mem::swap(&mut self.shared.middle, &mut self.shared.newest);
     }
-    /// Gives the memory back, for the next hash.
+    /// Returns the memory to the scratch, for the next hash.
     pub(crate) fn give_back(self, scratch: &mut ArgonScratch)
         ensures { scratch.new ≡ scratch.old }
     {

@@ -11,7 +11,7 @@ use crate::reference_block::reference_from;
 use crate::segment::{Shared, halves};
 use crate::slice::Slice;
 
-/// What the block that follows the one at an offset refers to.
+/// The reference of the block that follows the one at an offset.
 #[derive(Clone, Copy, Drop)]
 pub(crate) struct NextReference<'a, S> {
     pub(crate) shared: &'a Shared<S>,

@@ -1,4 +1,4 @@
-//! What an Argon2 tag is asked for.
+//! The parameters of an Argon2 tag.
 ghost use Rattle.std.specs.Prelude.{◌≡◌, ◌*◌, ◌≤◌, ◌↔◌, IfOk};
 ghost use Rattle.cred_argon.specs.declared.params.TheConstants.{MAX_LANES, MAX_MEMORY, MAX_PASSES, MAX_RAW_TAG, MAX_TAG, MIN_TAG};
 ghost use Rattle.cred_argon.specs.Faults.{IsFaultUpTo, IsFirstFault, IsFirstRawFault};
@@ -83,7 +83,7 @@ impl Model for Params {
     }) (sym h.1) };
 }
 
-/// What a tag costs, which may be out of range.
+/// The costs of a tag, which may be out of range.
 #[derive(Clone, Copy)]
 struct Costs {
     /// In KiB.
@@ -248,7 +248,7 @@ impl Params {
         self.tag_len
     }
 
-    /// How many columns a segment has: a quarter of a lane.
+    /// The number of columns of a segment: a quarter of a lane.
     pub fn segment_len(&self) -> u32
         ensures value { result ≡ segment_len self.now }
         ensures at_least { 2 ≤ result }

@@ -1,4 +1,4 @@
-//! Where the code is in the memory, in the terms that it counts by.
+//! The place of the code in the memory, in the terms that it counts by.
 
 /// The place of a block that is worked (RFC 9106, section 3.4), its column as a slice, 0 to 3, and
 /// an offset in that slice.

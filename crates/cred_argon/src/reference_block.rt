@@ -64,9 +64,9 @@ fn lane_for(lanes: u32, position: &Position, j2: u32) -> u32
     }
 }
 
-/// How many blocks of this lane may be referred to: those of three segments, or of as many as there
-/// are before, and in the own lane those of the segment so far; less the block before, or the last
-/// one of another lane at a segment's start.
+/// The number of blocks of this lane that may be referred to: those of three segments, or of as
+/// many as there are before, and in the own lane those of the segment so far; less the block
+/// before, or the last one of another lane at a segment's start.
 fn count(segment_len: u32, position: &Position, lane: u32) -> u32
     requires slice { position.now.slice < 4 }
     requires offset { position.now.offset < segment_len }

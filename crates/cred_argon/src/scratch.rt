@@ -12,7 +12,7 @@ use std::marker::Model;
 /// holds zeros alone, to its whole room.
 #[derive(Drop)]
 pub struct ArgonScratch {
-    /// How many blocks are kept at most. A block is one KiB.
+    /// The most blocks that are kept. A block is one KiB.
     most: usize,
     /// For how many there is room in the spare buffers.
     kept: usize,
@@ -43,7 +43,7 @@ impl ArgonScratch {
         }
     }
 
-    /// How many KiB are kept now.
+    /// The KiB that are kept now.
     pub fn kept(&self) -> usize
         ensures { result ≤ self.now }
     {

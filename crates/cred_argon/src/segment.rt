@@ -28,8 +28,8 @@ pub(crate) struct Segment {
     pub(crate) blocks: Vec<Block>,
 }
 
-/// What the lanes of a slice share while it is worked: where in the run it stands, and the three
-/// slices before.
+/// The values that the lanes of a slice share while it is worked: its place in the run, and the
+/// three slices before.
 #[derive(Drop)]
 pub(crate) struct Shared<S> {
     pub(crate) turn: Turn,

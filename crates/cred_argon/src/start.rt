@@ -12,8 +12,8 @@ use crate::segment::{Segment, Shared};
 use crate::turn::Turn;
 use std::alloc::{AllocError, Global};
 
-/// The memory with the first two blocks of each lane, from the first hash. What the scratch has
-/// kept is used for it.
+/// The memory with the first two blocks of each lane, from the first hash. It uses the memory that
+/// the scratch has kept.
 pub(crate) fn start(
     alloc: Global,
     scratch: &mut ArgonScratch,
@@ -61,7 +61,7 @@ fn empty_slice(
     Ok(segments)
 }
 
-/// Makes the first two blocks of each lane.
+/// Computes the first two blocks of each lane.
 fn begin_segments(params: &Params, segments: &mut [Segment], hash: &[u8])
     requires hash { length hash.now ≡ 64 }
     requires some { 2 ≤ segment_len params.now }
@@ -73,7 +73,7 @@ fn begin_segments(params: &Params, segments: &mut [Segment], hash: &[u8])
     }
 }
 
-/// Makes the first two blocks of a lane.
+/// Computes the first two blocks of a lane.
 fn begin(segment: &mut Segment, hash: &[u8])
     requires hash { length hash.now ≡ 64 }
     requires empty { vec_len segment.old.blocks ≡ 0 }

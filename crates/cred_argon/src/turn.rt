@@ -26,7 +26,7 @@ impl Turn {
         }
     }
 
-    /// Whether a block replaces what stood at its place.
+    /// Whether a block replaces the old one at its place.
     pub(crate) fn is_fresh(&self) -> bool
         ensures { result ≡ is_fresh self.now.params.version self.now.pass }
     {

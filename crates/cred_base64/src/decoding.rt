@@ -15,7 +15,7 @@ use thiserror::Error;
 #[error("not base64 with no padding")]
 pub struct NotBase64;
 
-/// How many bytes so many letters encode.
+/// The number of bytes that so many letters encode.
 pub fn decoded_len(letters: usize) -> usize
     ensures { result ≡ letters * 3 / 4 }
 {

@@ -34,7 +34,7 @@ impl Buffer {
         }
     }
 
-    /// How many bytes there are.
+    /// The number of bytes.
     pub(crate) fn len(&self) -> usize
         ensures exact { result ≡ length self.now }
         ensures fits { result ≤ BLOCK_LEN }

@@ -186,8 +186,8 @@ fn work_vector(h: &[u64; 8], counter: u128, last: bool) -> [u64; 16]
     ]
 }
 
-/// Takes a block of 128 bytes into the state. `counter` is the number of bytes up to the end
-/// of the block, without padding, and `last` is the final block flag.
+/// Mixes a block of 128 bytes into the state. `counter` is the number of bytes up to the end of the
+/// block, without padding, and `last` is the final block flag.
 #[tactic(auto, unfolding(crate::specs::Blake2b::compress))]
 pub(crate) fn compress(h: &mut [u64; 8], block: &[u8], counter: u128, last: bool)
     requires { length block.now ≡ BLOCK_LEN }

@@ -29,7 +29,7 @@ impl State {
         State { h, counter: 0 }
     }
 
-    /// Takes in a block that is not the last.
+    /// Absorbs a block that is not the last.
     pub(crate) fn absorb(&mut self, block: &[u8])
         requires { length block.now ≡ BLOCK_LEN }
         ensures h { self.new.h ≡ compress self.old.h block.now self.new.counter false }
@@ -39,7 +39,7 @@ impl State {
         compress(&mut self.h, block, self.counter, false);
     }
 
-    /// Takes in the last block. Its first `len` bytes are the message's; the rest are padding.
+    /// Absorbs the last block. Its first `len` bytes are the message's; the rest are padding.
     pub(crate) fn absorb_last(&mut self, block: &[u8], len: usize)
         requires { length block.now ≡ BLOCK_LEN }
         ensures { self.new.h

@@ -8,7 +8,7 @@ use crate::error::BlakeError;
 use crate::hasher::Blake2b;
 use std::alloc::Global;
 
-/// How many bytes of each hash in the chain go into a longer output: its first half.
+/// The number of bytes of each hash in the chain that go into a longer output: its first half.
 const HALF_LEN: usize = MAX_LEN / 2;
 
 /// The hash of two pieces, without a key.

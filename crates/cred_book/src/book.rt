@@ -118,7 +118,7 @@ impl Book {
         self.accounts.iter()
     }
 
-    /// Gives the account this record, in place of any other.
+    /// Stores this record at the account, in place of any other.
     ///
     /// Errors: `NoAccount` if the book doesn't have the name.
     pub fn load(&mut self, name: &Name, stored: Record) -> Result<(), BookError>
@@ -179,7 +179,7 @@ impl Book {
         }
     }
 
-    /// Gives the account this record, or none.
+    /// Stores this record at the account, or none.
     ///
     /// Errors: `NoAccount` if the book doesn't have the name.
     pub fn set(&mut self, name: &Name, now: Option<Record>) -> Result<(), BookError>
@@ -194,8 +194,8 @@ impl Book {
         }
     }
 
-    /// Gives the account this record, or none. A new name is added if the book has room; without
-    /// room nothing changes.
+    /// Stores this record at the account, or none. A new name is added if the book has room;
+    /// without room nothing changes.
     pub fn put(&mut self, name: &Name, now: Option<Record>)
         ensures { self.new ≡ with_entry self.old name.now now }
     {

@@ -31,7 +31,7 @@ pub trait Keeper {
     fn admit<R: Wait>(&mut self, rt: &R, name: Name) -> Result<(), BookError>
         ensures { AdmitsWithin capacity (book self.old) (book self.new) name result };
 
-    /// Gives the account this record, in place of any other.
+    /// Stores this record at the account, in place of any other.
     ///
     /// Errors: `NoAccount` if the book doesn't have the name; `Memory`.
     fn load<R: Wait>(&mut self, rt: &R, name: &Name, stored: Record) -> Result<(), BookError>

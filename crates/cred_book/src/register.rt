@@ -138,7 +138,7 @@ impl Register {
         self.accounts.iter()
     }
 
-    /// Gives the account this record, in place of any other.
+    /// Stores this record at the account, in place of any other.
     ///
     /// Errors: `NoAccount` if the register doesn't have the name.
     pub fn load(&mut self, name: &Name, stored: Record) -> Result<(), BookError>
@@ -200,7 +200,7 @@ impl Register {
         }
     }
 
-    /// Gives the account this record, or none.
+    /// Stores this record at the account, or none.
     ///
     /// Errors: `NoAccount` if the register doesn't have the name.
     pub fn set(&mut self, name: &Name, stored: Option<Record>) -> Result<(), BookError>
@@ -213,7 +213,7 @@ impl Register {
         Ok(())
     }
 
-    /// Gives the account this record, or none. The register has to have the name.
+    /// Stores this record at the account, or none. The register has to have the name.
     pub fn replace(&mut self, name: &Name, stored: Option<Record>)
         requires { map.contains_key self.old name.now ≡ true }
         ensures { self.new ≡ map.insert self.old name.now stored }

@@ -8,7 +8,7 @@ use cred_phc::{Password, Setting};
 /// An operation on the record of one account.
 #[derive(Clone, Copy, Debug, PartialEq, Eq)]
 pub enum Request {
-    /// Makes the account's first record, under `setting`.
+    /// Stores the account's first record, under `setting`.
     Enrol {
         name: Name,
         pw: Password,

@@ -1,4 +1,4 @@
-//! What a step is asked: an operation by its number, with passwords and texts.
+//! The inputs of a step: an operation by its number, with passwords and texts.
 ghost use Rattle.std.specs.Prelude.{◌≡◌, ◌↔◌, IfErr, IfOk, IfSome, None, OnOk, Some, false, true};
 ghost use Rattle.cred_c.specs.Steps.{AsksFor, IsCopy, IsOperation, copy_fault, fault_number, new_setting_fault, operation_number, request_fault};
 ghost use Rattle.cred_phc.specs.{Text.IsSettingText, Values.IsSetting, Values.password_fits};
@@ -16,7 +16,7 @@ pub enum Operation {
     Remove,
 }
 
-/// What a step is asked.
+/// The inputs of a step.
 #[repr(C)]
 #[derive(Clone, Copy, Drop)]
 pub struct StepInputs<'a> {
@@ -86,7 +86,7 @@ pub(crate) fn copy_of(text: &[u8]) -> Result<Option<Record>, StepFault>
     }
 }
 
-/// What is asked, of an account whose name plays no part.
+/// The request of a step, of an account whose name plays no part.
 pub(crate) fn request_of(
     operation: Operation,
     inputs: &StepInputs<'_>,

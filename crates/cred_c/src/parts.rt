@@ -1,4 +1,4 @@
-//! What is wrong with a text, and what a record's text says of itself.
+//! The fault of a text, and the numbers that a record's text has.
 ghost use Rattle.std.specs.Prelude.{◌≡◌, None, Some};
 ghost use Rattle.cred_c.specs.Parts.{parts_of, variant_number};
 ghost use Rattle.cred_phc.specs.{Errors.error_number, Faults.record_fault, Faults.setting_fault, Text.IsRecordText, Values.IsRecord, Values.RecordValue};

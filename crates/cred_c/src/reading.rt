@@ -1,5 +1,5 @@
-//! What C keeps of a text of Argon2 between the calls for its lanes, so that each text is read
-//! once.
+//! The values that C keeps of a text of Argon2 between the calls for its lanes, so that each text
+//! is read once.
 ghost use Rattle.std.specs.Prelude.{◌≡◌, ◌≤◌, IfSome, IsTrue, Some, length, take};
 ghost use Rattle.cred_c.specs.{Lanes.AreNumbers, Lanes.record_parameters, Readings.IsReadRecord, Readings.IsReadSetting, Readings.tag_numbers};
 ghost use Rattle.cred_phc.specs.{Ranges.scheme_fits, Tags.argon_parameters, Values.IsRecord, Values.IsSetting, Values.RecordValue, Values.SettingValue};
@@ -10,13 +10,13 @@ use crate::part_fault::PartFault;
 use crate::tag_numbers::{TagNumbers, numbers_of};
 use cred_phc::{Record, Scheme, Setting, Tag, argon2_params};
 
-/// How many bytes a salt has at most.
+/// The most bytes of a salt.
 const MOST_SALT: usize = 48;
 
-/// How many bytes a tag has at most.
+/// The most bytes of a tag.
 const MOST_TAG: usize = 64;
 
-/// A setting of Argon2, and how long its tag is to be. Zeros stand after the salt.
+/// A setting of Argon2, and the length that its tag is to have. Zeros follow the salt.
 #[repr(C)]
 #[derive(Clone, Copy)]
 pub struct SettingReading {

@@ -62,8 +62,8 @@ pub extern "C" fn cred_hash_read(text: &[u8], tag_len: u32, reading: &mut Settin
 /// Writes the first two blocks of each lane into the first slice, for the password's tag under the
 /// setting that was read.
 ///
-/// Answers 0; or 27 if nothing was read or `first` isn't a slice, otherwise 18 if the password has
-/// 2^32 bytes or more.
+/// Answers 0. If nothing was read or `first` isn't a slice, it answers 27, and otherwise 18 if the
+/// password has 2^32 bytes or more.
 #[unsafe(no_mangle)]
 pub extern "C" fn cred_read_begin(reading: &SettingReading, pw: &[u8], first: &mut [Block]) -> u8
     ensures begun { (s : SettingValue) → IsSetting s → IsReadSetting reading.now s
@@ -171,7 +171,7 @@ fn hash_end(
     }
 }
 
-/// How many bytes a record's tag has: 4 to 64.
+/// The number of bytes of a record's tag: 4 to 64.
 fn tag_len_of(stored: &Record) -> u8
     ensures value { result ≡ length stored.now.tag }
     ensures low { 4 ≤ result }

@@ -52,8 +52,8 @@ fn check(alloc: Global, stored: &Record, pw: &[u8]) -> u8
     }
 }
 
-/// Makes a record of the password under the setting of a text, with a tag of `tag_len`
-/// bytes, 4 to 64, and writes its text over the front of `out` and its length into `len`.
+/// Builds a record of the password under the setting of a text, with a tag of `tag_len` bytes, 4 to
+/// 64, and writes its text over the front of `out` and its length into `len`.
 ///
 /// Answers 0; or the number of the text's fault, 1 to 9; otherwise 7 if `tag_len` is outside its
 /// range, otherwise 18 if the password has 2^32 bytes or more, otherwise 8 if memory is short or 11

@@ -57,7 +57,7 @@ pub extern "C" fn cred_step(
     }
 }
 
-/// What is asked, with the copy.
+/// The request of a step, with the copy.
 fn begun(operation: Operation, inputs: &StepInputs<'_>) -> Result<Ticket, StepFault>
     ensures asked { IfOk result (λ task. AsksFor operation inputs.now task.0) }
     ensures copy { IfOk result (λ task. IsCopy inputs.now.copy.now task.1) }

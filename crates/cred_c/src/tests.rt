@@ -1,7 +1,7 @@
-//! That the exports which take memory find it, by the standards' vectors and the texts of other
-//! programs. c/tests has each fault, and what parts make that are worked in their order.
+//! Tests that the exports which need memory get it, by the standards' vectors and the texts of
+//! other programs. c/tests has each fault, and the results of parts that are worked in their order.
 //!
-//! Of tags and keys that are long the first bytes are looked at: a clause has the others.
+//! Of long tags and keys the tests compare the first bytes: a clause has the others.
 
 use crate::lanes::cred_argon2_end;
 use crate::operation::StepInputs;
@@ -16,7 +16,7 @@ use crate::texts::cred_write;
 use cred_argon::{Block, Inputs};
 use std::alloc::Global;
 
-/// What the reference program of Argon2 makes of `password` and `somesalt`.
+/// The record of `password` and `somesalt` by the reference program of Argon2.
 const SETTING: &[u8] = b"$argon2id$v=19$m=256,t=2,p=1$c29tZXNhbHQ";
 
 const RECORD: &[u8] =
@@ -126,7 +126,7 @@ const UNREAD: RecordReading = RecordReading {
     tag: [0; 64],
 };
 
-/// What stands at the end, over a slice that nobody worked, and so of another tag.
+/// The results of the last calls, over a slice that nobody worked, and so of another tag.
 #[test]
 fn parts_ended(rt: HostRuntime) {
     let (mut read, mut tag, mut out, mut len) = (UNREAD, [0; 32], [b'.'; 86], 7);
@@ -143,7 +143,7 @@ fn parts_ended(rt: HostRuntime) {
     assert_eq!(rt; (len, out.starts_with(SETTING)), (84, true));
 }
 
-/// What a step answers and its reply, and whether it wrote this text.
+/// The answer of a step and its reply, and whether it wrote this text.
 fn step(alloc: Global, asked: &StepInputs<'_>, text: &[u8]) -> (u8, u32, bool) {
     let (mut out, mut len, mut reply) = ([b'.'; 96], 9, 77);
     let answer = cred_step(alloc, asked, &mut reply, &mut out, &mut len);

@@ -90,12 +90,12 @@ pub fn tag_of<R: Threads + Sync, G: Gate + Sync>(
     }
 }
 
-/// Makes the same tag on the caller's thread, without a runtime, of a password of any length that
-/// Argon2 accepts. The scratch keeps its memory from tag to tag, up to its bound. So the system
-/// doesn't take the memory back after each of many tags. A tag never depends on what an earlier
-/// tag left in the memory.
+/// Computes the same tag on the caller's thread, without a runtime, of a password of any length
+/// that Argon2 accepts. The scratch keeps its memory from tag to tag, up to its bound. So the
+/// memory doesn't go back to the system after each of many tags. A tag never depends on what an
+/// earlier tag left in the memory.
 ///
-/// Errors: `Memory` if there is too little for the setting. The scratch can still make the next
+/// Errors: `Memory` if there is too little for the setting. The scratch is still good for the next
 /// tag.
 pub fn tag_in<G: Gate>(
     scratch: &mut Scratch,

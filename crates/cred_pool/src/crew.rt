@@ -1,10 +1,10 @@
-//! What works the parts.
+//! The crew, which works the parts.
 ghost use Rattle.std.specs.Prelude.{ℕ, ◌<◌, length, slice_index_or};
 
 use crate::part::Part;
 
-/// What works all the parts, each once: threads, or the caller's thread alone. Code that is made
-/// of parts can be written once, for any crew.
+/// Works all the parts, each once: threads, or the caller's thread alone. Code in parts can be
+/// written once, for any crew.
 pub trait Crew<C, P: Part<C>> {
     ghost ready: { Self → Type 0 };
 

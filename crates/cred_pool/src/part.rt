@@ -47,7 +47,7 @@ pub fn run_parts<R: Threads + Sync, G: Gate + Sync, C: Sync, P: Part<C> + Send>(
     run_from(rt, gate, shared, Runs { base: 0, size }, parts);
 }
 
-/// Where runs begin, and how long each is but the last.
+/// The place where runs begin, and the length of each but the last.
 #[derive(Clone, Copy)]
 struct Runs {
     /// The index of the first part.

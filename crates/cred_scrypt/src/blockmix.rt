@@ -6,7 +6,7 @@ use crate::diagonals::{block_of, diagonals_of, xored};
 use crate::salsa::mixed;
 use std::simd::u32x4;
 
-/// How many words a block of 64 bytes has.
+/// The number of words of a block of 64 bytes.
 const BLOCK: usize = 16;
 
 /// Writes BlockMix (RFC 7914, section 4) of `from` into `into`. Both have 2r blocks of sixteen

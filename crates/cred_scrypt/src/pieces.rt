@@ -14,7 +14,7 @@ use std::alloc::Global;
 /// The bytes of a piece for each unit of the block size: two blocks.
 const PAIR: usize = 128;
 
-/// What the pieces share.
+/// The values that the pieces share.
 #[derive(Drop)]
 pub(crate) struct Mixing {
     alloc: Global,

@@ -5,14 +5,14 @@ use std::alloc::{AllocError, Global};
 use std::marker::Model;
 use std::mem;
 
-/// How many words a KiB has.
+/// The number of words of a KiB.
 const KIB: usize = 256;
 
 /// The table of keys that are derived one after another, by [`scrypt_in`](crate::scrypt_in). It is
 /// kept from key to key, up to a bound, and what is kept holds zeros alone, to its whole room.
 #[derive(Drop)]
 pub struct ScryptScratch {
-    /// How many KiB are kept at most.
+    /// The most KiB that are kept.
     most: u32,
     table: Vec<u32>,
 }
@@ -40,14 +40,14 @@ impl ScryptScratch {
         }
     }
 
-    /// How many KiB are kept now, rounded up.
+    /// The KiB that are kept now, rounded up.
     pub fn kept(&self) -> usize
         ensures { result ≤ self.now }
     {
         self.table.capacity().div_ceil(KIB)
     }
 
-    /// An empty table with room for so many words. What was kept is used for it.
+    /// An empty table with room for so many words. It uses the kept memory.
     pub(crate) fn take(&mut self, alloc: Global, len: usize) -> Result<Vec<u32>, AllocError>
         ensures most { self.new ≡ self.old }
         ensures none { IfOk result (λ table. table.items ≡ []) }
