@@ -223,6 +223,8 @@ impl<M: TagMaker> Operations<M> {
         Ok((reply, Some(*stored)))
     }
 
+    /// The effect of a change. A wrong password costs as many hashes as a right one: a service
+    /// may answer both alike, and the time must not tell them apart.
     fn change(
         &self,
         stored: &Record,
@@ -236,13 +238,15 @@ impl<M: TagMaker> Operations<M> {
             then (Reply.Replaced, Some (new_record setting.now new_pw.now))
             else (Reply.Wrong, Some stored.now))) }
     {
-        if !self.is_right(stored, pw)? {
+        let is_right = self.is_right(stored, pw)?;
+        let made = self.made(setting, new_pw)?;
+        if !is_right {
             return Ok((Reply::Wrong, Some(*stored)));
         }
-        let made = self.made(setting, new_pw)?;
         Ok((Reply::Replaced, Some(made)))
     }
 
+    /// The effect of an upgrade. As in a change, the time doesn't tell a right password.
     fn upgrade(
         &self,
         stored: &Record,
@@ -252,13 +256,15 @@ impl<M: TagMaker> Operations<M> {
         requires { M.ready self.now.maker }
         ensures { IfOk result (λ outcome. outcome ≡ upgrade_outcome stored.now pw.now setting.now) }
     {
-        if !self.is_right(stored, pw)? {
-            return Ok((Reply::Wrong, Some(*stored)));
-        }
+        let is_right = self.is_right(stored, pw)?;
         if stored.setting().scheme() == setting.scheme() {
-            return Ok((Reply::Kept, Some(*stored)));
+            let reply = if is_right { Reply::Kept } else { Reply::Wrong };
+            return Ok((reply, Some(*stored)));
         }
         let made = self.made(setting, pw)?;
+        if !is_right {
+            return Ok((Reply::Wrong, Some(*stored)));
+        }
         Ok((Reply::Upgraded, Some(made)))
     }
 
