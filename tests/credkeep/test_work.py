@@ -106,7 +106,7 @@ class HashesTest(BookTest):
 
     def test_hashes_of_a_line(self) -> None:
         """A tagged line takes as many hashes for a name that the book lacks, and for an account
-        without a record, as for a wrong password: one. No time tells them apart."""
+        without a record, as for a password, wrong or right. No time tells them apart."""
         need("valgrind")
         costs = "$argon2id$v=19$m=1024,t=2,p=1"
         self.book.add("ann", "one", f"{costs}${SALT}")
@@ -124,7 +124,7 @@ class HashesTest(BookTest):
         verbs = ("verify", "login", "upgrade", "remove", "reset")
         for line, hashes in (
             *((f"{verb} {{}} two", {"ann": 1, "bob": 1, "cat": 1}) for verb in verbs),
-            ("change {} two one", {"ann": 1, "bob": 1, "cat": 1}),
+            ("change {} two one", {"ann": 2, "bob": 2, "cat": 2}),
             ("enrol {} two", {"ann": 0, "bob": 1, "cat": 1}),
             ("login {} one", {"ann": 1}),
             ("upgrade {} one", {"ann": 1}),

@@ -50,7 +50,8 @@ fn hold<R: Threads + Sync + Abort>(rt: &R, alloc: Global, table: &[Row]) {
 }
 
 /// A hash has two passes of four slices, and lets each lane in once in each: `A` is of one lane,
-/// and the setting of two if a new record may be made.
+/// and the setting of two if a new record may be made. A wrong password takes as many hashes as a
+/// right one.
 #[test]
 fn no_hash_too_many(rt: HostRuntime) {
     let table = [
@@ -60,11 +61,12 @@ fn no_hash_too_many(rt: HostRuntime) {
         (Some(A), verify(&rt, "password"), [8, 0]),
         (Some(A), verify(&rt, "other"), [8, 0]),
         (None, change(&rt, "password", "new", B_SETTING), [0, 0]),
-        (Some(A), change(&rt, "other", "new", B_SETTING), [8, 0]),
+        (Some(A), change(&rt, "other", "new", B_SETTING), [16, 8]),
         (Some(A), change(&rt, "password", "new", B_SETTING), [16, 8]),
         (None, upgrade(&rt, "password", B_SETTING), [0, 0]),
         (Some(A), upgrade(&rt, "password", A_SETTING), [8, 0]),
-        (Some(A), upgrade(&rt, "other", B_SETTING), [8, 0]),
+        (Some(A), upgrade(&rt, "other", A_SETTING), [8, 0]),
+        (Some(A), upgrade(&rt, "other", B_SETTING), [16, 8]),
         (Some(A), upgrade(&rt, "password", B_SETTING), [16, 8]),
         (None, remove(&rt, "password"), [0, 0]),
         (Some(A), remove(&rt, "other"), [8, 0]),
