@@ -52,7 +52,7 @@ class OutOfMemoryError(RigzumalError, MemoryError):
 
 
 class InvalidRecordError(RigzumalError, ValueError):
-    """The text is no record, or no setting: the first fault from the left."""
+    """The text is no record, or no setting; the exception has the first fault from the left."""
 
 
 class InvalidNumbersError(RigzumalError, ValueError):
@@ -180,8 +180,8 @@ NAME: Final = "librigzumal.so.1"
 def _path() -> str:
     """The file that RIGZUMAL_LIBRARY names.
 
-    Without it the package's, make's, the one in the folder lib of the package's prefix, or the
-    system's.
+    If the variable is unset, the path is that of the package's own library, of make's, of one in
+    the folder lib of the package's prefix, or the system's.
     """
     named = os.environ.get("RIGZUMAL_LIBRARY")
     if named:
@@ -233,16 +233,18 @@ def version() -> str:
 
 
 def trim() -> int:
-    """Releases the memory that is kept for the next hashes; returns the number of bytes.
+    """Returns the memory that the library keeps for the next hashes to the system; returns its
+    bytes.
 
-    The library keeps as much as hashes used at one time, up to the bound of `keep`. A system
-    that is short of memory reclaims it; this call is for a program that hashes seldom.
+    The library keeps the memory of the hashes that ran at one time, up to the bound of `keep`. A
+    system that is short of memory reclaims it by itself. Use this call in a program that hashes
+    seldom.
     """
     return int(_library.rigzumal_trim())
 
 
 def keep(most: int) -> int:
-    """Sets the bound on the bytes that are kept, and returns the old bound.
+    """Sets the bound on the memory that the library keeps, in bytes, and returns the old bound.
 
     The default is 64 MiB, or the environment variable RIGZUMAL_KEEP. With 0 the library keeps no
     memory.

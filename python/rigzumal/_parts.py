@@ -39,7 +39,7 @@ class Parts(Frozen):
 
 
 def parts(record: Secret) -> Parts:
-    """Reads the numbers of a record, to decide about a rehash, or to refuse high costs.
+    """Reads the numbers of a record, for example to decide about a rehash.
 
     Raises:
         InvalidRecordError: the text is no record; the exception has its first fault.

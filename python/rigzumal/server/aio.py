@@ -22,8 +22,8 @@ class Client(Calls[Coroutine[Any, Any, Reply], Coroutine[Any, Any, "list[str]"]]
     connection has ended the next call opens another.
 
     Args:
-        path: the socket.
-        timeout: seconds of a whole call.
+        path: the path of the socket.
+        timeout: the longest time of a call, in seconds.
     """
 
     def __init__(

@@ -252,7 +252,7 @@ class AtAShell(support.Commands):
 
     @each(("64", "write 64M for MiB"), ("64K", ""), ("8M", ""), ("8192", ""), ("8191", "8191M"))
     def test_a_size_without_a_unit(self, memory, said):
-        """A size without a unit is in KiB, and a low one is more often a mistake."""
+        """A size without a unit is in KiB, and a low one is usually a mistake."""
         words = f"hash --memory {memory} --passes 1 --lanes 1"
         record, found = self.typed(*words.split())
         self.assertIn("$argon2id$", record)

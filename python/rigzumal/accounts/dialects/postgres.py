@@ -138,8 +138,9 @@ class Postgres(Dialect):
         return done
 
     async def add_all(self, session: Session, lines: Sequence[Line]) -> list[str]:
-        """Adds lines with their records by COPY; returns "added", "there" or "another" for each. It
-        raises an exception if the server stored another record than the line's.
+        """Adds lines with their records by COPY; returns "added", "there" or "another" for each.
+
+        The call raises an exception if the server stored another record than the line's.
         """
         for sql in self._came:
             await session.execute(sql)

@@ -40,13 +40,13 @@ def password_of(field: bytes) -> Optional[bytes]:
 
 
 def seconds_to_wait(answer: bytes) -> int:
-    """The seconds after which a try may come again that got this answer; 0 for any other answer."""
+    """The seconds until the next try, in the answer to a try that came too early; otherwise 0."""
     early = EARLY.fullmatch(answer)
     return int(early[1]) if early else 0
 
 
 def is_answer(text: bytes) -> bool:
-    """Whether the book may answer so: in letters, and a try that is too early with its seconds."""
+    """Whether this is a possible answer of the book: letters, or `later` with its seconds."""
     if not re.fullmatch(rb"[ -~]+", text):
         return False
     return text.split(b" ")[0] != LATER or 0 < seconds_to_wait(text) <= LONGEST_WAIT
@@ -71,7 +71,7 @@ class Process(asyncio.SubprocessProtocol):
         self.stdin = transport.get_pipe_transport(0)
 
     def ask(self, words: tuple[bytes, ...], answer: asyncio.Future[bytes]) -> None:
-        """Sends the process a line, and sets the answer later: UNAVAILABLE if the process ends
+        """Sends the process a line; the future gets the answer, or UNAVAILABLE if the process ends
         before."""
         if self.ended.done():
             answer.set_result(UNAVAILABLE)
@@ -186,9 +186,10 @@ class Book:
 
     @asynccontextmanager
     async def lent(self) -> AsyncIterator[int]:
-        """Lends the file, without a process on it, to one user at a time. The process answers its
-        open lines and ends, and the block gets its status. New lines wait for the next process,
-        which opens the file after the loan.
+        """Lends the file, while no process has it open, to one user at a time.
+
+        The process answers its open lines and ends, and the block gets its status. New lines wait
+        for the next process, which opens the file after the loan.
         """
         process, self.process = self.process, None
         assert process is not None

@@ -112,8 +112,8 @@ async def serve_clients(service: Service) -> None:
 
 
 async def notify_once_answered(book: Book, beat: float) -> None:
-    """Tells systemd that the server is alive, in each beat in which the book answers or an import
-    has the book's file."""
+    """Waits for the book's answer to a line. Tells systemd that the server is alive once the answer
+    is there, and in each beat until then in which an import has the book's file."""
     answer = book.ask(b"show", b"-")
     while not answer.done():
         await asyncio.wait([answer], timeout=beat)

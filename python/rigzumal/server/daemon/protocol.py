@@ -94,22 +94,22 @@ ANSWERS = {
     "removed": Answer(
         "the record is gone, and the name stays", tried=RIGHT, changed=True, reply="REMOVED"
     ),
-        "kept": Answer("the record already has these costs", tried=RIGHT, reply="KEPT"),
-        "ok": done("OK", "the operation took effect"),
+    "kept": Answer("the record already has these costs", tried=RIGHT, reply="KEPT"),
+    "ok": done("OK", "the operation took effect"),
     "enrolled": done("ENROLLED", "the account has its first record"),
     "disabled": done("DISABLED", "the record is gone, and the name stays"),
     "deleted": done("DELETED", "name and record are gone"),
     "renamed": done("RENAMED", "the account has the new name"),
     "locked": done("LOCKED", "each password is wrong from now on, until `unlock`"),
-        "unlocked": done("UNLOCKED", "the lock is gone, and the record counts again"),
-        "forgiven": Answer("no failed try counts any more"),
+    "unlocked": done("UNLOCKED", "the lock is gone, and the record counts again"),
+    "forgiven": Answer("no failed try counts any more"),
     "exists": Answer(
-                "the account already has a record; of `rename`: an account already has the new name",
+        "the account already has a record; of `rename`: an account already has the new name",
         reply="EXISTS",
         ask=4,
     ),
     "none": Answer(
-                "there is none: the account has no record or no lock, or got no right password so far",
+        "there is none: the account has no record or no lock, or got no right password so far",
         reply="NONE",
         ask=4,
     ),
@@ -121,7 +121,7 @@ ANSWERS = {
         text="The new password is too short.",
     ),
     "same": Answer(
-                "after `expire` the new password must differ from the old one",
+        "after `expire` the new password must differ from the old one",
         tried=RIGHT,
         reply="SAME",
         pam="AUTHTOK_ERR",
@@ -129,7 +129,7 @@ ANSWERS = {
         text="The new password is the old one.",
     ),
     "later": Answer(
-                "too many tries at this name failed, so this one had no effect: wait (1 s to 15 minutes),"
+        "too many tries at this name failed, so this one had no effect: wait (1 s to 15 minutes),"
         " or `credkeep-ask --server forgive NAME`",
         http=429,
         pam="MAXTRIES",
@@ -141,11 +141,11 @@ ANSWERS = {
         ask=1,
     ),
     "unavailable": Answer(
-                "the book's process has ended, or is ending: a change may be stored or not, so check the"
+        "the book's process has ended, or is ending: a change may be stored or not, so check the"
         " account",
         ask=5,
     ),
-        "bad 1 exists": refused("the book, or the file of `--foreign`, already has the name", ask=4),
+    "bad 1 exists": refused("the book, or the file of `--foreign`, already has the name", ask=4),
     "bad 2 full": refused("the book has no room for another account", ask=6),
     "bad 3 name": Answer("no book can have such a name", http=401, pam="USER_UNKNOWN", ask=1),
     "bad 4 memory": refused("there was no memory for a hash: see `--memory`", ask=3),
@@ -153,7 +153,7 @@ ANSWERS = {
     "bad 11 line": refused("no such line exists"),
     "bad 13 password": refused("the password isn't base64 of up to 256 bytes", ask=6, http=401),
     "bad 14 busy": refused(
-                "others changed the account meanwhile, or another import is running: try again", ask=5
+        "others changed the account meanwhile, or another import is running: try again", ask=5
     ),
     "bad 16 long": refused(
         "a line of over 960 bytes, or an import of over 128 MiB; the connection goes on", http=401
@@ -306,18 +306,18 @@ OPERATIONS = {
         "NAME",
         "expired absent noaccount",
         changes=True,
-                command=Command("NAME", "require another password"),
+        command=Command("NAME", "require another password"),
     ),
     b"known": Operation("NAME", LOOK),
     b"show": Operation(
-                "NAME",
+        "NAME",
         "none",
         command=Command("[--record] NAME", "print the costs of a record, or the whole record"),
     ),
-        b"list": Operation("FROM COUNT", command=Command("", "print all names")),
+    b"list": Operation("FROM COUNT", command=Command("", "print all names")),
     b"marks": Operation(
         "FROM COUNT",
-                command=Command("[NAME]", "print who is locked, and who must change the password"),
+        command=Command("[NAME]", "print who is locked, and who must change the password"),
     ),
     b"forgive": Operation(
         "NAME",
@@ -331,7 +331,7 @@ OPERATIONS = {
         command=Command("[OPTION]..", "add the accounts of the lines on standard input"),
     ),
     b"export": Operation(
-                "", is_transfer=True, command=Command("", "print a line NAME:RECORD for each account")
+        "", is_transfer=True, command=Command("", "print a line NAME:RECORD for each account")
     ),
     b"backup": Operation(
         "", is_transfer=True, command=Command("FILE", "write a copy of the whole book")
@@ -340,12 +340,12 @@ OPERATIONS = {
         "NAME",
         "none",
         is_own=True,
-                command=Command("NAME", "print the time of the last right password"),
+        command=Command("NAME", "print the time of the last right password"),
     ),
     b"waits": Operation(
-                "", is_own=True, command=Command("", "print the names that must wait, with the seconds")
+        "", is_own=True, command=Command("", "print the names that must wait, with the seconds")
     ),
-        b"stats": Operation("", is_own=True, command=Command("", "print the counts of answers")),
+    b"stats": Operation("", is_own=True, command=Command("", "print the counts of answers")),
 }
 # The options of an import, as credkeep has them.
 ONLY_TRIED = "--dry-run"

@@ -121,8 +121,8 @@ class Tally:
             log.info("%s has to wait no more: %s", name, why)
 
     def end_waits(self, staying: Callable[[str], int]) -> None:
-        """Notes that a new process of the book has the file, which knows no failed tries: each wait
-        has ended but those of names with seconds that stay."""
+        """Ends all waits, since a new process of the book knows no failed tries; only waits at
+        names for which `staying` has seconds remain."""
         ended = [name for name in self.early if not staying(name)]
         for name in ended:
             del self.early[name]
@@ -131,8 +131,8 @@ class Tally:
             log.info("%d names have to wait no more: the book's process is new", len(ended))
 
     def waits(self) -> list[str]:
-        """The names with a try that was too early, a wait that isn't over, and no login or
-        `forgive` since: each as NAME:SECONDS, with the seconds that are left."""
+        """The names whose wait isn't over, each as NAME:SECONDS with the rest of the wait: a try
+        there came too early, and no login or `forgive` ended the wait."""
         early = self.early.items()
         return [f"{name}:{rest}" for name, wait in early if (rest := wait.rest())]
 

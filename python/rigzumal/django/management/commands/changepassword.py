@@ -1,4 +1,4 @@
-"""Django's `manage.py changepassword`, which undoes no change that came between.
+"""Django's `manage.py changepassword`, which undoes no change that came meanwhile.
 
 Replaces Django's own command if INSTALLED_APPS has `rigzumal.django` before
 `django.contrib.auth`.

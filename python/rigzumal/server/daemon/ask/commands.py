@@ -152,7 +152,7 @@ class Commands:
         return self.server.run_with(text, "import", str(len(text)), *options)
 
     def backup(self, file: str) -> int:
-        """Writes a copy of the book beside its destination, to which credkeep renames it as any
+        """Writes the server's copy beside the destination, from which credkeep then writes the
         backup."""
         end_in_order()
         folder = os.path.dirname(os.path.abspath(file))
