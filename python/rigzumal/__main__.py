@@ -71,7 +71,7 @@ def _words() -> argparse.ArgumentParser:
 
 
 def _hash(given: argparse.Namespace) -> int:
-    """Writes a new record."""
+    """Prints a new record."""
     hasher = hasher_of(given)
     password = read_password(is_new=True)
     if is_empty(password) and not given.empty:
@@ -81,7 +81,7 @@ def _hash(given: argparse.Namespace) -> int:
 
 
 def _verify(given: argparse.Namespace) -> int:
-    """Writes yes, or no with status 4."""
+    """Prints yes, or no with status 4."""
     record, password = given.record, read_password()
     fault = _library.check(record, password)
     if fault != _library.MISMATCH:

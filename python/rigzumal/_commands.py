@@ -73,7 +73,7 @@ class Words(argparse.ArgumentParser):
         args: Optional[Sequence[str]] = None,
         namespace: Optional[argparse.Namespace] = None,
     ) -> argparse.Namespace:
-        """Parses as ArgumentParser, but shows no word that it refuses: it may be a password."""
+        """Parses like ArgumentParser, but never shows a refused word, which may be a password."""
         given, others = self.parse_known_args(args, namespace)
         if others:
             options = [*_options_of(self, getattr(given, "command", ""))]

@@ -58,7 +58,7 @@ def _warn_of(memory_cost: int) -> None:
 
 
 class Type(enum.IntEnum):
-    """The kinds of Argon2 (RFC 9106). For passwords: ID."""
+    """The kinds of Argon2 (RFC 9106). Use ID for passwords."""
 
     D = 0
     I = 1  # noqa: E741
@@ -79,7 +79,7 @@ class _Hasher(Frozen):
 
     @property
     def costs(self) -> str:
-        """The front of a new record, such as "$argon2id$v=19$m=65536,t=3,p=4"."""
+        """The beginning of a new record, such as "$argon2id$v=19$m=65536,t=3,p=4"."""
         return self._COSTS.format_map(vars(self)).lower()
 
     def _scheme(self) -> tuple[int, ...]:
@@ -224,7 +224,7 @@ class PasswordHasher(_Hasher):
         one = None if secret is None else _library.data_of(secret)
         several = tuple(_library.data_of(it) for it in secrets or ())
         if several and one not in (None, several[0]):
-            raise ValueError("secret and secrets are both given; give one of them")
+            raise ValueError("pass secret or secrets, not both")
         if secrets is not None and not several:
             raise ValueError("secrets is empty; without a pepper leave it out")
         if b"" in (one, *several[:1]):

@@ -88,10 +88,10 @@ def _range_of(text: Secret) -> str:
 
 
 def bytes_of(secret: Secret) -> bytes:
-    """The bytes of a secret, or of anything else that may be text.
+    """The bytes of a secret, or of another input that may be text.
 
-    Raises TypeError if it is neither, and ValueError if the text has no form in UTF-8: no
-    exception shows the secret.
+    The call raises TypeError for anything but bytes and text, and ValueError for a text without
+    UTF-8. No exception shows the secret.
     """
     if isinstance(secret, bytes):
         return secret
@@ -292,7 +292,7 @@ def check(
 
 
 def parts(text: Secret) -> RecordNumbers:
-    """rigzumal_parts of a record; costs, which have no tag, are refused."""
+    """rigzumal_parts of a record; refuses costs, which have no tag."""
     found = RecordNumbers()
     raise_fault(_library.rigzumal_parts(found, text_bytes(text)), text)
     if found.tag_size == 0:
@@ -301,7 +301,7 @@ def parts(text: Secret) -> RecordNumbers:
 
 
 def is_record(text: Secret) -> bool:
-    """Whether a text is a record, and none of another scheme."""
+    """Whether a text is a record of Argon2 or scrypt."""
     found = bytes_of(text)
     return b"\0" not in found and record_fault(found) == OK
 
@@ -312,7 +312,7 @@ def check_text(text: Secret) -> None:
 
 
 def in_range(name: str, number: int, least: int, most: int, fault: int) -> int:
-    """The number; an InvalidNumbersError of this fault names one that is out of range."""
+    """The number; raises InvalidNumbersError with this fault if the number is out of range."""
     whole_number(name, number)
     if not least <= number <= most:
         said = f"{name} must be {least} to {most}, not {number}"
@@ -330,7 +330,7 @@ def checked(number: int) -> int:
     """A number that ctypes doesn't truncate; raises TypeError or OverflowError for any other."""
     whole_number("the number", number)
     if not 0 <= number < 2**32:
-        raise OverflowError("the number is not 0 to 2^32 - 1")
+        raise OverflowError("the number must be 0 to 2^32 - 1")
     return number
 
 

@@ -42,7 +42,7 @@ class _OneBackend:
 
     @classmethod
     def has_backend(cls, name: str = "any") -> bool:
-        """Whether there is a backend of this name."""
+        """Whether a backend has this name."""
         return name in ("any", "default", _BACKEND)
 
     @classmethod

@@ -250,7 +250,7 @@ class AsyncAccounts(Operations[AsyncPool]):
     done or not, as after `OutcomeUnknown`.
 
     Args:
-        executor: a ThreadPoolExecutor, an argument of AsyncAccounts alone. Each of its threads may
+        executor: a ThreadPoolExecutor, an argument only of AsyncAccounts. Each of its threads may
             need the memory of one hash. The default is asyncio's own executor, which also looks up
             hosts.
     """

@@ -55,7 +55,7 @@ class Passwords:
     def __post_init__(self) -> None:
         whole_number("least_length", self.least_length)
         if not 0 <= self.least_length <= LONGEST_PASSWORD:
-            raise ValueError(f"least_length is 0 to {LONGEST_PASSWORD}")
+            raise ValueError(f"least_length must be 0 to {LONGEST_PASSWORD}")
         if self.prepare is not None and not callable(self.prepare):
             kind = type(self.prepare).__name__
             raise TypeError(f"`prepare` must be a function, not a {kind}")
@@ -63,8 +63,8 @@ class Passwords:
     def new(self, password: Secret) -> bytes:
         """The bytes of a new password.
 
-        A TypeError says that it is neither bytes nor text, a ValueError that it is too short
-        or too long, has no UTF-8, or is refused.
+        The call raises TypeError if the password is neither bytes nor text, and ValueError if it is
+        too short or too long, has no UTF-8, or `prepare` refuses it.
         """
         made = self._prepared(bytes_of_password(password))
         if len(made.decode(errors="replace")) < self.least_length:

@@ -63,7 +63,9 @@ class Operations(Generic[AnyPool]):
     ) -> None:
         whole_number("tries", tries)
         if not isinstance(patience, (int, float)):
-            raise TypeError(f"patience is a number of seconds, not a {type(patience).__name__}")
+            raise TypeError(
+                f"patience must be a number of seconds, not a {type(patience).__name__}"
+            )
         if tries < 1 or not patience >= 0:
             raise ValueError("tries must be 1 or more, and patience 0 or more")
         for one in (pool, *([] if replica is None else [replica])):

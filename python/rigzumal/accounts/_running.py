@@ -32,6 +32,7 @@ def runs_over(pool: Any) -> bool:
 
 
 def runs_on(pool: Any, table: str) -> bool:
-    """Whether the caller is within an `also` of an operation on this table of the pool's."""
+    """Whether the caller is within an `also` of an operation on this table in the pool's
+    database."""
     found = (it for it in RUNNING.get() if not it.is_over)
     return any((it.pool, it.table) == (pool, table) for it in found)

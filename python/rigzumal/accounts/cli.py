@@ -124,7 +124,7 @@ class _Command:
         if not self.args.numbers:
             return name
         if not re.fullmatch("-?[0-9]{1,19}", name):
-            raise Refusal(f"{name!r} is no whole number", Status.WORDS)
+            raise Refusal(f"{name!r} isn't a whole number", Status.WORDS)
         return int(name)
 
     def new_key(self, name: str) -> Key:
@@ -139,7 +139,7 @@ class _Command:
         return key
 
     def copy(self, key: Key) -> Copy:
-        """The record of the row, None, or NO_ROW."""
+        """The row's record; None if the row has none, and NO_ROW without a row."""
         return self.accounts.begin(Request(Kind.VERIFY, key)).copy
 
     @contextlib.contextmanager
@@ -152,13 +152,13 @@ class _Command:
             raise Refusal(why(self.copy(key), said), Status.DATABASE) from None
 
     def say(self, reply: Reply, *good: Reply) -> int:
-        """Writes a reply, with the status of a no unless it is one of the good ones."""
+        """Prints a reply; returns the status of a no unless it is one of the good replies."""
         words = {Reply.NO_ACCOUNT: "no account", Reply.ABSENT: "no record"}
         self.write(words.get(reply, reply.value), reply=reply.value)
         return Status.DONE if reply in good else Status.NO
 
     def write(self, text: str, /, **fields: object) -> int:
-        """Writes a line: the text, or the fields with --json."""
+        """Prints a line: the text, or the fields with --json."""
         print(json.dumps(fields, default=str) if self.args.json else text)
         return Status.DONE
 

@@ -32,7 +32,7 @@ def lost_as_error() -> Iterator[None]:
 
 
 def show(form: Any, error: ValidationError) -> None:
-    """Adds the error to the form's first field: the admin's pages show no other."""
+    """Adds the error to the form's first field, since the admin's pages show no other error."""
     form.add_error(next(iter(form.fields)), error)
 
 

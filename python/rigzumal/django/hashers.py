@@ -234,7 +234,7 @@ class ScryptPasswordHasher(_RecordHasher):
     def _key(self, password: Password, parts: dict[str, Any], length: int) -> bytes:
         work_factor = parts["work_factor"]
         if work_factor & (work_factor - 1):
-            raise ValueError("the work factor is no power of two")
+            raise ValueError("the work factor isn't a power of two")
         return rigzumal.scrypt(
             password,
             parts["salt"].encode(),

@@ -123,7 +123,7 @@ class Row:
         return found
 
     def put(self, over: Sequence[str], record: str) -> bool:
-        """Writes the record if the row has one of these; then sets it in the user too."""
+        """Writes the record if the row has one of the known ones; then sets it in the user too."""
         if self._rows.filter(password__in=over).update(password=record) == 0:
             return False
         copy = known_copy(self.user, self.database)
@@ -142,7 +142,8 @@ class Row:
 
 
 def _at_what_stands(user: Any, judge: Callable[[str], tuple[bool, str]]) -> bool:
-    """Judges the copy, and writes the record after it; begins again if the row has another."""
+    """Checks the password against the copy, and writes the new record; begins again if the row has
+    another record."""
     row, copy = Row(user), user.password
     for _ in range(TRIES):
         right, after = judge(copy)

@@ -137,7 +137,7 @@ class Question:
         try:
             return Reply(answer_of(tag, line))
         except ValueError:
-            raise Unavailable("the answer is no reply") from None
+            raise Unavailable("the answer isn't a reply") from None
         except Refused as refused:
             if refused.number != 3 or self.no_name is None:
                 raise

@@ -212,7 +212,7 @@ class Dialect:
         """Refuses a connection that isn't in autocommit or has a transaction open."""
         mode = self.mode(conn)
         if not mode.is_autocommit:
-            raise StoreFault("the connections of the pool have to be in autocommit")
+            raise StoreFault("the pool's connections must be in autocommit")
         if mode.has_transaction:
             raise StoreFault(LEFT_OPEN)
 
@@ -280,11 +280,12 @@ class Dialect:
         return self.verdict(raised) is Verdict.AGAIN
 
     def refuses_at_once(self, raised: BaseException) -> bool:
-        """Whether the server undid the statement, so that a transaction may succeed or say why."""
+        """Whether the server undid the statement: then a transaction may succeed, or show the
+        reason."""
         return False
 
     def number(self, raised: BaseException) -> str:
-        """The server's number of an error; its text may have the refused row."""
+        """The server's number of an error, since the text may quote the refused row."""
         return ""
 
     def missing_name(self, raised: BaseException) -> str:

@@ -75,7 +75,7 @@ class Postgres(Dialect):
         found = await session.execute("SHOW transaction_isolation")
         if found.rows == [("repeatable read",)]:
             fault = "the transaction is REPEATABLE READ"
-            raise StoreFault(f"{fault}: begin by READ COMMITTED or SERIALIZABLE")
+            raise StoreFault(f"{fault}: use READ COMMITTED or SERIALIZABLE")
 
     async def start(self, session: Session) -> None:
         try:

@@ -53,7 +53,7 @@ def is_answer(text: bytes) -> bool:
 
 
 def has_record(row: bytes) -> bool:
-    """Whether a row has a record, perhaps behind marks."""
+    """Whether a row has a record, perhaps after marks."""
     return row.lstrip(LOCKED + MUST_CHANGE).startswith(b"$")
 
 
@@ -88,7 +88,7 @@ class Process(asyncio.SubprocessProtocol):
             if answer := self.pending.pop(tag, None):
                 answer.set_result(text if is_answer(text) else UNAVAILABLE)
                 if not is_answer(text):
-                    log_seldom("misread", "the book gave an answer that no book gives")
+                    log_seldom("misread", "the book sent an unknown answer")
             else:
                 log_seldom("the book", "the book answered a line that nobody sent")
         if len(self.rest) > LONGEST_ANSWER:
@@ -173,7 +173,7 @@ class Book:
         return answer
 
     def row(self, name: bytes) -> asyncio.Future[bytes]:
-        """An account's marks with its record behind them, or NO_RECORD; or a refusal of `show`."""
+        """An account's marks and then its record, or NO_RECORD; or a refusal of `show`."""
         return self.ask(b"show", name)
 
     def is_lent(self) -> bool:
@@ -291,7 +291,8 @@ class Places:
 
 
 class Rounds:
-    """Beside logins, changes run in rounds: all that hash, or one other; then a longer rest."""
+    """While users log in, changes run in rounds: in each, all that hash or one other; then a
+    rest."""
 
     def __init__(self, book: Book, is_busy: Callable[[], bool]) -> None:
         self.book = book

@@ -173,7 +173,7 @@ async def end_book(book: Book, seconds: float) -> int:
     book.end()
     await asyncio.wait([book.ended], timeout=seconds)
     if not book.ended.done():
-        log.error("the book is killed: it still runs after %d s", LAST_SECONDS)
+        log.error("killing the book: it still runs after %d s", LAST_SECONDS)
         book.kill()
         await asyncio.wait([book.ended], timeout=KILLED_SECONDS)
     if book.ended.done():

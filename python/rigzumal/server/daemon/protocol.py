@@ -17,7 +17,7 @@ RIGHT, WRONG, ABSENT, NO_ACCOUNT = "yes", "no", "absent", "noaccount"
 
 @dataclass(frozen=True)
 class Answer:
-    """An answer with no other words, such as names, behind it."""
+    """An answer with no other words, such as names, after it."""
 
     meaning: str  # on pages
     tried: str = ""  # as what a try is counted that gets it
@@ -173,14 +173,14 @@ NO_ANSWER = Answer("")  # any other text
 
 @dataclass(frozen=True)
 class Command:
-    """A command of credkeep-ask for a server: the words behind it, and its text of help."""
+    """A command of credkeep-ask for a server: the words after it, and its text of help."""
 
     words: str
     text: str
 
     @cached_property
     def counts(self) -> range:
-        """The number of words behind the command, without options."""
+        """The number of words after the command, without options."""
         words = [word for word in self.words.split() if not word.startswith(("[-", "[OPTION]"))]
         least = sum(not word.startswith("[") for word in words)
         return range(least, len(words) + 1)
@@ -216,12 +216,12 @@ class Operation:
 
     @cached_property
     def new(self) -> int:
-        """The place of a new password among its fields; 0 if none is one."""
+        """The place of a new password among its fields; 0 without one."""
         return self.place("NEW")
 
     @cached_property
     def setting(self) -> int:
-        """The place of a setting among its fields; 0 if none may be one."""
+        """The place of a setting among its fields; 0 without one."""
         return self.place("[SETTING]")
 
     @cached_property
@@ -288,13 +288,13 @@ OPERATIONS = {
         "NAME OTHER",
         "renamed exists noaccount",
         changes=True,
-        command=Command("NAME NEW", "give the account another name"),
+        command=Command("NAME NEW", "give an account another name"),
     ),
     b"lock": Operation(
         "NAME",
         "locked noaccount",
         changes=True,
-        command=Command("NAME", "refuse each password; the record stays"),
+        command=Command("NAME", "refuse every password; the record stays"),
     ),
     b"unlock": Operation(
         "NAME",
@@ -322,7 +322,7 @@ OPERATIONS = {
     b"forgive": Operation(
         "NAME",
         "forgiven noaccount",
-        command=Command("NAME", "end a wait after failed tries"),
+        command=Command("NAME", "end the wait after failed tries"),
     ),
     b"import": Operation(
         "SIZE [OPTION]..",

@@ -19,7 +19,7 @@ from rigzumal.django import records, users
 
 
 class Command(changepassword.Command):
-    """Django's command, during which the user model compares."""
+    """Django's command; while it runs, the user model compares."""
 
     @hidden_below
     def handle(self, *args: Any, **options: Any) -> Any:

@@ -126,7 +126,7 @@ class Commands:
         return "\n".join(f"{name}:{MARKS[mark]}" for name, mark in told)
 
     def show(self, name: str, is_whole: bool) -> str:
-        """Prints a record's costs, or the whole record, behind the marks."""
+        """Prints the marks and then a record's costs, or the whole record."""
         said = self.server.ask("show", name)
         marks = marks_of(said)
         if said in ("none", marks):
