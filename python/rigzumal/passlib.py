@@ -118,8 +118,8 @@ class scrypt(_OneBackend, _scrypt.scrypt):
 def register() -> None:
     """Replaces passlib's own handlers by these two, for contexts that you create afterwards.
 
-    Later imports of `passlib.hash.argon2` get the new handler too. If
-    passlib's own were loaded before, passlib's log says that they are overridden.
+    Later imports of `passlib.hash.argon2` get the new handler too. If passlib's own handlers were
+    loaded before, passlib logs a warning about them.
     """
     handler: Any
     for handler in (argon2, scrypt):

@@ -2,7 +2,8 @@
 
     appending.py PATH
 
-The program appends texts that come by the socket at its standard input, and answers each. The program is a separate process: nothing ends a thread that waits for a hung disk, nor the
+The program appends texts that come by the socket at its standard input, and answers each. The
+program is a separate process, since nothing can end a thread that waits for a hung disk, nor the
 process of such a thread.
 """
 

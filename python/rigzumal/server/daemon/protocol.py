@@ -206,7 +206,7 @@ class Operation:
 
     @cached_property
     def tries(self) -> bool:
-        """Whether a line may be a guess."""
+        """Whether a line has a present password, and so may be a guess."""
         return self.place("PW") > 0
 
     @cached_property

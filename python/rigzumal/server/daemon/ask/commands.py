@@ -37,7 +37,7 @@ LISTS = ("list", "marks", "stats", "waits")  # commands whose answers are names,
 
 
 class Commands:
-    """The function of each command, by its word: it prints the answer, and returns the status."""
+    """The commands for a server, each a method: it prints the answer, and returns the status."""
 
     def __init__(self, server: Server) -> None:
         self.server = server
