@@ -147,7 +147,8 @@ class Judge:
         return self._made(bytes_of_password(password))
 
     def question(self, ticket: Ticket) -> Optional[tuple[Foreign, str, bytes]]:
-        """The hook with its text and the password, if it must judge."""
+        """The hook and its arguments, the record and the password; None if no hook has to
+        answer."""
         request, copy = ticket.request, ticket.copy
         if self.foreign is None or not isinstance(copy, str):
             return None
