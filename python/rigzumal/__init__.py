@@ -6,7 +6,8 @@
 >>> hasher.verify(record, "correct horse")
 True
 
-`python3 -m rigzumal` tries it at the shell. Nothing here prints or keeps a password.
+`python3 -m rigzumal` is a command with the same hashes. The package never prints or keeps a
+password.
 """
 
 import sys

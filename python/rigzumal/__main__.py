@@ -6,8 +6,8 @@
     python3 -m rigzumal accounts --help
 
 A password is never an argument. At a terminal the command asks for the password, unseen. Otherwise
-the password is all of standard input, with a newline at its end too. The exit statuses are
-credkeep's: 4 is a no.
+the password is all of standard input, even a newline at its end. The exit statuses are those of
+credkeep: for example, 4 means no.
 """
 
 from __future__ import annotations
@@ -26,7 +26,7 @@ _LEAST_TARGET, _MOST_TARGET = 10, 60_000
 
 
 def _target(text: str) -> float:
-    """The milliseconds of a login."""
+    """The argument of --target-ms: the milliseconds of a login."""
     try:
         target = float(text)
     except ValueError:
@@ -71,7 +71,7 @@ def _words() -> argparse.ArgumentParser:
 
 
 def _hash(given: argparse.Namespace) -> int:
-    """Writes a new record."""
+    """Prints a new record."""
     hasher = hasher_of(given)
     password = read_password(is_new=True)
     if is_empty(password) and not given.empty:
@@ -81,7 +81,7 @@ def _hash(given: argparse.Namespace) -> int:
 
 
 def _verify(given: argparse.Namespace) -> int:
-    """Writes yes, or no with status 4."""
+    """Prints yes, or no with status 4."""
     record, password = given.record, read_password()
     fault = _library.check(record, password)
     if fault != _library.MISMATCH:
@@ -114,7 +114,7 @@ def _calibrate(given: argparse.Namespace) -> int:
 
 
 def _hint_at(record: str) -> str:
-    """The fault of a record of another program, in words for people."""
+    """A hint about a record of another program, in words for people."""
     unquoted = "" if record.startswith("$") else "in single quotes a shell leaves its $ alone"
     return none_of_ours(record) or unquoted
 

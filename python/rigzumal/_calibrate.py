@@ -23,7 +23,7 @@ class Measured(NamedTuple):
 
 
 def measured(hasher: PasswordHasher, turns: int = 5) -> Measured:
-    """The best time of some hashes; a first hash isn't counted."""
+    """The best time of some hashes, after a first one that doesn't count."""
     times = []
     for _ in range(turns + 1):
         begun = time.perf_counter()
@@ -43,9 +43,9 @@ def trials(
 ) -> Iterator[Measured]:
     """Costs to try, in turn: the last ones are the result.
 
-    RFC 9106, section 4, chooses all of the memory (KiB), and then as many passes as the target
-    (milliseconds) allows. If one pass needs too long, the trials use less memory, down to OWASP's
-    least, or to Argon2's if the caller allows costs below OWASP's.
+    By RFC 9106, section 4, the trials use all of the memory (KiB), and then as many passes as the
+    target (milliseconds) allows. If one pass needs too long, the trials use less memory, down to
+    OWASP's least, or to Argon2's if the caller allows costs below OWASP's.
     """
     least = max(LEAST_MEMORY * lanes, 0 if below else LEAST_SAFE_MEMORY)
     found = measured(PasswordHasher(1, memory, lanes, threads=threads))

@@ -61,8 +61,8 @@ _SYNONYMS = {
 class Words(argparse.ArgumentParser):
     """A parser that exits with status 1 if it refuses a word.
 
-    The parser accepts no abbreviation: it would read `--pass` as `--passes`, whose value an error
-    shows.
+    The parser accepts no abbreviation. Otherwise `--pass SECRET` would count as `--passes SECRET`,
+    and its error would show the value.
     """
 
     def __init__(self, **given: Any) -> None:
@@ -73,7 +73,7 @@ class Words(argparse.ArgumentParser):
         args: Optional[Sequence[str]] = None,
         namespace: Optional[argparse.Namespace] = None,
     ) -> argparse.Namespace:
-        """Parses as ArgumentParser, but shows no word that it refuses: it may be a password."""
+        """Parses like ArgumentParser, but never shows a refused word, which may be a password."""
         given, others = self.parse_known_args(args, namespace)
         if others:
             options = [*_options_of(self, getattr(given, "command", ""))]
@@ -97,7 +97,7 @@ def _options_of(words: argparse.ArgumentParser, command: str) -> Iterator[str]:
 
 
 def _unknown(word: str, options: Sequence[str]) -> str:
-    """The fault of a word, which isn't shown, at a command with these options."""
+    """The fault of a word at a command with these options; the text doesn't show the word."""
     if not word.startswith("-"):
         return "a word too many; a password is never an argument: pipe or type it"
     said, meant = "an unknown option, which isn't shown", _meant(word, options)

@@ -1,5 +1,5 @@
-"""A base class for named values that don't change. dataclasses would do, but take longer to import
-than all the rest of the package."""
+"""A base class for named values that don't change. Dataclasses would do the same, but their module
+takes longer to import than all of the package."""
 
 from __future__ import annotations
 

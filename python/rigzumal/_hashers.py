@@ -39,8 +39,7 @@ _BLOCKS: Final = 21
 
 
 class LowMemoryWarning(UserWarning):
-    """A hasher has a memory_cost below 8 MiB. Perhaps its author took the unit for MiB; it is
-    KiB."""
+    """A hasher has a memory_cost below 8 MiB. Perhaps the caller meant MiB, but the unit is KiB."""
 
 
 def _warn_of(memory_cost: int) -> None:
@@ -59,7 +58,7 @@ def _warn_of(memory_cost: int) -> None:
 
 
 class Type(enum.IntEnum):
-    """The kinds of Argon2 (RFC 9106). For passwords: ID."""
+    """The kinds of Argon2 (RFC 9106). Use ID for passwords."""
 
     D = 0
     I = 1  # noqa: E741
@@ -80,7 +79,7 @@ class _Hasher(Frozen):
 
     @property
     def costs(self) -> str:
-        """The front of a new record, such as "$argon2id$v=19$m=65536,t=3,p=4"."""
+        """The beginning of a new record, such as "$argon2id$v=19$m=65536,t=3,p=4"."""
         return self._COSTS.format_map(vars(self)).lower()
 
     def _scheme(self) -> tuple[int, ...]:
@@ -140,9 +139,9 @@ class _Hasher(Frozen):
 
     @hidden
     def verify_and_rehash(self, hash: Secret, password: Secret) -> Optional[str]:
-        """None if the password is right and its record may stay; a new record if it is old.
+        """Checks the password; returns a new record if the record is old, and otherwise None.
 
-        It raises the exceptions of `verify` and `hash`.
+        The call raises the exceptions of `verify` and `hash`.
         """
         place = self._verified(hash, password)
         is_old = place > 0 or self.check_needs_rehash(hash)
@@ -151,8 +150,8 @@ class _Hasher(Frozen):
     def check_needs_rehash(self, hash: Secret) -> bool:
         """Whether the record has another scheme, other costs or other sizes than a new one.
 
-        Only `verify_and_rehash` can tell which secret the record needs. A text that is no
-        record raises InvalidRecordError.
+        The record doesn't show its secret: only `verify_and_rehash` finds out which one it needs. A
+        text that is no record raises InvalidRecordError.
         """
         parts = _library.parts(hash)
         found = (parts.scheme, parts.version, parts.memory, parts.passes, parts.lanes)
@@ -168,19 +167,25 @@ def _is_record(password: Secret) -> bool:
 class PasswordHasher(_Hasher):
     """Hashes passwords into records by Argon2 (RFC 9106), version 0x13, and verifies them.
 
-    Attributes: time_cost: passes, 1 to 2^32 - 1. memory_cost: in KiB, 8 a lane to 2097152.
-    parallelism: lanes, 1 to 255. hash_len: bytes of the tag, 4 to 64. salt_len: bytes of a
-    generated salt, 8 to 48. type: the kind of Argon2. secret: a pepper, which you keep apart from
-    the records: RFC 9106's K. A hasher with a secret verifies only records of that secret, and none
-    of scrypt. The secret is never empty: an unset variable is no pepper. No repr shows it. threads:
-    how many threads may work the lanes of one record, the caller's among them; it changes no
-    record. 1 is right for a service: other logins use the other processors. `parallelism` is right
-    for a program that hashes one password at a time: 64 MiB and four lanes need a third of the time
-    on four idle processors. At most one thread for each processor starts, and none below 4 MiB.
-    secrets: the new pepper and older ones, instead of `secret`, while peppers rotate. A new record
-    uses the first, which is then `secret`, and verifying tries them all: a wrong password costs a
-    hash for each. `verify_and_rehash` replaces records of older ones. b"" among the older ones is
-    for records without a pepper.
+    Attributes:
+        time_cost: passes, 1 to 2^32 - 1.
+        memory_cost: in KiB, 8 a lane to 2097152.
+        parallelism: lanes, 1 to 255.
+        hash_len: bytes of the tag, 4 to 64.
+        salt_len: bytes of a generated salt, 8 to 48.
+        type: the kind of Argon2.
+        secret: a pepper, which you keep apart from the records: RFC 9106's K. A hasher with a
+            secret verifies only records of that secret, and none of scrypt. The secret must not
+            be empty, so an unset variable is an error. No repr shows it.
+        threads: the number of threads that may compute the lanes of one record, with the
+            caller's; it changes no record. Use 1 in a service, where other logins use the other
+            processors. Use `parallelism` in a program that hashes one password at a time: 64 MiB
+            and four lanes take a third of the time on four idle processors. The library starts at
+            most one thread for each processor, and none below 4 MiB.
+        secrets: the new pepper and older ones, instead of `secret`, while peppers rotate. A new
+            record uses the first, which is then `secret`. `verify` tries them all, so a wrong
+            password costs a hash for each. `verify_and_rehash` replaces records of older peppers.
+            b"" among the older ones is for records without a pepper.
 
     Raises:
         InvalidNumbersError: a number is out of its range.
@@ -188,7 +193,8 @@ class PasswordHasher(_Hasher):
         ValueError: no such kind exists, both a secret and secrets are given, or a new record
             would have an empty secret.
 
-    It warns once in a process, by LowMemoryWarning, of a memory_cost below 8192 (8 MiB).
+    The constructor warns of a memory_cost below 8192 (8 MiB) by LowMemoryWarning, once in a
+    process.
     """
 
     time_cost: int
@@ -218,7 +224,7 @@ class PasswordHasher(_Hasher):
         one = None if secret is None else _library.data_of(secret)
         several = tuple(_library.data_of(it) for it in secrets or ())
         if several and one not in (None, several[0]):
-            raise ValueError("secret and secrets are both given; give one of them")
+            raise ValueError("pass secret or secrets, not both")
         if secrets is not None and not several:
             raise ValueError("secrets is empty; without a pepper leave it out")
         if b"" in (one, *several[:1]):
@@ -258,7 +264,7 @@ class ScryptHasher(_Hasher):
     Attributes:
         log2_n: the cost N as a power of two, 1 to 23, below 16 * r.
         block_size: r, 1 to 255. The table has 128 * r * N bytes, 2 GiB at most.
-        parallelism: p, 1 to 255; the caller's thread does all the work.
+        parallelism: p, 1 to 255; the caller's thread does all of the work.
         hash_len: bytes of the key, 4 to 64.
         salt_len: bytes of a generated salt, 1 to 48.
 
@@ -312,9 +318,9 @@ def argon2(
     associated: Bytes = b"",
     threads: int = 1,
 ) -> bytes:
-    """The Argon2 tag of hash_len bytes (RFC 9106), with memory_cost in KiB.
+    """Computes the Argon2 tag of hash_len bytes (RFC 9106), with memory_cost in KiB.
 
-    Up to `threads` threads work its lanes: see PasswordHasher.
+    At most `threads` threads compute its lanes: see PasswordHasher.
 
     Raises:
         InvalidNumbersError: a number is outside its range.
@@ -335,7 +341,7 @@ def argon2(
 def scrypt(
     password: Secret, salt: Bytes, *, log2_n: int, r: int, p: int, length: int = 32
 ) -> bytes:
-    """The scrypt key of length bytes (RFC 7914), with N = 2^log2_n.
+    """Computes the scrypt key of `length` bytes (RFC 7914), with N = 2^log2_n.
 
     Raises:
         InvalidNumbersError: a number is outside its range.

@@ -1,8 +1,8 @@
 """Keeps passwords out of reports of errors.
 
 Sentry, cgitb, rich and Django's debug page show the variables of each frame that an exception has
-passed, except those with some names. So each public call that gets a password or a pepper empties
-such frames before an exception leaves it.
+passed, except variables with certain names. So each public call that gets a password or a pepper
+empties such frames before an exception leaves it.
 """
 
 from __future__ import annotations
@@ -20,8 +20,8 @@ if TYPE_CHECKING:
 
 
 def hidden(function: Function) -> Function:
-    """Wraps a function: its exceptions carry no variable of this package's frames. A caller's hooks
-    keep theirs."""
+    """Wraps a function: its exceptions carry no variable of this package's frames. Frames of a
+    caller's hooks keep their variables."""
     return _hiding(function, hide)
 
 

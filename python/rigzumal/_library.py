@@ -52,7 +52,7 @@ class OutOfMemoryError(RigzumalError, MemoryError):
 
 
 class InvalidRecordError(RigzumalError, ValueError):
-    """The text is no record, or no setting: the first fault from the left."""
+    """The text is no record, or no setting; the exception has the first fault from the left."""
 
 
 class InvalidNumbersError(RigzumalError, ValueError):
@@ -88,10 +88,10 @@ def _range_of(text: Secret) -> str:
 
 
 def bytes_of(secret: Secret) -> bytes:
-    """The bytes of a secret, or of anything else that may be text.
+    """The bytes of a secret, or of another input that may be text.
 
-    Raises TypeError if it is neither, and ValueError if the text has no form in UTF-8: no
-    exception shows the secret.
+    The call raises TypeError for anything but bytes and text, and ValueError for a text without
+    UTF-8. No exception shows the secret.
     """
     if isinstance(secret, bytes):
         return secret
@@ -180,8 +180,8 @@ NAME: Final = "librigzumal.so.1"
 def _path() -> str:
     """The file that RIGZUMAL_LIBRARY names.
 
-    Without it the package's, make's, the one in the folder lib of the package's prefix, or the
-    system's.
+    If the variable is unset, the path is that of the package's own library, of make's, of one in
+    the folder lib of the package's prefix, or the system's.
     """
     named = os.environ.get("RIGZUMAL_LIBRARY")
     if named:
@@ -233,16 +233,18 @@ def version() -> str:
 
 
 def trim() -> int:
-    """Releases the memory that is kept for the next hashes; returns the number of bytes.
+    """Returns the memory that the library keeps for the next hashes to the system; returns its
+    bytes.
 
-    The library keeps as much as hashes used at one time, up to the bound of `keep`. A system
-    that is short of memory reclaims it; this call is for a program that hashes seldom.
+    The library keeps the memory of the hashes that ran at one time, up to the bound of `keep`. A
+    system that is short of memory reclaims it by itself. Use this call in a program that hashes
+    seldom.
     """
     return int(_library.rigzumal_trim())
 
 
 def keep(most: int) -> int:
-    """Sets the bound on the bytes that are kept, and returns the old bound.
+    """Sets the bound on the memory that the library keeps, in bytes, and returns the old bound.
 
     The default is 64 MiB, or the environment variable RIGZUMAL_KEEP. With 0 the library keeps no
     memory.
@@ -290,7 +292,7 @@ def check(
 
 
 def parts(text: Secret) -> RecordNumbers:
-    """rigzumal_parts of a record; costs, which have no tag, are refused."""
+    """rigzumal_parts of a record; refuses costs, which have no tag."""
     found = RecordNumbers()
     raise_fault(_library.rigzumal_parts(found, text_bytes(text)), text)
     if found.tag_size == 0:
@@ -299,7 +301,7 @@ def parts(text: Secret) -> RecordNumbers:
 
 
 def is_record(text: Secret) -> bool:
-    """Whether a text is a record, and none of another scheme."""
+    """Whether a text is a record of Argon2 or scrypt."""
     found = bytes_of(text)
     return b"\0" not in found and record_fault(found) == OK
 
@@ -310,7 +312,7 @@ def check_text(text: Secret) -> None:
 
 
 def in_range(name: str, number: int, least: int, most: int, fault: int) -> int:
-    """The number; an InvalidNumbersError of this fault names one that is out of range."""
+    """The number; raises InvalidNumbersError with this fault if the number is out of range."""
     whole_number(name, number)
     if not least <= number <= most:
         said = f"{name} must be {least} to {most}, not {number}"
@@ -328,7 +330,7 @@ def checked(number: int) -> int:
     """A number that ctypes doesn't truncate; raises TypeError or OverflowError for any other."""
     whole_number("the number", number)
     if not 0 <= number < 2**32:
-        raise OverflowError("the number is not 0 to 2^32 - 1")
+        raise OverflowError("the number must be 0 to 2^32 - 1")
     return number
 
 

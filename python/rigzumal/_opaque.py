@@ -22,9 +22,9 @@ _JOINERS = "\u200c\u200d"
 def opaque_string(text: str) -> str:
     """The text as RFC 8265's OpaqueString (section 4.2): in NFC, with each space as U+0020.
 
-    So a password is the same from each keyboard: macOS may send a letter and its accent,
-    and Windows both in one. Case and width stay. Joiners and the selectors of emoji are allowed
-    everywhere. The RFC allows them in some contexts alone, or not at all.
+    So a password is the same from each keyboard: macOS may send a letter and its accent, and
+    Windows both in one. Case and width stay. This function allows joiners and the selectors of
+    emoji everywhere, while the RFC allows them only in some contexts, or not at all.
 
     Raises:
         ValueError: the text is empty, or has a character that the RFC refuses: a control character,

@@ -16,10 +16,10 @@ class Parts(Frozen):
 
     Attributes:
         scheme: "argon2d", "argon2i", "argon2id" or "scrypt".
-        version: of Argon2, 0x13 or 0x10; of scrypt 0.
-        memory: of Argon2 in KiB; of scrypt log2 of N.
-        passes: of Argon2; of scrypt the block size r.
-        lanes: of Argon2; of scrypt the parallelism p.
+        version: 0x13 or 0x10 for Argon2; 0 for scrypt.
+        memory: KiB for Argon2; log2 of N for scrypt.
+        passes: the passes of Argon2; the block size r for scrypt.
+        lanes: the lanes of Argon2; the parallelism p for scrypt.
         salt_size: bytes of the salt.
         tag_size: bytes of the tag.
     """
@@ -39,7 +39,7 @@ class Parts(Frozen):
 
 
 def parts(record: Secret) -> Parts:
-    """Reads the numbers of a record, to decide about a rehash, or to refuse high costs.
+    """Reads the numbers of a record, for example to decide about a rehash.
 
     Raises:
         InvalidRecordError: the text is no record; the exception has its first fault.

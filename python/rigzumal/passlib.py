@@ -5,10 +5,10 @@
 >>> from passlib.context import CryptContext
 >>> context = CryptContext(["argon2", "scrypt"], argon2__memory_cost=65536)
 
-The settings, the strings and the errors are passlib's own: each handler reads what passlib's
-of the same name wrote, and passlib's reads what ours wrote. `max_threads` is how many threads
-may work the lanes of a record of Argon2; as in passlib it is as many as there are lanes, and
-`argon2__max_threads=1` is right for a service with many logins at once.
+The settings, the strings and the errors are passlib's own: each handler reads the strings of
+passlib's handler of the same name, and passlib's reads ours. `max_threads` is the number of threads
+that may compute the lanes of a record of Argon2. By default it is the number of lanes, as in
+passlib; set `argon2__max_threads=1` in a service with many logins at once.
 """
 
 # mypy: allow-subclassing-any
@@ -42,7 +42,7 @@ class _OneBackend:
 
     @classmethod
     def has_backend(cls, name: str = "any") -> bool:
-        """Whether there is a backend of this name."""
+        """Whether a backend has this name."""
         return name in ("any", "default", _BACKEND)
 
     @classmethod
@@ -50,7 +50,7 @@ class _OneBackend:
         """Chooses the one backend.
 
         Raises:
-            MissingBackendError: another one is named.
+            MissingBackendError: the name is that of another backend.
         """
         if not cls.has_backend(name):
             raise handlers.exc.MissingBackendError(f"no such backend: {name!r}")
@@ -74,8 +74,8 @@ class argon2(_OneBackend, _argon2._Argon2Common):
         """The parts of a record.
 
         Raises:
-            ValueError: it is no record; also for broken base64, for which passlib raises
-                a TypeError.
+            ValueError: the text is no record; also for broken base64, for which passlib raises a
+                TypeError.
         """
         try:
             return super().from_string(hash)
@@ -116,10 +116,10 @@ class scrypt(_OneBackend, _scrypt.scrypt):
 
 
 def register() -> None:
-    """Puts both handlers in the place of passlib's own, for contexts that are created afterwards.
+    """Replaces passlib's own handlers by these two, for contexts that you create afterwards.
 
-    Later imports of `passlib.hash.argon2` get the new handler too. If
-    passlib's own were loaded before, passlib's log says that they are overridden.
+    Later imports of `passlib.hash.argon2` get the new handler too. If passlib's own handlers were
+    loaded before, passlib logs a warning about them.
     """
     handler: Any
     for handler in (argon2, scrypt):

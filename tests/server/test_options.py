@@ -41,7 +41,7 @@ MISTAKES = {
     f"{SOCKET} verfy x.db": "'verfy' is no operation",
     f"{SOCKET} 'verify, known' x.db": "' known' is no operation",
     f"{SOCKET} '' x.db": "'' is no operation",
-    f"{SOCKET} verify {SOCKET} verify x.db": "two sockets are called a",
+    f"{SOCKET} verify {SOCKET} verify x.db": "two sockets have the name a",
     f"{SOCKET} verify --socket b /tmp/never-made 0660 - verify x.db": "called /tmp/never-made",
     "--socket a /tmp/never-made 0660 nosuchgroup verify x.db": "there is no group nosuchgroup",
     "--socket a /none/at/s 0660 - verify x.db": "/none/at: No such file or directory",

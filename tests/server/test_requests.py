@@ -195,7 +195,7 @@ class Asking(Case):
         for answer in ("y\u00e9s", "yes\x07", "\x1b[1myes", *waits, "later ", "later 1.5"):
             service = self.serving(faults=f"answers={answer}").enrol(ada="secret")
             service.client().talk("verify ada {secret} -> unavailable")
-            self.assertIn("the book gave an answer that no book gives", service.log(), answer)
+            self.assertIn("the book sent an unknown answer", service.log(), answer)
             self.assertEqual((service.stats()["later"], service.stats()["waits"]), (0, 0))
         for answer in ("later 1", "later 900"):
             service = self.serving(faults=f"answers={answer}").enrol(ada="secret")

@@ -24,7 +24,7 @@ class Faults(TransferCase):
         admin, client = service.client("admin"), service.client()
         admin.ask(f"import {len(LINE)}")
         admin.send(LINE)
-        until(lambda: "an import has the book" in service.log(), "the import")
+        until(lambda: "an import runs" in service.log(), "the import")
         client.send(f"a verify ada {SECRET}\nb known bob\n")
         client.wait_until_read()
         yield service, admin, client

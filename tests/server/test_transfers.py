@@ -86,7 +86,7 @@ class Imports(TransferCase):
             service.talk(f"admin waits -> waits{left}")
             self.assertEqual(service.stats()["waits"], bool(left))
         service.talk("login verify ada {secret} -> yes")
-        self.assertEqual(service.log().count("1 names have to wait no more"), 2)
+        self.assertEqual(service.log().count("1 names need not wait any longer"), 2)
 
     def test_ten_thousand(self) -> None:
         """One import adds ten thousand accounts while users log in; the next start has them too."""

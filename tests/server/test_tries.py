@@ -163,12 +163,12 @@ class Tries(Case):
         service.talk("login verify bob {secret} -> yes\nlogin verify bob {secret} -> yes")
         lines = [it.partition(": ")[2] for it in service.log().splitlines() if "to wait" in it]
         said = [
-            "ada has to wait after 2 failed tries",
-            "ada has to wait no more: an administrator forgave it",
-            "bob has to wait after 2 failed tries",
-            "bob has to wait no more: a new password",
-            "bob has to wait after 2 failed tries",
-            "bob has to wait no more: a right password",
+            "ada must wait after 2 failed tries",
+            "ada need not wait any longer: an administrator forgave it",
+            "bob must wait after 2 failed tries",
+            "bob need not wait any longer: a new password",
+            "bob must wait after 2 failed tries",
+            "bob need not wait any longer: a right password",
         ]
         self.assertEqual(lines, said)
 
@@ -193,7 +193,7 @@ class Tries(Case):
         """However many tries at a name are too early, its wait is a line an hour."""
         service = self.serving("--tries", "1", clocked=True).enrol(ada="secret")
         service.client().talk("verify ada {wrong} -> no\n" + "verify ada {wrong} -> later\n" * 20)
-        self.assertEqual(service.log().count("ada has to wait"), 1)
+        self.assertEqual(service.log().count("ada must wait"), 1)
         self.enterContext(mock.patch.object(journal, "MOST_KEYS", 2))
         self.enterContext(mock.patch.object(journal, "logged_at", {}))
         with self.assertLogs(journal.log) as logged:

@@ -11,10 +11,10 @@ An operation reads the account's record, hashes without a lock, and commits by a
 compares the row's record with the one that it read. If the row has another record by then, the
 operation begins again. So the replies are those of one legal history, however operations overlap.
 
-It runs on SQLite (sqlite3), PostgreSQL (psycopg 3), MariaDB and MySQL (PyMySQL), and
-imports no driver. `AsyncAccounts` is the same for asyncio. `rigzumal.accounts.types` is
-for an operation in three parts, `rigzumal.accounts.dialects` for your own engine.
-`python3 -m rigzumal accounts` is the command.
+The package runs on SQLite (sqlite3), PostgreSQL (psycopg 3), MariaDB and MySQL (PyMySQL), and
+imports no driver itself. `AsyncAccounts` is the class for asyncio. Use `rigzumal.accounts.types`
+for an operation in three parts, and `rigzumal.accounts.dialects` for your own engine. The command
+is `python3 -m rigzumal accounts`.
 """
 
 from rigzumal.accounts._accounts import Accounts, AsyncAccounts

@@ -1,4 +1,4 @@
-"""Accounts over blocking drivers, and for asyncio: the operations as callers have them."""
+"""Accounts over blocking drivers, and for asyncio: the operations that callers use."""
 
 from __future__ import annotations
 
@@ -25,65 +25,64 @@ T = TypeVar("T")
 class Accounts(Operations[Pool]):
     """Password records in a service's own table.
 
-    A row is an account; NULL in its record is an account without one. The operations
-    run in their own transactions, on connections in autocommit without an open one. Any
-    number of threads may use one object.
+    A row is an account; NULL in the record's column means an account without a record. The
+    operations run in their own transactions, on connections in autocommit without an open
+    transaction. Any number of threads may use one object.
 
     Args:
-        pool: a callable that returns a context manager of a connection to the primary.
-            After any exception (BaseException too: interrupts, cancelled tasks) it closes
-            the connection or rolls it back before it gives it out again.
-        dialect: of the database, with the names of the table and its columns.
-        hasher: PasswordHasher or ScryptHasher, for the costs of new records. Its tags
-            have 32 bytes. Its threads don't matter. With a secret no record of scrypt is
-            read; of `secrets` a login replaces a record of an older one.
-        replica: a pool for the copies. It may lag, since an answer rests on a look at the
-            primary. If it is down or refuses, the primary is asked for copies too.
-        foreign: judges texts of other schemes, as (text, password) -> bool or None. Any
-            other answer is a TypeError, and nothing is stored.
-        upgrade_from: costs such as "$argon2i$v=19$m=65536,t=3,p=4" that an upgrade
-            replaces even if its own aren't higher.
-        tries: how often to try an operation whose commit finds another record; 1 or more.
-        patience: seconds for a new connection, a busy server, and a lost answer; 0 or
-            more. It ends no statement that hangs, and no wait of a pool for a
-            connection: both need limits of their own, of some seconds.
-        confirm: confirm an answer without a change, such as a verify's, by writing the
-            record over itself. It is for servers that show a change before it is safe
-            (MariaDB without a binary log), and makes a login cost as much as a change.
+        pool: a callable that returns a context manager of a connection to the primary. After any
+            exception (even a BaseException, such as an interrupt or a cancelled task) it must close
+            the connection, or roll back, before it lends the connection again.
+        dialect: the dialect of the database, with the names of the table and its columns.
+        hasher: PasswordHasher or ScryptHasher, for the costs of new records. Its tags must have 32
+            bytes. Its `threads` have no effect. With a secret, a record of scrypt counts as one of
+            another scheme. With `secrets`, a login replaces a record of an older secret.
+        replica: a pool of a replica, for the copies of records. The replica may lag, since each
+            answer comes from the primary's record. If it is down or refuses, operations read copies
+            from the primary too.
+        foreign: a function that checks passwords against records of other schemes, as (text,
+            password) -> bool or None. Any other answer is a TypeError, and nothing is stored.
+        upgrade_from: costs such as "$argon2i$v=19$m=65536,t=3,p=4" that an upgrade replaces even if
+            the new costs aren't higher.
+        tries: the number of times to try an operation whose commit finds another record; 1 or more.
+        patience: the seconds to wait for a new connection, a busy server, or a lost answer; 0 or
+            more. It ends no statement that hangs, and no wait of a pool for a connection: set
+            separate limits of some seconds for both.
+        confirm: whether to confirm an answer without a change, such as a verify's, by writing the
+            record over itself. Use it with servers that show a change before it is safe (MariaDB
+            without a binary log). A login then costs as much as a change.
         least_length: the fewest characters of a new password; a login has no such bound.
-        prepare: turns a password that is text, new or present, into the hashed one,
-            such as `rigzumal.opaque_string`. Use it from the table's first record on:
-            a record of another form of the password is one of another password.
+        prepare: a function, such as `rigzumal.opaque_string`, that turns a password that is text,
+            new or present, into the text for the hash. Use it from the table's first record on: a
+            record of another form of the password counts as one of another password.
 
     Raises:
-        TypeError: the pool, the dialect, the hasher or the hook is of another kind.
-        ValueError: a number, or the size of the hasher's tag, is refused.
+        TypeError: the pool, the dialect, the hasher or the hook is of a wrong kind.
+        ValueError: a number, or the size of the hasher's tag, is out of range.
         InvalidRecordError: one of `upgrade_from` isn't costs.
 
-    `also`, of each operation, is a function of the driver's connection and the reply. It
-    is called in the operation's transaction, while the account's row is locked and before
-    its record is written. So your own rows, such as a session, are committed with the
-    reply or not at all. If the server undoes the transaction, `also` is called again in
-    the next; for CHANGED it isn't called. An exception of `also` undoes everything and
-    reaches the caller, unless it is an error of the connection that means "again". `also`
-    leaves the transaction open and the record alone, and calls no operation on the same
-    table.
+    Each operation accepts `also`, a function of the driver's connection and the reply. The library
+    calls it in the operation's transaction, while the account's row is locked and before its record
+    is written. So your own rows, such as a session, are committed with the reply or not at all. If
+    the server undoes the transaction, the library calls `also` again in the next one; for CHANGED
+    it doesn't call it. An exception of `also` undoes everything and reaches the caller, unless it
+    is an error of the connection that means "again". `also` must leave the transaction open, must
+    not write the record, and must call no operation on the same table.
 
     Every operation may raise:
         TypeError: the key is of another type than its column, or a password is neither
             bytes nor text; no row was read. A hook returned a wrong answer,
             or `also` has ended the transaction; no record was written.
-        ValueError: a new password is too short, has over 256 bytes or no UTF-8, or is
-            refused by `prepare`, or the name of an enrolment is empty or has a blank at
-            its ends; no row was read. A present password of such a form is wrong, after
-            one hash.
+        ValueError: a new password is too short, has over 256 bytes or no UTF-8, or `prepare`
+            refuses it; or the name of an enrolment is empty, or begins or ends with a blank. No row
+            was read. A present password of such a form counts as wrong, after one hash.
         StoreFault: the table, the server or the connection has a fault.
-        InvalidRecordError: the record is of another scheme, and no hook judges it.
+        InvalidRecordError: the record is of another scheme, and no hook accepts it.
         Unavailable: no server did the operation in time, and nothing was stored.
-        OutcomeUnknown: of a change, or with `also`: COMMIT had no answer, and the row doesn't
-            show whether the change was stored.
+        OutcomeUnknown: at a change, or with `also`: COMMIT had no answer, and the row doesn't show
+            whether the change was stored.
         OutOfMemoryError: too little memory was free for the costs.
-        Exception: the pool's or the hooks' own.
+        Exception: any exception of the pool or the hooks.
     """
 
     _kind = Runtime
@@ -94,23 +93,23 @@ class Accounts(Operations[Pool]):
 
     @hidden
     def enrol(self, key: Key, password: Secret, *, also: Hook = None) -> Reply:
-        """ENROLLED; EXISTS if the account has a record; NO_ACCOUNT.
+        """Gives an account its first record: ENROLLED; EXISTS if it has one; NO_ACCOUNT.
 
-        Use it for rows with a known owner: `new_record` is for a sign-up.
+        Use it only for rows whose owner is known; for a sign-up use `new_record`.
         """
         return self._done(self._replied(Request(Kind.ENROL, key, password), also))
 
     @hidden
     def verify(self, key: Key, password: Secret, *, also: Hook = None) -> Reply:
-        """YES or NO; ABSENT if the account has no record; NO_ACCOUNT."""
+        """Whether the password is right: YES or NO; ABSENT if there is no record; NO_ACCOUNT."""
         return self._done(self._replied(Request(Kind.VERIFY, key, password), also))
 
     @hidden
     def login(self, key: Key, password: Secret, *, also: Hook = None) -> Reply:
         """A verify that also replaces a record of lower costs; its replies are those of a verify.
 
-        If the new record can't be written (a full disk, an unknown outcome), the answer
-        is that of a verify all the same.
+        If the new record can't be written (a full disk, an unknown outcome), the answer is still
+        that of a verify.
         """
         return self._done(self._login(key, password, also))
 
@@ -118,28 +117,31 @@ class Accounts(Operations[Pool]):
     def change(
         self, key: Key, password: Secret, new_password: Secret, *, also: Hook = None
     ) -> Reply:
-        """REPLACED; WRONG if the old password is wrong; ABSENT; NO_ACCOUNT; CHANGED as below.
+        """Replaces the password: REPLACED; WRONG if the old one is wrong; ABSENT; NO_ACCOUNT;
+        CHANGED.
 
-        CHANGED, of any operation: its commit found another record `tries` times.
+        CHANGED, a reply of every operation, means that the commit found another record `tries`
+        times.
         """
         request = Request(Kind.CHANGE, key, password, new_password)
         return self._done(self._replied(request, also))
 
     @hidden
     def reset(self, key: Key, new_password: Secret, *, also: Hook = None) -> Reply:
-        """For administrators: REPLACED, or ENROLLED if the account had no record; NO_ACCOUNT."""
+        """Sets a password without the old one: REPLACED; ENROLLED if there was no record;
+        NO_ACCOUNT."""
         request = Request(Kind.RESET, key, b"", new_password)
         return self._done(self._replied(request, also))
 
     @hidden
     def upgrade(self, key: Key, password: Secret, *, also: Hook = None) -> Reply:
-        """UPGRADED if the record is of lower costs, otherwise KEPT; WRONG; ABSENT;
+        """Replaces a record of lower costs: UPGRADED, or KEPT for others; WRONG; ABSENT;
         NO_ACCOUNT."""
         return self._done(self._replied(Request(Kind.UPGRADE, key, password), also))
 
     @hidden
     def remove(self, key: Key, password: Secret, *, also: Hook = None) -> Reply:
-        """REMOVED; the account stays, with no record. WRONG; ABSENT; NO_ACCOUNT."""
+        """Removes the record, and keeps the account: REMOVED; WRONG; ABSENT; NO_ACCOUNT."""
         return self._done(self._replied(Request(Kind.REMOVE, key, password), also))
 
     @hidden
@@ -148,7 +150,7 @@ class Accounts(Operations[Pool]):
 
         Raises:
             TypeError: the password is neither bytes nor text.
-            ValueError: the password is too short or too long, or is refused.
+            ValueError: the password is too short or too long, or `prepare` refuses it.
         """
         return self._done(self._new_record(password))
 
@@ -156,10 +158,10 @@ class Accounts(Operations[Pool]):
     def examine(self, *used: Kind) -> list[Fault]:
         """The faults of the table, the server and the replica; empty if they have none.
 
-        It writes a record into a new row, or into one of the table's if a new one is
-        impossible, in a transaction that it rolls back. Name Kind.REMOVE if the service
-        removes records: then a column that is NOT NULL is an error, and the trial removes
-        one too. On SQLite it warns of a full disk, as far as the filesystem reports it; it sees no
+        The trial writes a record into a new row, or into one of the table's if a new row is
+        impossible, in a transaction that it rolls back. Pass Kind.REMOVE if the service removes
+        records: then a column that is NOT NULL is an error, and the trial also removes a record. On
+        SQLite `examine` warns of a full disk, as far as the filesystem reports it, but not of a
         user's quota.
 
         Raises:
@@ -190,7 +192,7 @@ class Accounts(Operations[Pool]):
     def commit(self, worked: Worked) -> Answer:
         """The third part: writes the new record if the row still has the copy.
 
-        The reply is CHANGED if the row has another record, which is `after`.
+        If the row has another record, the reply is CHANGED, and `after` is that record.
         """
         return self._done(self._commit(worked))
 
@@ -198,17 +200,17 @@ class Accounts(Operations[Pool]):
     def commit_in(self, conn: Any, worked: Worked) -> Answer:
         """The third part in a transaction that the caller begins and ends.
 
-        The reply holds once the caller's COMMIT is acknowledged, which on PostgreSQL
-        with a synchronous standby is a COMMIT without a warning. After CHANGED, and
-        after any exception, roll back and try again from BEGIN. An operation without a
-        change reads its row with a lock, so that the record stays until the end.
+        The reply counts once the caller's COMMIT is acknowledged; on PostgreSQL with a synchronous
+        standby that is a COMMIT without a warning. After CHANGED, and after any exception, roll
+        back and try again from BEGIN. An operation without a change locks its row, so that the
+        record stays until the transaction ends.
 
-        SQLite's transaction begins by BEGIN IMMEDIATE. PostgreSQL's is READ COMMITTED,
-        or SERIALIZABLE if all transactions on these rows are. MariaDB's is of any level
-        but READ UNCOMMITTED.
+        On SQLite the transaction must begin with BEGIN IMMEDIATE. On PostgreSQL it must be READ
+        COMMITTED, or SERIALIZABLE if all transactions on these rows are. On MariaDB it may have any
+        level but READ UNCOMMITTED.
 
         Raises:
-            StoreFault: no transaction is open on the connection, it is of PostgreSQL's
+            StoreFault: no transaction is open on the connection, it has PostgreSQL's level
                 REPEATABLE READ, or the table has a fault.
             Exception: whatever the driver raises.
         """
@@ -248,9 +250,9 @@ class AsyncAccounts(Operations[AsyncPool]):
     done or not, as after `OutcomeUnknown`.
 
     Args:
-        executor: a ThreadPoolExecutor, of AsyncAccounts alone. Each of its threads may need
-            the memory of a hash at a time. By default it is asyncio's own, in which
-            look-ups of hosts wait too.
+        executor: a ThreadPoolExecutor, an argument only of AsyncAccounts. Each of its threads may
+            need the memory of one hash. The default is asyncio's own executor, which also looks up
+            hosts.
     """
 
     _kind = AsyncRuntime

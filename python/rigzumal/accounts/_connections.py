@@ -86,8 +86,8 @@ class Connections:
     async def patiently(self, job: Job[Any], patience: Optional[float] = None) -> Any:
         """Runs a job at the primary until it is done, with pauses that grow.
 
-        It repeats a job that did nothing: after a lost connection, or a transaction
-        that the server undid. No password is hashed again.
+        The call repeats a job that did nothing, after a lost connection or a transaction that the
+        server undid. It hashes no password again.
         """
         begun, waits = time.monotonic(), None
         while True:
@@ -150,7 +150,7 @@ class Waits:
 def _reason(error: Exception) -> str:
     """The cause of a missing connection, in the words of the server or the system.
 
-    They quote no row, since nothing was sent; a password of the DSN is left out.
+    The words quote no row, since nothing was sent; a password of the DSN is left out.
     """
     lines = [line.strip() for line in str(error).splitlines()]
     return ": " + _DSN_PASSWORD.sub(r"\1***", "; ".join(filter(None, lines)))[:_LONGEST]

@@ -85,8 +85,8 @@ class Import:
     def take(self, file: pathlib.Path, key_of: Callable[[str], Key]) -> dict[str, int]:
         """Adds the accounts of lines "NAME RECORD", and counts the outcomes.
 
-        All lines are read before the first is added, and again for each batch. Refused lines
-        are named on standard error.
+        The command reads all lines before it adds the first, and reads them again for each batch.
+        It reports refused lines on standard error.
         """
         with _read_twice(file) as lines:
             total = self._checked(self._records(lines, key_of))
@@ -248,7 +248,7 @@ class Import:
             raise
 
     def _put(self, session: Session, key: Key, record: str) -> str:
-        """An enrolment in the open transaction, of an account that may not exist."""
+        """Enrols an account, which may not exist yet, in the open transaction."""
         if not run(session.execute(self.dialect.select, key)).rows:
             run(session.execute(self.dialect.insert, key))
         ticket = Ticket(Request(Kind.ENROL, key), None)

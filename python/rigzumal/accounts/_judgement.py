@@ -47,7 +47,7 @@ _NEW: Final = {
 
 @dataclass(frozen=True)
 class Passwords:
-    """The rules for passwords, of Accounts."""
+    """The rules of Accounts for passwords."""
 
     least_length: int = 1
     prepare: Optional[Prepare] = None
@@ -55,16 +55,16 @@ class Passwords:
     def __post_init__(self) -> None:
         whole_number("least_length", self.least_length)
         if not 0 <= self.least_length <= LONGEST_PASSWORD:
-            raise ValueError(f"least_length is 0 to {LONGEST_PASSWORD}")
+            raise ValueError(f"least_length must be 0 to {LONGEST_PASSWORD}")
         if self.prepare is not None and not callable(self.prepare):
             kind = type(self.prepare).__name__
             raise TypeError(f"`prepare` must be a function, not a {kind}")
 
     def new(self, password: Secret) -> bytes:
-        """The bytes of a password that an account is to get.
+        """The bytes of a new password.
 
-        A TypeError says that it is neither bytes nor text, a ValueError that it is too short
-        or too long, has no UTF-8, or is refused.
+        The call raises TypeError if the password is neither bytes nor text, and ValueError if it is
+        too short or too long, has no UTF-8, or `prepare` refuses it.
         """
         made = self._prepared(bytes_of_password(password))
         if len(made.decode(errors="replace")) < self.least_length:
@@ -109,8 +109,9 @@ class Passwords:
 class Judge:
     """Does requests on copies of records, with new records by the hasher of Accounts.
 
-    Attributes: sample: a record of the hasher's costs that no password is right for. foreign: the
-    hook for texts of other schemes, or None.
+    Attributes:
+        sample: a record of the hasher's costs that no password is right for.
+        foreign: the hook for texts of other schemes, or None.
     """
 
     def __init__(
@@ -142,11 +143,12 @@ class Judge:
             raise ValueError("upgrade_from has the hasher's own costs")
 
     def new_record(self, password: Secret) -> str:
-        """A new record of a password that an account may have."""
+        """A new record of a password; raises as `bytes_of_password` does."""
         return self._made(bytes_of_password(password))
 
     def question(self, ticket: Ticket) -> Optional[tuple[Foreign, str, bytes]]:
-        """The hook with its text and the password, if it must judge."""
+        """The hook and its arguments, the record and the password; None if no hook has to
+        answer."""
         request, copy = ticket.request, ticket.copy
         if self.foreign is None or not isinstance(copy, str):
             return None
@@ -262,8 +264,8 @@ class Judge:
         """Whether an upgrade replaces a record of these numbers.
 
         No chain of upgrades leads back: within one scheme neither version, memory nor work falls,
-        and one of them rises. So two versions of a service with different costs don't flip records
-        to and fro.
+        and one of them rises. So two versions of a service with different costs don't replace
+        records back and forth.
         """
         if found.costs in self._old:
             return True
@@ -312,8 +314,8 @@ def step(
 ) -> tuple[Reply, Optional[str]]:
     """The reply of a whole operation at a record of ours, and the record after it.
 
-    It is rigzumal_step_from, which without a secret answers by the proved rigzumal_step;
-    it resets none. The setting is costs with a fresh salt, for a new record.
+    The call is rigzumal_step_from, which without a secret runs the proved rigzumal_step; it has no
+    reset. The setting is costs with a fresh salt, for a new record.
     """
     size = _library.TEXT_SIZE if setting else 0
     text = ctypes.create_string_buffer(size) if setting else None
@@ -332,7 +334,7 @@ def step(
 
 
 def is_right(record: str, password: Secret, secret: Optional[bytes] = None) -> bool:
-    """Whether a record is one of the password."""
+    """Whether a record is of this password."""
     fault = _library.check(record, password, secret)
     if fault == _library.MISMATCH:
         return False

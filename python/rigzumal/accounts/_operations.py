@@ -63,7 +63,9 @@ class Operations(Generic[AnyPool]):
     ) -> None:
         whole_number("tries", tries)
         if not isinstance(patience, (int, float)):
-            raise TypeError(f"patience is a number of seconds, not a {type(patience).__name__}")
+            raise TypeError(
+                f"patience must be a number of seconds, not a {type(patience).__name__}"
+            )
         if tries < 1 or not patience >= 0:
             raise ValueError("tries must be 1 or more, and patience 0 or more")
         for one in (pool, *([] if replica is None else [replica])):
@@ -195,9 +197,9 @@ class Operations(Generic[AnyPool]):
     async def _settled(self, worked: Worked, also: Hook) -> Answer:
         """Finds out whether a change was stored whose COMMIT had no answer.
 
-        A record is written once, since its salt is fresh. So if the row has the new
-        one, it was written. It may not have reached the disk or the standby, so it is
-        written over itself: that COMMIT waits for both, where a SELECT wouldn't.
+        A record is written once, since its salt is fresh. So if the row has the new one, it was
+        written. It may not have reached the disk or the standby, so the operation writes it over
+        itself: that COMMIT waits for both, and a SELECT wouldn't.
 
         If the row has the copy, the change wasn't stored so far, and is sent again: a replaced
         record never returns. NULL may return, if another client has removed the record since:
@@ -228,7 +230,7 @@ class Operations(Generic[AnyPool]):
         return cause is not None and self._dialect.verdict(cause) is Verdict.REFUSED
 
     async def _put_again(self, worked: Worked, also: Hook) -> bool:
-        """Whether the change is stored for good; False if another try may tell.
+        """Whether the change is stored for good; False if another try may find out.
 
         Raises:
             OutcomeUnknown: the row has neither the copy nor the new record.

@@ -1,4 +1,5 @@
-"""A report on a table, for the command: groups of alike records, by what a login does to them."""
+"""A report on a table, for the command: groups of similar records, by the effect of a login on
+them."""
 
 from __future__ import annotations
 
@@ -22,7 +23,7 @@ class State(enum.Enum):
 
 
 class Group(NamedTuple):
-    """Records that are alike."""
+    """Records of the same scheme, costs and state."""
 
     state: State
     scheme: str

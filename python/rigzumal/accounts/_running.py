@@ -1,7 +1,8 @@
 """The running hooks: they show whether an operation runs within a hook.
 
-An `also` holds the row of its operation. Another operation on the same table could wait for that
-row, which no server sees as a deadlock; and PerThread's one connection is in use.
+While an `also` runs, its operation keeps the row locked. Another operation on the same table could
+wait for that row, and no server detects this deadlock. Besides, PerThread's only connection is in
+use.
 """
 
 from __future__ import annotations
@@ -31,6 +32,7 @@ def runs_over(pool: Any) -> bool:
 
 
 def runs_on(pool: Any, table: str) -> bool:
-    """Whether the caller is within an `also` of an operation on this table of the pool's."""
+    """Whether the caller is within an `also` of an operation on this table in the pool's
+    database."""
     found = (it for it in RUNNING.get() if not it.is_over)
     return any((it.pool, it.table) == (pool, table) for it in found)

@@ -1,6 +1,6 @@
 """The difference between blocking drivers and asyncio.
 
-All layers above are coroutines. Over a blocking driver they wait for the driver alone, so `run`
+All layers above are coroutines. Over a blocking driver they wait only for the driver, so `run`
 gets the answer at once.
 """
 
@@ -96,7 +96,7 @@ def _result(cursor: Any, fetched: Any) -> Result:
 
 
 def _values(row: Any) -> tuple[Any, ...]:
-    """A row's values, of a driver that returns no tuples."""
+    """A row's values, from a driver whose rows aren't tuples."""
     if not isinstance(row, Iterable) or isinstance(row, (str, bytes)):
         raise StoreFault(f"a row is {type(row).__name__}, not a tuple or a dictionary")
     return tuple(row.values() if isinstance(row, Mapping) else row)

@@ -108,8 +108,8 @@ class Table:
     def _is_of_one_statement(self, worked: Worked) -> bool:
         """Whether one statement does the change, if the engine has one.
 
-        From NULL to a record or back, the row doesn't show afterwards who wrote it: a
-        connection that breaks before COMMIT has to be known there.
+        From NULL to a record or back, the row doesn't show afterwards who wrote it. So the library
+        must know whether a connection broke before COMMIT.
         """
         copy, after = worked.ticket.copy, worked.after
         both = isinstance(copy, str) and isinstance(after, str)
@@ -287,7 +287,7 @@ class Table:
                 raise
 
     async def _row(self, session: Session) -> Optional[Key]:
-        """The key of a new row, or of any; None if the table is empty and refuses a row."""
+        """The key of a new row, or of any other; None if the table is empty and refuses a row."""
         dialect = self.dialect
         key = unused_key(dialect.key_type)
         try:
@@ -338,7 +338,7 @@ class Table:
     def _raise(self, error: Exception) -> NoReturn:
         """Raises the exception that an error means.
 
-        The exception has the number alone, and is raised outside of the handler: a
+        The exception has only the number, and is raised outside of the handler: a
         driver's text may quote the refused row, with the record.
         """
         if not is_of_driver(error):

@@ -1,13 +1,12 @@
 """The command: python3 -m rigzumal accounts --database URL --table T COMMAND.
 
 At a terminal the command asks for a password; otherwise the password is standard input, without one
-newline at its end. `change` reads two lines: the old password and the new one. An empty password is
-refused. The URL may be in RIGZUMAL_DATABASE instead, where no list of processes shows it. Options
-precede COMMAND or follow it.
+newline at its end. `change` reads two lines: the old password and the new one. The command refuses
+an empty password. The URL may be in RIGZUMAL_DATABASE instead, where no list of processes shows it.
+Write options before COMMAND or after it.
 
-Exit statuses are credkeep's: 0 done or yes, 1 a word was refused, 2 reading or
-writing failed, 3 out of memory, 4 no, 5 the database failed or has a fault, 6 the
-input was refused.
+The exit statuses are those of credkeep: 0 success or yes, 1 a wrong argument, 2 reading or writing
+failed, 3 out of memory, 4 no, 5 the database failed or has a fault, 6 refused input.
 """
 
 from __future__ import annotations
@@ -125,7 +124,7 @@ class _Command:
         if not self.args.numbers:
             return name
         if not re.fullmatch("-?[0-9]{1,19}", name):
-            raise Refusal(f"{name!r} is no whole number", Status.WORDS)
+            raise Refusal(f"{name!r} isn't a whole number", Status.WORDS)
         return int(name)
 
     def new_key(self, name: str) -> Key:
@@ -140,7 +139,7 @@ class _Command:
         return key
 
     def copy(self, key: Key) -> Copy:
-        """The record of the row, None, or NO_ROW."""
+        """The row's record; None if the row has none, and NO_ROW without a row."""
         return self.accounts.begin(Request(Kind.VERIFY, key)).copy
 
     @contextlib.contextmanager
@@ -153,13 +152,13 @@ class _Command:
             raise Refusal(why(self.copy(key), said), Status.DATABASE) from None
 
     def say(self, reply: Reply, *good: Reply) -> int:
-        """Writes a reply, with the status of a no unless it is one of the good ones."""
+        """Prints a reply; returns the status of a no unless it is one of the good replies."""
         words = {Reply.NO_ACCOUNT: "no account", Reply.ABSENT: "no record"}
         self.write(words.get(reply, reply.value), reply=reply.value)
         return Status.DONE if reply in good else Status.NO
 
     def write(self, text: str, /, **fields: object) -> int:
-        """Writes a line: the text, or the fields with --json."""
+        """Prints a line: the text, or the fields with --json."""
         print(json.dumps(fields, default=str) if self.args.json else text)
         return Status.DONE
 
@@ -185,7 +184,7 @@ class _Command:
         return self.say(reply, Reply.ENROLLED)
 
     def check(self) -> int:
-        """Write yes, or no with status 4"""
+        """Print yes, or no with status 4"""
         accounts, key, password = self.accounts, self.name, password_of()
         with self.record_judged(key):
             reply = accounts.verify(key, password)
@@ -196,14 +195,14 @@ class _Command:
         return self.say(reply, Reply.YES)
 
     def change(self) -> int:
-        """Replace a password by one who knows it"""
+        """Replace a password; asks for the old one too"""
         accounts, key, (old, new) = self.accounts, self.name, old_and_new()
         with _password_judged(), self.record_judged(key):
             reply = accounts.change(key, old, new)
         return self.say(reply, Reply.REPLACED)
 
     def reset(self) -> int:
-        """Give an account another password"""
+        """Set a new password, without the old one"""
         if self.copy(self.name) is NO_ROW:
             return self.say(Reply.NO_ACCOUNT)
         password = password_of(is_new=True)
@@ -259,7 +258,7 @@ class _Command:
         return Status.NO if another else Status.DONE
 
     def export(self) -> int:
-        """Write each account with its record, as lines for an import"""
+        """Print each account with its record, as lines for an import"""
         left_out = 0
         for name, record in self.rows.every():
             line = line_of(name, record)
@@ -272,7 +271,7 @@ class _Command:
         return Status.DATABASE if left_out else Status.DONE
 
     def show(self) -> int:
-        """Write each account, and the costs of its record"""
+        """Print each account, and the costs of its record"""
         for name, record in self.rows.every():
             costs = costs_of(record or "")
             fields = {"name": name, "costs": costs}
@@ -294,7 +293,7 @@ class _Command:
         return Status.DONE
 
     def examine(self) -> int:
-        """Name faults of the table and the server"""
+        """Report faults of the table and the server"""
         faults = self.accounts.examine()
         for fault in faults:
             severity = fault.severity.value

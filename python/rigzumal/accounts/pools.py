@@ -1,6 +1,6 @@
 """The smallest pools, and SQLAlchemy's. psycopg_pool's `connection` is one too.
 
-Your own closes a connection, or rolls it back, after any exception, BaseException too:
+A pool of your own must close a connection, or roll back, after any exception, even a BaseException:
 
     @contextmanager
     def pool():
@@ -177,8 +177,8 @@ _CONNECTING: Final = 4  # connections that are opened at a time: each holds up t
 class PerUse:
     """A connection for each use, for AsyncAccounts; `connect` opens one in autocommit.
 
-    If its task is cancelled, even while the connection opens, the connection is closed. A pool that
-    keeps its connections serves many uses at once faster.
+    If the task is cancelled, even while the connection opens, the connection is closed. For many
+    simultaneous uses a pool that keeps its connections is faster.
     """
 
     def __init__(self, connect: Callable[[], Awaitable[Any]]) -> None:
@@ -226,10 +226,10 @@ def _close(opening: asyncio.Future[Any]) -> None:
 def of_engine(engine: Any) -> Any:
     """The pool of an engine of SQLAlchemy, 1.4 or 2.0.
 
-    An Engine becomes a pool for Accounts, an AsyncEngine one for AsyncAccounts. The engine has
-    isolation_level="AUTOCOMMIT", or is
-    `engine.execution_options(isolation_level="AUTOCOMMIT")`. If its pool has no free
-    connection in time, an operation is Unavailable.
+    An Engine becomes a pool for Accounts, and an AsyncEngine a pool for AsyncAccounts. The engine
+    must have isolation_level="AUTOCOMMIT", or be
+    `engine.execution_options(isolation_level="AUTOCOMMIT")`. If its pool has no free connection in
+    time, an operation raises Unavailable.
     """
     if not hasattr(engine, "connect"):
         raise TypeError(f"of_engine needs an engine of SQLAlchemy, not a {type(engine).__name__}")

@@ -90,7 +90,8 @@ Copy = Union[str, None, NoRow]
 
 
 def bytes_of_password(password: Secret) -> bytes:
-    """The bytes of a password that an account may have; raises as `new_record` does."""
+    """The bytes of a password; raises as `new_record` does for a password that no account may
+    have."""
     found = password if type(password) is bytes else bytes_of(password)
     if len(found) > LONGEST_PASSWORD:
         raise ValueError(f"a password has up to {LONGEST_PASSWORD} bytes")

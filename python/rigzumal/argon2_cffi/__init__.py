@@ -5,10 +5,10 @@
 >>> hasher.verify(hasher.hash("correct horse"), "correct horse")
 True
 
-Differences: this module has no `core`, no `ffi` and none of the functions that argon2-cffi
-calls legacy. A bool is no number, and versions are 16 and 19 alone. As in argon2-cffi,
-`parallelism` is the number of threads too. No more start than the machine has processors,
-and none below 4 MiB. Each exception is one of `rigzumal` too.
+Differences: this module has no `core`, no `ffi` and none of the functions that argon2-cffi calls
+legacy. A bool isn't accepted as a number, and the only versions are 16 and 19. As in argon2-cffi,
+`parallelism` is also the number of threads. But the library starts at most one thread for each
+processor, and none below 4 MiB. Each exception is also one of `rigzumal`.
 """
 
 from rigzumal.argon2_cffi import exceptions, low_level, profiles

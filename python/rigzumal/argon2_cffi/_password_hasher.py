@@ -45,7 +45,7 @@ def _bytes_of(text: _Text, encoding: str) -> bytes:
 
 
 def _check_types(**given: tuple[object, type]) -> None:
-    """Raises a TypeError that says which values are of another type."""
+    """Raises a TypeError that names the values of a wrong type."""
     wrong = [
         f"'{name}' must be a {kind.__name__} (got {type(value).__name__})"
         for name, (value, kind) in given.items()
@@ -63,10 +63,14 @@ def _parameter(name: str) -> Any:
 class PasswordHasher:
     """Builds and verifies encoded hashes of Argon2.
 
-    Args: time_cost: passes, 1 or more. memory_cost: in KiB, 8 a lane to 2097152. parallelism:
-    lanes, 1 to 255, and the number of threads that may work them. hash_len: bytes of the tag, 4 or
-    more. salt_len: bytes of a generated salt, 8 or more. encoding: of passwords that are text.
-    type: the kind of Argon2.
+    Args:
+        time_cost: passes, 1 or more.
+        memory_cost: in KiB, 8 a lane to 2097152.
+        parallelism: lanes, 1 to 255, and the number of threads that may compute them.
+        hash_len: bytes of the tag, 4 or more.
+        salt_len: bytes of a generated salt, 8 or more.
+        encoding: the encoding of passwords that are text.
+        type: the kind of Argon2.
 
     Raises:
         TypeError: a value is of another type.

@@ -1,4 +1,4 @@
-"""argon2-cffi's exceptions, each of which is one of `rigzumal` too."""
+"""argon2-cffi's exceptions; each is also an exception of `rigzumal`."""
 
 from __future__ import annotations
 
@@ -31,7 +31,7 @@ class VerificationError(Argon2Error):
 
 
 class VerifyMismatchError(VerificationError, rigzumal.VerifyMismatchError):
-    """The hash is one of another password."""
+    """The hash is of another password."""
 
     def __init__(self, message: str = "", number: int = MISMATCH) -> None:
         super().__init__(message, number)

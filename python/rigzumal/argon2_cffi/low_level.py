@@ -99,7 +99,7 @@ class Type(Enum):
 
 
 class _Fields:
-    """The fields of Parameters, for `dataclasses.replace` and the like."""
+    """The fields of Parameters, for `dataclasses.replace` and similar functions."""
 
     def __get__(self, instance: object, owner: type) -> dict[str, Any]:
         import dataclasses
@@ -114,7 +114,7 @@ class Parameters:
 
     Attributes:
         type: the kind.
-        version: 19, or 16 for old hashes; 18 for old ones that don't say so.
+        version: 19, or 16 for old hashes; 18 for old hashes without a version.
         salt_len: bytes of the salt.
         hash_len: bytes of the tag.
         time_cost: passes.
@@ -162,7 +162,7 @@ class Parameters:
 
 
 class Encoded:
-    """A hash, read."""
+    """The parts of an encoded hash."""
 
     def __init__(self, parameters: Parameters, salt: bytes, tag: bytes) -> None:
         self.parameters, self.salt, self.tag = parameters, salt, tag
@@ -213,7 +213,7 @@ def extract_parameters(hash: Union[str, bytes]) -> Parameters:
 
 @functools.lru_cache(maxsize=None)
 def _form() -> re.Pattern[str]:
-    """The form of a hash."""
+    """The regular expression of an encoded hash."""
     import re
 
     return re.compile(_FORM)

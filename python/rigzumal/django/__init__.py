@@ -1,9 +1,9 @@
 """Django's logins over the proved library, with an upgrade that undoes no change.
 
-At a right login Django rehashes a record of old costs, by an UPDATE without a
-condition. A login that began before a change of the password then puts the old password
-back. Here an UPDATE writes a record only if the row still has the record that was
-judged. docs/DJANGO.md has the settings.
+At a right login Django rehashes a record of old costs, by an UPDATE without a condition. A login
+that began before a change of the password then restores the old password. Here an UPDATE writes a
+record only if the row still has the record that the login was checked against. docs/DJANGO.md
+describes the settings.
 
     backends    CompareAndSetBackend
     users       a mixin for user models, and how a stock User gets it

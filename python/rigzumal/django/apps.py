@@ -1,4 +1,5 @@
-"""The app: its checks for `manage.py check`, and a stock User that compares if asked to."""
+"""The app: its checks for `manage.py check`, and a stock User that compares if the setting says
+so."""
 
 # mypy: allow-subclassing-any
 

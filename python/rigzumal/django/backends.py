@@ -1,4 +1,4 @@
-"""A ModelBackend whose upgrade at login is a comparison.
+"""A ModelBackend whose upgrade at a login compares before it writes.
 
     AUTHENTICATION_BACKENDS = ["rigzumal.django.backends.CompareAndSetBackend"]
 """
@@ -21,11 +21,11 @@ from rigzumal.django.apps import require_app
 class CompareAndSetBackend(ModelBackend):
     """Django's ModelBackend, which undoes no change of a password.
 
-    - At a right login it rehashes a record of old costs, by an UPDATE that compares the
-      row's record; if the record has changed, it judges the password at the new one.
+    - At a right login it rehashes a record of old costs, by an UPDATE that compares the row's
+      record; if the record has changed, it checks the password against the new one.
     - It reads the user from the database that it writes to, so a replica may lag.
-    - An unknown name and an inactive user cost one hash and two queries, as a wrong
-      password does; an inactive user's record isn't rehashed.
+    - An unknown name and an inactive user cost one hash and two queries, like a wrong password; it
+      doesn't rehash an inactive user's record.
     """
 
     def __init__(self) -> None:
@@ -39,7 +39,7 @@ class CompareAndSetBackend(ModelBackend):
         password: Optional[str] = None,
         **kwargs: Any,
     ) -> Any:
-        """The user; None if the name, the password or the user is refused."""
+        """The user; None for an unknown name, a wrong password or a user who may not log in."""
         model = get_user_model()
         if username is None:
             username = kwargs.get(model.USERNAME_FIELD)

@@ -93,7 +93,7 @@ def _classes(setting: str, number: str) -> tuple[list[tuple[str, type]], list[An
 
 
 def _misspelt(setting: str) -> str:
-    """The hint at a setting whose name is nearly this one's."""
+    """A hint at a setting that has nearly this name."""
     others = set(dir(settings)) - {setting}
     near = difflib.get_close_matches(setting, others, 1, 0.9)
     return f" The settings have {near[0]}: is {setting} meant?" if near else ""
@@ -163,7 +163,7 @@ def hashers_listed(**_: Any) -> Messages:
 
 
 def isolation(**_: Any) -> Messages:
-    """W005: a transaction would read the record as it was when it began."""
+    """W005: a transaction would read the record of the transaction's start."""
     hint = "Leave the level out, or set READ COMMITTED."
     for alias, database in settings.DATABASES.items():
         if _has_snapshots(database):
@@ -191,7 +191,7 @@ def _has_snapshots(database: Any) -> bool:
 
 
 def own_methods(**_: Any) -> Messages:
-    """E006: a method of the user model's own would be skipped."""
+    """E006: our calls would skip a method of the user model."""
     hint = "Give the model the CompareAndSetMixin, behind the class that has it."
     for name in users.unreached_methods(get_user_model()):
         text = f"{name} would be skipped, so logins are refused."

@@ -1,4 +1,4 @@
-"""Django's forms of a change, of a reset and of the admin, which compare as they write.
+"""Django's forms of a change, of a reset and of the admin, which compare before they write.
 
 `save` raises a ValidationError if the record was changed after the form was validated. Our views
 show the error; your own view shows it by `show(form, error)`. `commit=False` is a ValueError.
@@ -32,16 +32,16 @@ def lost_as_error() -> Iterator[None]:
 
 
 def show(form: Any, error: ValidationError) -> None:
-    """Adds the error to the form's first field: the admin's pages show no other."""
+    """Adds the error to the form's first field, since the admin's pages show no other error."""
     form.add_error(next(iter(form.fields)), error)
 
 
 class _Comparing:
-    """A form that hides its frames from reports of errors: the frames have passwords."""
+    """A form that hides its frames from reports of errors, since they have passwords."""
 
     @hidden_below
     def full_clean(self) -> None:
-        """Cleans the fields, as Form's."""
+        """Cleans the fields, like Form's method."""
         super().full_clean()  # type: ignore[misc]
 
     @hidden_below
@@ -61,7 +61,7 @@ class PasswordChangeForm(_Comparing, forms.PasswordChangeForm):
     _judged: Optional[str] = None
 
     def clean_old_password(self) -> Any:
-        """Judges the old password at the row's record, without a rehash."""
+        """Checks the old password against the row's record, without a rehash."""
         old_password = self.cleaned_data["old_password"]
         with lost_as_error():
             if not passwords.verify_password(self.user, old_password):

@@ -1,8 +1,8 @@
 """Password hashers for Django's own strings, over the proved library.
 
-They read and write the strings of Django's own hashers of the same names. The numbers are
-class attributes, as there: make a subclass for others. A subclass may wrap old hashes as
-Django's page "Password management" shows: its own `algorithm` and `encode` are enough.
+They read and write the strings of Django's own hashers of the same names. The costs are class
+attributes, as in Django's hashers: write a subclass for other costs. A subclass may wrap old hashes
+as Django's page "Password management" shows, and needs only its own `algorithm` and `encode`.
 """
 
 # mypy: allow-subclassing-any
@@ -37,7 +37,7 @@ _NUMBER = r"[1-9]\d{0,9}"
 
 
 def _tag(record: str) -> bytes:
-    """The tag at a record's end, which scrypt's pads."""
+    """The tag at a record's end; scrypt's is padded."""
     return decoded(record.rpartition("$")[2].rstrip("="))
 
 
@@ -105,7 +105,7 @@ class _RecordHasher(BasePasswordHasher):
         return any(parts[it] != getattr(self, it) for it in self._numbers)
 
     def harden_runtime(self, password: Password, encoded: str) -> None:
-        """Does nothing, as Django's own do."""
+        """Does nothing, like the method of Django's own Argon2 and scrypt hashers."""
 
 
 def _check_salt(salt: str) -> None:
@@ -114,12 +114,12 @@ def _check_salt(salt: str) -> None:
 
 
 class Argon2PasswordHasher(_RecordHasher):
-    """argon2$argon2id$v=19$m=102400,t=2,p=8$SALT$TAG: a record after a word.
+    """The hasher of strings argon2$argon2id$v=19$m=102400,t=2,p=8$SALT$TAG: a word, and a record.
 
     Attributes:
         time_cost: passes.
         memory_cost: in KiB, 8 a lane to 2097152.
-        parallelism: lanes, 1 to 255; a login works all of them on its own thread.
+        parallelism: lanes, 1 to 255; a login computes all of them on its own thread.
         hash_len: bytes of the tag; an existing record may have fewer, down to 16.
     """
 
@@ -184,13 +184,14 @@ class Argon2PasswordHasher(_RecordHasher):
 
 
 class ScryptPasswordHasher(_RecordHasher):
-    """scrypt$N$SALT$r$p$KEY, as Django 4.0 and later write it; here from 3.2 on.
+    """The hasher of strings scrypt$N$SALT$r$p$KEY, as in Django 4.0 and later; it works from Django
+    3.2 on.
 
     Attributes:
         work_factor: N, a power of two.
         block_size: r, 1 to 255.
-        parallelism: p, 1 to 255; that of the installed Django, whose records would be old
-            otherwise, or 5.
+        parallelism: p, 1 to 255. The default is that of the installed Django, whose records would
+            otherwise count as old, or 5.
     """
 
     algorithm = "scrypt"
@@ -233,7 +234,7 @@ class ScryptPasswordHasher(_RecordHasher):
     def _key(self, password: Password, parts: dict[str, Any], length: int) -> bytes:
         work_factor = parts["work_factor"]
         if work_factor & (work_factor - 1):
-            raise ValueError("the work factor is no power of two")
+            raise ValueError("the work factor isn't a power of two")
         return rigzumal.scrypt(
             password,
             parts["salt"].encode(),

@@ -5,8 +5,8 @@ They call a model's own `check_password` and `set_password`, if it has the mixin
 
 Each may raise:
     ValueError: the user isn't saved.
-    RecordChanged: the row's record has changed since it was read, and stays as it is;
-        for the first three, it changed eight times.
+    RecordChanged: the row's record has changed since the user was read, and stays as it is; for the
+        first three, it changed eight times.
     ImproperlyConfigured: the model has a method that these calls would skip.
 """
 
@@ -25,11 +25,10 @@ from rigzumal.django.records import RecordChanged as RecordChanged
 
 @hidden_below
 def check_password(user: Any, password: Any) -> bool:
-    """Whether the password is the user's, as `user.check_password`.
+    """Whether the password is the user's, like `user.check_password`.
 
-    A record of old costs, or of another of PASSWORD_HASHERS, is rehashed if the row
-    still has it. Afterwards `user.password` is the record at which a right password was
-    judged.
+    The call replaces a record of old costs, or of another of PASSWORD_HASHERS, if the row still has
+    it. After a right password `user.password` is the record that it was checked against.
     """
     if users.has_own_methods(user):
         return bool(user.check_password(password))
@@ -48,10 +47,10 @@ def verify_password(user: Any, password: Any) -> bool:
 def change_password(user: Any, old_password: Any, new_password: Any) -> bool:
     """Writes the new password if the old one is right; False if it is wrong.
 
-    The old password is checked against the record that the new one replaces, so a reset
-    that came meanwhile stays. The call runs no validator, but calls their `password_changed`.
-    The call writes one column and sends no signal; a model with its own `set_password`
-    is saved whole.
+    The old password is checked against the record that the new one replaces, so a reset that came
+    meanwhile stays. The call runs no validator, but calls the validators' `password_changed`. It
+    writes one column and sends no signal. But it saves all fields of a model with its own
+    `set_password`.
     """
     return change_judged(user, old_password, new_password, None)
 
@@ -60,7 +59,7 @@ def change_password(user: Any, old_password: Any, new_password: Any) -> bool:
 def change_judged(user: Any, old_password: Any, new_password: Any, judged: Optional[str]) -> bool:
     """`change_password`, after the old password was right for the record `judged`.
 
-    If the row still has that record, the password isn't judged again.
+    If the row still has that record, the call doesn't check the password again.
     """
     if users.has_own_methods(user):
         return _change_by_methods(user, old_password, new_password)
@@ -74,9 +73,9 @@ def change_judged(user: Any, old_password: Any, new_password: Any, judged: Optio
 def set_password(user: Any, new_password: Any) -> None:
     """Writes a new password over the record that the user was read with.
 
-    This is for a reset: the token was checked with that record, so a newer record stays, and a
-    deleted user stays deleted. After None no password is right any more. Columns, signals and
-    validators are as in `change_password`.
+    Use it for a reset: the token was checked with that record, so a newer record stays, and a
+    deleted user stays deleted. With None as the new password every password is wrong. Columns,
+    signals and validators are as in `change_password`.
     """
     if users.has_own_methods(user):
         _set_by_methods(user, new_password)

@@ -1,9 +1,9 @@
 """A user's record: its row, the known copies of it, and its comparing replacement.
 
-`user.password` is the copy: the record as it was when the user was read. A record is
-judged and hashed without a lock, and an UPDATE writes the new one if the row still has
-the copy. Otherwise the operation judges the row's record instead. So the answer is that of the
-row's record, and no change is lost to a slower one.
+`user.password` is the copy: the record as it was when the user was read. An operation checks the
+password and hashes without a lock, and an UPDATE writes the new record if the row still has the
+copy. Otherwise the operation checks the password against the row's record. So the answer is that of
+the row's record, and no slower operation undoes a change.
 
 In the caller's transaction (`ATOMIC_REQUESTS`) a change counts once the transaction is committed.
 On PostgreSQL, MySQL and MariaDB its isolation must be READ COMMITTED, Django's default. On SQLite a
@@ -31,7 +31,7 @@ TRIES = 8
 class RecordChanged(Exception):
     """The row's record has changed since the user was read, and stays as it is.
 
-    To go on, read the user again (`refresh_from_db`) and decide again.
+    To go on, read the user again (`refresh_from_db`) and check the password again.
     """
 
     def __str__(self) -> str:
@@ -123,7 +123,7 @@ class Row:
         return found
 
     def put(self, over: Sequence[str], record: str) -> bool:
-        """Writes the record if the row has one of these; then sets it in the user too."""
+        """Writes the record if the row has one of the known ones; then sets it in the user too."""
         if self._rows.filter(password__in=over).update(password=record) == 0:
             return False
         copy = known_copy(self.user, self.database)
@@ -142,7 +142,8 @@ class Row:
 
 
 def _at_what_stands(user: Any, judge: Callable[[str], tuple[bool, str]]) -> bool:
-    """Judges the copy, and writes the record after it; begins again if the row has another."""
+    """Checks the password against the copy, and writes the new record; begins again if the row has
+    another record."""
     row, copy = Row(user), user.password
     for _ in range(TRIES):
         right, after = judge(copy)
@@ -159,13 +160,13 @@ def _at_what_stands(user: Any, judge: Callable[[str], tuple[bool, str]]) -> bool
 
 
 def judge_alone(user: Any, password: Any) -> bool:
-    """Whether the password is right; it doesn't rehash."""
+    """Whether the password is right; never rehashes."""
     check = hashers.check_password
     return _at_what_stands(user, lambda copy: (check(password, copy), copy))
 
 
 def judge_login(user: Any, password: Any) -> bool:
-    """Whether the password is right; it rehashes a record of old costs."""
+    """Whether the password is right; rehashes a record of old costs."""
 
     def judge(copy: str) -> tuple[bool, str]:
         after = [copy]
@@ -182,7 +183,7 @@ def judge_login(user: Any, password: Any) -> bool:
 def judge_change(
     user: Any, old_password: Any, new_password: Any, judged: Optional[str] = None
 ) -> bool:
-    """Changes the password if the old one is right, as it is at `judged`."""
+    """Changes the password if the old one is right; at the record `judged` it is."""
 
     def judge(copy: str) -> tuple[bool, str]:
         right = copy == judged or hashers.check_password(old_password, copy)

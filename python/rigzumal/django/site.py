@@ -14,7 +14,7 @@ from django.urls import reverse
 
 
 class AdminSite(sites.AdminSite):
-    """Django's AdminSite."""
+    """Django's AdminSite, whose page for one's own password compares before it writes."""
 
     def password_change(self, request: Any, extra_context: Optional[dict[str, Any]] = None) -> Any:
         """Changes the password of the user who is logged in."""

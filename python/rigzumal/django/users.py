@@ -27,13 +27,13 @@ from rigzumal.django.records import RecordChanged
 class CompareAndSetMixin(models.Model):
     """Put this in front of AbstractBaseUser or AbstractUser among a model's bases.
 
-    - `check_password` compares before it rehashes.
+    - `check_password` replaces a record of old costs only if the row still has it.
     - `save` writes the password only if it was set since the user was read, and then
       only over the record that was read; otherwise it raises RecordChanged and writes
       no field. So saving other fields never restores an old password.
 
-    All else is Model's. Put your own methods that judge or set passwords in front of the
-    mixin, and let them call `super()`. These don't compare: `update`, `bulk_create`,
+    All else is as in Model. Put your own methods that check or set passwords in front of the mixin,
+    and let them call `super()`. These ways to write don't compare: `update`, `bulk_create`,
     `bulk_update`, fixtures, and a save to another database than the router's.
 
     The mixin is an abstract model without fields, so no migration names it.
@@ -57,7 +57,7 @@ class CompareAndSetMixin(models.Model):
         fields: Optional[Collection[str]] = None,
         **kwargs: Any,
     ) -> None:
-        """Reads the fields again, as Model's."""
+        """Reads the fields again, like Model's method."""
         super().refresh_from_db(using=using, fields=fields, **kwargs)
         if fields is None or "password" in fields:
             self._note_read()
@@ -82,7 +82,7 @@ class CompareAndSetMixin(models.Model):
 
     @hidden_below
     def set_password(self, raw_password: Any) -> None:
-        """Sets the password, which `save` writes, as AbstractBaseUser's."""
+        """Sets the password, like AbstractBaseUser's method; `save` writes it."""
         _ = self.password  # Reads a deferred password, so that the save compares it.
         super().set_password(raw_password)
 
@@ -99,7 +99,7 @@ class CompareAndSetMixin(models.Model):
         using: Optional[str] = None,
         update_fields: Optional[Iterable[str]] = None,
     ) -> None:
-        """Writes the user, as Model's.
+        """Writes the user, like Model's method.
 
         Raises:
             RecordChanged: the password was set, and the row's record has changed. The
@@ -177,7 +177,7 @@ del CompareAndSetMixin.Meta
 def make_comparing(model: Any) -> None:
     """Puts the mixin in front of a model's bases, as if its source had it there.
 
-    The app does this to the user model if RIGZUMAL_USER_COMPARES is True.
+    If RIGZUMAL_USER_COMPARES is True, the app calls this for the user model.
     """
     if not issubclass(model, CompareAndSetMixin):
         model.__bases__ = (CompareAndSetMixin, *model.__bases__)

@@ -26,12 +26,12 @@ class _ShowsWhyNot:
 
 
 class PasswordChangeView(_ShowsWhyNot, views.PasswordChangeView):
-    """Django's PasswordChangeView."""
+    """Django's PasswordChangeView, with the form that compares."""
 
     form_class = forms.PasswordChangeForm
 
 
 class PasswordResetConfirmView(_ShowsWhyNot, views.PasswordResetConfirmView):
-    """Django's PasswordResetConfirmView."""
+    """Django's PasswordResetConfirmView, with the form that compares."""
 
     form_class = forms.SetPasswordForm

@@ -1,10 +1,10 @@
-"""Asks a kept book through credkeep-server, which serves the book.
+"""The clients of credkeep-server, which answers for a book of accounts.
 
     book = Client("/run/rigzumal/users/login.sock")
     if book.verify("ada", password) is Reply.YES: ...
 
-`rigzumal.server.aio` is the same for asyncio. The login socket allows verify, change and
-known, the admin socket all operations.
+`rigzumal.server.aio` has the client for asyncio. The login socket allows verify, change and known,
+and the admin socket allows all operations.
 """
 
 from rigzumal.server._client import LOGIN_SOCKET, Client, Denied, Later, Refused, Reply

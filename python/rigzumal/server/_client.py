@@ -1,4 +1,4 @@
-"""Lines to the server, its answers, and the client for threads."""
+"""The lines to the server, its answers, and the client for threads."""
 
 from __future__ import annotations
 
@@ -25,8 +25,7 @@ Listed = TypeVar("Listed")
 class Reply(enum.Enum):
     """The book's answer to an operation.
 
-    A reply is no truth value, since NO would be true too: compare it, as in
-    `reply is Reply.YES`.
+    A reply has no truth value, since NO would be true too: compare it, as in `reply is Reply.YES`.
     """
 
     # tools/protocol.py writes these lines
@@ -69,7 +68,7 @@ class Unavailable(ServerError):
 
 
 class Later(ServerError):
-    """Too many tries at this name, or by this user, failed: the server didn't hash this one."""
+    """Too many tries at this name failed, so this try came too early and had no effect."""
 
 
 class Denied(ServerError):
@@ -80,8 +79,8 @@ class Refused(ServerError):
     """The line was refused, by a number and a word of docs/ERRORS.md, and changed nothing.
 
     Attributes:
-        number: such as 3.
-        word: such as "name".
+        number: the number of the refusal, such as 3.
+        word: its word, such as "name".
     """
 
     def __init__(self, number: int, word: str) -> None:
@@ -138,7 +137,7 @@ class Question:
         try:
             return Reply(answer_of(tag, line))
         except ValueError:
-            raise Unavailable("the answer is no reply") from None
+            raise Unavailable("the answer isn't a reply") from None
         except Refused as refused:
             if refused.number != 3 or self.no_name is None:
                 raise
@@ -195,19 +194,19 @@ class Calls(Generic[Replied, Listed]):
         raise NotImplementedError
 
     def verify(self, name: str, password: Secret) -> Replied:
-        """YES or NO; ABSENT if the account has no record; NO_ACCOUNT.
+        """Whether the password is right: YES or NO; ABSENT if there is no record; NO_ACCOUNT.
 
-        EXPIRED: the password is right, and must be changed by `change` before a login. A
-        name or a password that no book can have, such as a name with a space, gets NO.
+        EXPIRED: the password is right, and must be changed by `change` before a login. A name or a
+        password that no book can hold, such as a name with a space, gets NO.
         """
         no = Reply.NO
         return self._reply(Question("verify", (name,), (password,), no, no))
 
     def change(self, name: str, password: Secret, new_password: Secret) -> Replied:
-        """REPLACED, or WRONG for the old password; ABSENT; NO_ACCOUNT.
+        """Replaces the password: REPLACED; WRONG if the old one is wrong; ABSENT; NO_ACCOUNT.
 
-        SHORT: the new password has fewer characters than the server demands, here and in
-        `enrol` and `reset`. SAME: the password must be changed, and the new one is the old.
+        SHORT, also in `enrol` and `reset`: the new password has fewer characters than the server
+        requires. SAME: the password must be changed, but the new one equals the old one.
 
         Raises:
             ValueError: the new password has over 256 bytes, or is text with no UTF-8.
@@ -216,46 +215,49 @@ class Calls(Generic[Replied, Listed]):
         return self._reply(Question("change", (name,), both, *replies))
 
     def known(self, name: str) -> Replied:
-        """YES if the account has a record; ABSENT if it has none or is locked; NO_ACCOUNT.
+        """Whether a user may log in: YES; ABSENT without a record, or if locked; NO_ACCOUNT.
 
         EXPIRED: the password must be changed.
         """
         return self._reply(Question("known", (name,), no_name=Reply.NO_ACCOUNT))
 
     def account(self, name: str) -> Replied:
-        """OK: adds the name, with no record. `Refused` (1 exists) if it exists."""
+        """Adds an account without a record: OK. Raises `Refused` (1 exists) for an existing
+        name."""
         return self._reply(Question("account", (name,)))
 
     def enrol(self, name: str, password: Secret) -> Replied:
-        """ENROLLED, or EXISTS if the account has a record or is locked; NO_ACCOUNT."""
+        """Sets a first password: ENROLLED; EXISTS if there is a record or a lock; NO_ACCOUNT."""
         return self._reply(Question("enrol", (name,), (password,)))
 
     def reset(self, name: str, new_password: Secret) -> Replied:
-        """REPLACED, or ENROLLED if the account had no record; NO_ACCOUNT. A lock stays."""
+        """Sets a password without the old one: REPLACED; ENROLLED if there was no record;
+        NO_ACCOUNT. A lock stays."""
         return self._reply(Question("reset", (name,), (new_password,)))
 
     def disable(self, name: str) -> Replied:
-        """DISABLED: the record is gone and the name stays; ABSENT; NO_ACCOUNT."""
+        """Removes the record, and keeps the name: DISABLED; ABSENT; NO_ACCOUNT."""
         return self._reply(Question("disable", (name,)))
 
     def delete(self, name: str) -> Replied:
-        """DELETED: name and record are gone; NO_ACCOUNT."""
+        """Removes the account with its record: DELETED; NO_ACCOUNT."""
         return self._reply(Question("delete", (name,)))
 
     def rename(self, name: str, new_name: str) -> Replied:
-        """RENAMED, or EXISTS if the new name exists; NO_ACCOUNT."""
+        """Gives an account another name: RENAMED; EXISTS if an account has that name;
+        NO_ACCOUNT."""
         return self._reply(Question("rename", (name, new_name)))
 
     def lock(self, name: str) -> Replied:
-        """LOCKED: every password is wrong until `unlock`; NO_ACCOUNT."""
+        """Makes every password wrong until `unlock`: LOCKED; NO_ACCOUNT."""
         return self._reply(Question("lock", (name,)))
 
     def unlock(self, name: str) -> Replied:
-        """UNLOCKED: the record counts again; NONE if the name wasn't locked; NO_ACCOUNT."""
+        """Ends a lock: UNLOCKED; NONE if the account wasn't locked; NO_ACCOUNT."""
         return self._reply(Question("unlock", (name,)))
 
     def expire(self, name: str) -> Replied:
-        """EXPIRED: the password must be changed before the next login; ABSENT; NO_ACCOUNT."""
+        """Requires a new password before the next login: EXPIRED; ABSENT; NO_ACCOUNT."""
         return self._reply(Question("expire", (name,)))
 
     def names(self, first: str = "-", count: int = 100) -> Listed:
@@ -266,12 +268,12 @@ class Calls(Generic[Replied, Listed]):
 class Client(Calls[Reply, list[str]]):
     """Asks a book through a socket of credkeep-server.
 
-    Each call opens its own connection. So many threads may use a client at once, also
-    after a fork, and it needs no close.
+    Each call opens its own connection. So many threads may use a client at once, even after a fork,
+    and nothing has to close it.
 
     Args:
-        path: the socket.
-        timeout: seconds of a whole call.
+        path: the path of the socket.
+        timeout: the longest time of a call, in seconds.
 
     Each call may raise `ServerError`, and an administrator's calls ValueError for a
     password of over 256 bytes.

@@ -22,8 +22,8 @@ class Client(Calls[Coroutine[Any, Any, Reply], Coroutine[Any, Any, "list[str]"]]
     connection has ended the next call opens another.
 
     Args:
-        path: the socket.
-        timeout: seconds of a whole call.
+        path: the path of the socket.
+        timeout: the longest time of a call, in seconds.
     """
 
     def __init__(
@@ -86,7 +86,7 @@ class Client(Calls[Coroutine[Any, Any, Reply], Coroutine[Any, Any, "list[str]"]]
         return await answer
 
     async def _read(self, reader: asyncio.StreamReader, writer: asyncio.StreamWriter) -> None:
-        """Hands answers to waiting calls, until the connection ends."""
+        """Passes answers to waiting calls, until the connection ends."""
         try:
             while line := await reader.readline():
                 waiting = self._waiting.pop(line.partition(b" ")[0], None)

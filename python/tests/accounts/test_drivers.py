@@ -101,7 +101,7 @@ class Engines:
 
     def test_pools_that_will_not_do(self):
         """Errors name an engine that isn't in autocommit, and an engine's own connections."""
-        manual = of_engine(self.engine(isolation_level=None)), "have to be in autocommit"
+        manual = of_engine(self.engine(isolation_level=None)), "must be in autocommit"
         own = self.engine().connect, "the driver is sqlalchemy instead of .* of_engine"
         for pool, said in (manual, own):
             for name in ("verify", "login", "enrol"):

@@ -1,6 +1,7 @@
 """Short runs of histories.py: the answers to many processes are one legal history, while processes
-are killed, COMMITs lose their answers, and a disk is full. Broken accounts are refused. Each run
-prints the counts of its verdict, and the seed of its operations.
+are killed, COMMITs lose their answers, and a disk is full. Broken accounts are refused.
+
+Each run prints the counts of its verdict, and the seed of its operations.
 """
 
 import re

@@ -151,8 +151,8 @@ class InPython(Base):
         (lambda it: of_engine("sqlite:///users.db"), "an engine of SQLAlchemy, not a str"),
         (lambda it: it.over(use()), r"not a _GeneratorContextManager: PerThread\(connect\)"),
         (lambda it: AsyncAccounts(of_task(), it.dialect, LOW), r"Manager: PerUse\(connect\)"),
-        (lambda it: it.accounts(patience="10"), "patience is a number of seconds, not a str"),
-        (lambda it: it.accounts(patience=None), "patience is a number of seconds, not a None"),
+        (lambda it: it.accounts(patience="10"), "patience must be a number of seconds, not a str"),
+        (lambda it: it.accounts(patience=None), "patience must be a number of seconds, not a None"),
         (lambda it: it.accounts(executor=THREAD), "an executor is for AsyncAccounts alone"),
         (lambda it: it.accounts(upgrade_from=LOW.costs), "a list of costs, not a str"),
     )
@@ -252,7 +252,7 @@ class AtAShell(support.Commands):
 
     @each(("64", "write 64M for MiB"), ("64K", ""), ("8M", ""), ("8192", ""), ("8191", "8191M"))
     def test_a_size_without_a_unit(self, memory, said):
-        """A size without a unit is in KiB, and a low one is more often a mistake."""
+        """A size without a unit is in KiB, and a low one is usually a mistake."""
         words = f"hash --memory {memory} --passes 1 --lanes 1"
         record, found = self.typed(*words.split())
         self.assertIn("$argon2id$", record)

@@ -10,7 +10,7 @@ from rigzumal.accounts import Accounts, AsyncAccounts, Reply
 from rigzumal.accounts.types import Kind, Request
 
 BLANK, EMPTY = "the name begins or ends with a blank", "the name is empty"
-MARK, NUMBER = "the name begins with a byte order mark", " is no whole number"
+MARK, NUMBER = "the name begins with a byte order mark", " isn't a whole number"
 NAMES = (
     *(("", EMPTY), (" ", EMPTY), ("\u2003", EMPTY)),
     *((it, BLANK) for it in ("ada ", " ada", "ada\t", "\u00a0ada", "ada\u2028", "\x1cada")),

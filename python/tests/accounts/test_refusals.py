@@ -250,7 +250,7 @@ class Errors(Base):
             self.assertEqual(self.dialect.mode(conn).is_autocommit, wanted)
         # There a transaction is always open, which isn't the fault.
         conn = mock.Mock(in_transaction=True, autocommit=False)
-        self.assertRaisesRegex(StoreFault, "have to be in autocommit", self.dialect.fresh, conn)
+        self.assertRaisesRegex(StoreFault, "must be in autocommit", self.dialect.fresh, conn)
 
     @each(
         ("WARNING", "WARNUNG", "SyncRepWaitForLSN", True),

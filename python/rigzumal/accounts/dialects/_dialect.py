@@ -71,17 +71,17 @@ class Dialect:
         table: its name, with its schema in front if it isn't on the search path.
         key: the column that names an account; it is unique.
         record: the column of the records; it may be NULL.
-        key_type: Python's type of the key column: str, int, bytes; of PostgreSQL uuid.UUID
-            too.
+        key_type: the Python type of the key column: str, int or bytes; on PostgreSQL also
+            uuid.UUID.
 
     Attributes:
         key, record: the columns, as a statement has them.
         select: the statement that reads the record of a key.
-        locked: the same, with the UPDATE's lock on the row until the transaction ends. A
-            weaker one, which two logins hold, deadlocks if both then update the row.
+        locked: the same, with the UPDATE's lock on the row until the transaction ends. A weaker
+            lock, which two logins can hold, deadlocks if both then update the row.
         update: writes a record if the row has the copy; its values are record, key, copy.
-        at_once: does a whole change and commits it, or undoes it; empty if the engine
-            has no such statement.
+        at_once: writes a whole change and commits it, or undoes it; empty if the engine has no such
+            statement.
         insert: adds the account of a key, without a record.
         every: reads all keys and records.
         returns: whether the UPDATE answers with the record that it wrote.
@@ -212,7 +212,7 @@ class Dialect:
         """Refuses a connection that isn't in autocommit or has a transaction open."""
         mode = self.mode(conn)
         if not mode.is_autocommit:
-            raise StoreFault("the connections of the pool have to be in autocommit")
+            raise StoreFault("the pool's connections must be in autocommit")
         if mode.has_transaction:
             raise StoreFault(LEFT_OPEN)
 
@@ -241,7 +241,7 @@ class Dialect:
         raise NotImplementedError
 
     async def commit(self, session: Session) -> None:
-        """Commits, and raises if the change may be lost."""
+        """Commits; raises an exception if the change may be lost."""
         await session.execute(self.commit_sql)
 
     async def hold(self, session: Session) -> None:
@@ -280,11 +280,12 @@ class Dialect:
         return self.verdict(raised) is Verdict.AGAIN
 
     def refuses_at_once(self, raised: BaseException) -> bool:
-        """Whether the server undid the statement, so that a transaction may succeed or say why."""
+        """Whether the server undid the statement: then a transaction may succeed, or show the
+        reason."""
         return False
 
     def number(self, raised: BaseException) -> str:
-        """The server's number of an error; its text may have the refused row."""
+        """The server's number of an error, since the text may quote the refused row."""
         return ""
 
     def missing_name(self, raised: BaseException) -> str:
@@ -318,7 +319,7 @@ class Dialect:
     def common_faults(self, nullable: bool, unique: Collection[str]) -> Iterator[Fault]:
         """The faults that a table of any engine may have.
 
-        `unique` has what each unique index of one part is of: "" for the key as it is.
+        `unique` has the expression of each unique index with one part: "" for the key itself.
         """
         if not nullable:
             text = f"{self.record_name} is NOT NULL: no account can be without a record"
@@ -352,7 +353,7 @@ class Dialect:
             yield error("key-type", f"{self.key_name} is {kind}, and keys are {wanted}")
 
     def record_fault(self, text: str) -> Fault:
-        """A column that holds no record as it is."""
+        """A column that can't hold a record unchanged."""
         return error("record-type", f"{self.record_name} is {text}")
 
     def length_faults(self, kind: str, length: int) -> Iterator[Fault]:
@@ -370,8 +371,9 @@ class Dialect:
             yield warning("key-not-unicode", text)
 
     async def folded_names(self, session: Session) -> list[Fault]:
-        """Names that the key's column takes for one account, and a limiter of attempts for two. The
-        column of a union has the collation of its first part, so the test needs no row.
+        """Names that the key's column takes for one account, and a limiter of attempts for two.
+
+        The column of a union has the collation of its first part, so the test needs no row.
         """
         faults: list[Fault] = []
         none = f"SELECT {self.key} FROM {self.table} WHERE 1 = 0"

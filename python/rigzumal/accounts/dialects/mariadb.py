@@ -49,9 +49,9 @@ class StatementTimeout(OSError):
 class MariaDB(Dialect):
     """MariaDB by PyMySQL.
 
-    A column's collation may hold 'a' = 'A' and 'a' = 'a ', so bytes are compared. An
-    UPDATE that changes nothing counts no row, unless the client asks for FOUND_ROWS:
-    fresh salts make both right.
+    Under a column's collation 'a' = 'A' and 'a' = 'a ' may be true, so statements compare bytes. An
+    UPDATE that changes nothing counts no row, unless the client asks for FOUND_ROWS. Since each
+    record has a fresh salt, the count is right in both cases.
     """
 
     quote = "`"
@@ -230,7 +230,7 @@ class MariaDB(Dialect):
 
 
 class MySQL(MariaDB):
-    """MySQL by PyMySQL: as MariaDB, with no compound statement outside of a routine."""
+    """MySQL by PyMySQL: like MariaDB, but without compound statements outside of a routine."""
 
     key_sql = "VARCHAR(255) CHARACTER SET utf8mb4 COLLATE utf8mb4_0900_bin"
 

@@ -75,7 +75,7 @@ class Postgres(Dialect):
         found = await session.execute("SHOW transaction_isolation")
         if found.rows == [("repeatable read",)]:
             fault = "the transaction is REPEATABLE READ"
-            raise StoreFault(f"{fault}: begin by READ COMMITTED or SERIALIZABLE")
+            raise StoreFault(f"{fault}: use READ COMMITTED or SERIALIZABLE")
 
     async def start(self, session: Session) -> None:
         try:
@@ -138,8 +138,9 @@ class Postgres(Dialect):
         return done
 
     async def add_all(self, session: Session, lines: Sequence[Line]) -> list[str]:
-        """Adds lines with their records by COPY; returns "added", "there" or "another" for each. It
-        raises an exception if the server stored another record than the line's.
+        """Adds lines with their records by COPY; returns "added", "there" or "another" for each.
+
+        The call raises an exception if the server stored another record than the line's.
         """
         for sql in self._came:
             await session.execute(sql)

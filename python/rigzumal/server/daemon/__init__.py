@@ -2,21 +2,21 @@
 
 A request enters the modules in this order:
 
-    doors       the sockets: who is let in, and whose share of the book they use
+    doors       the sockets, their clients, and the shares of users
     clients     the lines of a client, and its answers
-    web         the same of a client that speaks HTTP
-    service     who may ask what, when the book is asked, and what is noted
-    names       names as they are typed, and as the book has them
-    book        the book's process, and the turns of those who ask it
+    web         the requests of a client that speaks HTTP, and its answers
+    service     the rights of clients, their turns at the book, and notes for the audit log
+    names       the typed form of names, and the form in the book
+    book        the book's process, and the turns of its users
 
-Beside these stand:
+The other modules are:
 
-    main        how the server begins, goes on and ends
+    main        the server's start, its run and its end
     options     the command line
     protocol    the tables of operations and answers
     costs       the memory and the work of a hash
-    tally       what is counted of the answers
-    disk        the room on the disks
+    tally       the counts of answers
+    disk        the free space on the disks
     journal     the log, systemd's notices, and the audit log
     appending   files that only grow, and the process that writes the audit log
     transfers   imports, exports and backups of the whole book
@@ -29,6 +29,6 @@ Beside these stand:
     ask         credkeep-ask(1)
 
 A function's name is the noun of its result, or the verb of its work; the name of a question begins
-with is, are, has, have, may or must. Requests and answers are bytes. The package imports nothing of
-the rest of rigzumal, so that bin/credkeep-server and bin/credkeep-ask can run it alone.
+with is, are, has, have, may or must. Requests and answers are bytes. The package imports no other
+part of rigzumal, so that bin/credkeep-server and bin/credkeep-ask can run it alone.
 """

@@ -46,7 +46,7 @@ class Days(NamedTuple):
 
 @dataclass(frozen=True)
 class Line:
-    """A user's line: the record, and the fields behind it."""
+    """A user's line: the record, and the fields after it."""
 
     record: bytes = b""
     others: tuple[bytes, ...] = ()

@@ -3,7 +3,7 @@
     appending.py PATH
 
 The program appends texts that come by the socket at its standard input, and answers each. The
-program runs in a process of its own: nothing ends a thread that waits for a hung disk, nor the
+program is a separate process, since nothing can end a thread that waits for a hung disk, nor the
 process of such a thread.
 """
 
@@ -30,7 +30,7 @@ def status_of(path: str) -> os.stat_result:
 
 
 def private(path: str, flags: int) -> int:
-    """Opens a regular file, and no link, for its owner alone."""
+    """Opens a regular file, and no link; only its owner may read and write it."""
     with suppress(FileNotFoundError):
         status_of(path)
     return os.open(path, flags | os.O_NOFOLLOW | os.O_NONBLOCK, 0o600)
@@ -44,7 +44,7 @@ class GrowingFile:
         self.named = -1  # the inode of the file whose name is on the disk
 
     def append(self, text: bytes) -> None:
-        """Writes whole lines behind the last whole line: a fault may have left a part of one."""
+        """Writes whole lines after the last whole line: a fault may have left a part of one."""
         with open(self.path, "ab+", buffering=0, opener=private) as file:
             found = os.fstat(file.fileno())
             end = os.pread(file.fileno(), 1, max(found.st_size - 1, 0))

@@ -40,20 +40,20 @@ def password_of(field: bytes) -> Optional[bytes]:
 
 
 def seconds_to_wait(answer: bytes) -> int:
-    """The seconds after which a try may come again that got this answer; 0 for any other answer."""
+    """The seconds until the next try, in the answer to a try that came too early; otherwise 0."""
     early = EARLY.fullmatch(answer)
     return int(early[1]) if early else 0
 
 
 def is_answer(text: bytes) -> bool:
-    """Whether the book may answer so: in letters, and a try that is too early with its seconds."""
+    """Whether this is a possible answer of the book: letters, or `later` with its seconds."""
     if not re.fullmatch(rb"[ -~]+", text):
         return False
     return text.split(b" ")[0] != LATER or 0 < seconds_to_wait(text) <= LONGEST_WAIT
 
 
 def has_record(row: bytes) -> bool:
-    """Whether a row has a record, perhaps behind marks."""
+    """Whether a row has a record, perhaps after marks."""
     return row.lstrip(LOCKED + MUST_CHANGE).startswith(b"$")
 
 
@@ -71,7 +71,7 @@ class Process(asyncio.SubprocessProtocol):
         self.stdin = transport.get_pipe_transport(0)
 
     def ask(self, words: tuple[bytes, ...], answer: asyncio.Future[bytes]) -> None:
-        """Sends the process a line, and sets the answer later: UNAVAILABLE if the process ends
+        """Sends the process a line; the future gets the answer, or UNAVAILABLE if the process ends
         before."""
         if self.ended.done():
             answer.set_result(UNAVAILABLE)
@@ -88,7 +88,7 @@ class Process(asyncio.SubprocessProtocol):
             if answer := self.pending.pop(tag, None):
                 answer.set_result(text if is_answer(text) else UNAVAILABLE)
                 if not is_answer(text):
-                    log_seldom("misread", "the book gave an answer that no book gives")
+                    log_seldom("misread", "the book sent an unknown answer")
             else:
                 log_seldom("the book", "the book answered a line that nobody sent")
         if len(self.rest) > LONGEST_ANSWER:
@@ -173,7 +173,7 @@ class Book:
         return answer
 
     def row(self, name: bytes) -> asyncio.Future[bytes]:
-        """An account's marks with its record behind them, or NO_RECORD; or a refusal of `show`."""
+        """An account's marks and then its record, or NO_RECORD; or a refusal of `show`."""
         return self.ask(b"show", name)
 
     def is_lent(self) -> bool:
@@ -186,9 +186,10 @@ class Book:
 
     @asynccontextmanager
     async def lent(self) -> AsyncIterator[int]:
-        """Lends the file, without a process on it, to one user at a time. The process answers its
-        open lines and ends, and the block gets its status. New lines wait for the next process,
-        which opens the file after the loan.
+        """Lends the file, while no process has it open, to one user at a time.
+
+        The process answers its open lines and ends, and the block gets its status. New lines wait
+        for the next process, which opens the file after the loan.
         """
         process, self.process = self.process, None
         assert process is not None
@@ -290,7 +291,8 @@ class Places:
 
 
 class Rounds:
-    """Beside logins, changes run in rounds: all that hash, or one other; then a longer rest."""
+    """While users log in, changes run in rounds: in each, all that hash or one other; then a
+    rest."""
 
     def __init__(self, book: Book, is_busy: Callable[[], bool]) -> None:
         self.book = book

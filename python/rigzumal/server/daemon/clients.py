@@ -83,7 +83,7 @@ class Client:
                     text = await self.read_text(self.incoming, text)
 
     async def read_text(self, incoming: Incoming, data: bytes) -> bytes:
-        """Begins an import once its text has come; returns the bytes behind the text."""
+        """Begins an import once its text has come; returns the bytes after the text."""
         transfers = self.service.transfers
         try:
             rest = incoming.take(data)
@@ -154,7 +154,7 @@ class Client:
         await asyncio.sleep(PAUSE_SECONDS * self.door.counts[self.user])
 
     async def reply(self, tag: bytes, answer: bytes, seconds: int = 0) -> None:
-        """Sends an answer; lines don't tell for how many seconds a try has to wait."""
+        """Sends an answer, without the seconds that a try has to wait."""
         await self.write([b"%b %b\n" % (tag, answer)])
 
     async def write(self, pieces: Iterable[bytes]) -> None:

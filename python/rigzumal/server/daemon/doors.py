@@ -137,8 +137,8 @@ class Door:
         return Peer(pid, uid, (self.name, share_of(owner_of(uid), pid)))
 
     def has_place(self, own: int) -> bool:
-        """Whether a user with this many places may have one more: at most half of those that the
-        others leave, and of the last ones only a first."""
+        """Whether a user with this many places may have one more. A user may have at most half of
+        the places that the others leave, and of the last places only a first one."""
         taken = sum(self.counts.values())
         is_at_most_half = own + taken < MOST_CLIENTS - 1
         return is_at_most_half and (own == 0 or taken < MOST_CLIENTS - LAST_PLACES)
@@ -165,7 +165,7 @@ class Door:
 
 @functools.lru_cache(maxsize=1)
 def ranges_in(path: str, _version: tuple[int, ...]) -> list[tuple[range, str]]:
-    """Ranges of uids with their owners, in a version of a file of subuid(5): names, or uids."""
+    """The ranges of uids in this version of a file of subuid(5), with owners: names or uids."""
     with open(path, encoding="utf-8", errors="replace") as file:
         lines = [found for found in map(RANGE.fullmatch, file) if found]
     ranges = list[tuple[range, str]]()
@@ -176,7 +176,7 @@ def ranges_in(path: str, _version: tuple[int, ...]) -> list[tuple[range, str]]:
 
 
 def owner_of(uid: int) -> int:
-    """The person who has a subordinate uid; another uid itself."""
+    """The owner of a subordinate uid; for another uid the uid itself."""
     if uid < LEAST_SUBORDINATE:
         return uid
     try:
@@ -192,7 +192,7 @@ def owner_of(uid: int) -> int:
 
 
 def share_of(uid: int, pid: int) -> str:
-    """The user whose share a process uses: its uid, or the service where that is root's."""
+    """The user whose share a process uses: its uid, or for a process of root its service."""
     found = None
     if uid == 0:
         with suppress(OSError), open(f"/proc/{pid}/cgroup", "rb", buffering=0) as file:

@@ -18,9 +18,10 @@ ANSWER_OF = {b"lock": b"locked", b"expire": b"expired"}
 
 
 async def take_in(service: Service) -> None:
-    """Writes the marks of FILE-locks to the book, and then removes the file. After a fault, or a
-    kill at any moment, the file still exists, and the next start repeats the step. No socket is
-    open before its end, so nobody has changed a mark.
+    """Writes the marks of FILE-locks to the book, and then removes the file.
+
+    After a fault, or a kill at any moment, the file still exists, and the next start repeats this
+    step. No socket is open before the end of this step, so nobody has changed a mark.
     """
     path = f"{service.options.file}-locks"
     if not os.path.lexists(path):

@@ -97,7 +97,7 @@ class Foreign:
                 self.end_wait(name)
 
     def end_wait(self, name: bytes) -> None:
-        """Forgets a user's failed tries, as the file judges no further one."""
+        """Forgets a user's failed tries, since the file judges no further one."""
         if name in self.tries.failed:
             self.tries.forgive(name)
             self.service.tally.end_wait(name.decode(errors="replace"), "the book decides now")
@@ -253,8 +253,7 @@ def password_of_nobody(field: bytes) -> bytes:
 
 
 def ends_record(word: bytes, row: bytes) -> bool:
-    """Whether an operation removes a row's record from a name, or the lock of a row without a
-    record."""
+    """Whether an operation removes the record of a row, or the lock of a row without a record."""
     if word == b"rename":
         return has_record(row) or row.startswith(LOCKED)
     if word == b"remove":
@@ -263,7 +262,7 @@ def ends_record(word: bytes, row: bytes) -> bool:
 
 
 def row_with_lock(row: bytes) -> bytes:
-    """The row with a lock, also without a record or an account; other refusals stay."""
+    """The row with a lock added, even to a missing record or account; other refusals stay."""
     if row in (NO_ACCOUNT, NO_RECORD):
         return LOCKED
     if row.startswith((b"bad ", LOCKED)) or row == UNAVAILABLE:

@@ -112,8 +112,8 @@ async def serve_clients(service: Service) -> None:
 
 
 async def notify_once_answered(book: Book, beat: float) -> None:
-    """Tells systemd that the server is alive, in each beat in which the book answers or an import
-    has the book's file."""
+    """Waits for the book's answer to a line. Tells systemd that the server is alive once the answer
+    is there, and in each beat until then in which an import has the book's file."""
     answer = book.ask(b"show", b"-")
     while not answer.done():
         await asyncio.wait([answer], timeout=beat)
@@ -173,7 +173,7 @@ async def end_book(book: Book, seconds: float) -> int:
     book.end()
     await asyncio.wait([book.ended], timeout=seconds)
     if not book.ended.done():
-        log.error("the book is killed: it still runs after %d s", LAST_SECONDS)
+        log.error("killing the book: it still runs after %d s", LAST_SECONDS)
         book.kill()
         await asyncio.wait([book.ended], timeout=KILLED_SECONDS)
     if book.ended.done():

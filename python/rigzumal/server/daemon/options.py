@@ -35,7 +35,7 @@ def option(text: str, metavar: str = "", default: object = "", most: int = 10**9
     return field(default=default, metadata={"help": text, "metavar": metavar, "type": kind})
 
 
-LINE = f"a line's record may need; {TIMES} times --setting's if not given"
+LINE = f"a line's record may need; by default {TIMES} times --setting's"
 
 
 @dataclass
@@ -45,34 +45,37 @@ class Options:
     file: str = ""
     doors: list[Door] = field(default_factory=list)
     socket: list[list[str]] = field(default_factory=list)
-    http: str = option("answer HTTP at a further socket", "SOCKET")
-    tries: int = option("failed tries until a name has to wait; 0: no limit", "N", 10, MOST_TRIES)
-    idle: int = option("until an idle client is closed", "SECONDS", 600)
+    http: str = option("answer HTTP at one more socket", "SOCKET")
+    tries: int = option("failed tries until a name must wait; 0: no limit", "N", 10, MOST_TRIES)
+    idle: int = option("the seconds until an idle client is closed", "SECONDS", 600)
     audit: str = option("append a JSON line to this file for each change", "LOG")
     audit_tries: bool = option("log failed tries too")
     metrics: str = option("print the counts of an admin socket's server", "SOCKET")
-    foreign: str = option("an old file, whose users move into the book", "HTPASSWD")
-    upgrade: str = option("new costs, to which a verify upgrades", "COSTS")
+    foreign: str = option("an htpasswd file, whose users move into the book", "HTPASSWD")
+    upgrade: str = option("costs of new records; a right verify upgrades others", "COSTS")
     least_length: int = option("the least length of a new password", "N", 0)
     setting: str = option("for credkeep: the costs of new records", "TEXT")
-    at_once: int = option("a user's hashes at once; 0: one a processor", "N", 0, MOST_AT_ONCE)
-    memory: str = option("for credkeep: memory for hashes, such as 512M", "SIZE")
+    at_once: int = option(
+        "a user's lines to hash at once; 0: one a processor", "N", 0, MOST_AT_ONCE
+    )
+    memory: str = option("for credkeep: the memory of all hashes, such as 512M", "SIZE")
     most_memory: str = option(f"memory that {LINE}", "SIZE")
     most_work: str = option(f"work that {LINE}", "SIZE")
-    wait: int = option("for credkeep: the wait for FILE", "SECONDS", 30, 3600)
-    credkeep: str = option("another program than credkeep", "PROGRAM", "credkeep")
-    mail_names: bool = option("names may be e-mail addresses")
-    fold_local_part: bool = option("fold the part before the @ too")
+    wait: int = option("for credkeep: the longest wait for FILE", "SECONDS", 30, 3600)
+    credkeep: str = option("the program to run instead of credkeep", "PROGRAM", "credkeep")
+    mail_names: bool = option("accept e-mail addresses as names")
+    fold_local_part: bool = option("change the part before the @ to lower case too")
 
     def bound(self) -> None:
-        """Bounds a line's costs if no option does: a costly record holds up everybody."""
+        """Bounds a line's costs if no option does: a costly record would delay everybody."""
         costs = costs_of(self.setting or USUAL)
         if costs:  # credkeep refuses what is no setting
             self.most_memory = self.most_memory or size_of(TIMES * costs.memory)
             self.most_work = self.most_work or size_of(TIMES * costs.work)
 
     def workers(self) -> int:
-        """The number of lines that the book hashes at once: with one more, for another user."""
+        """The number of lines that the book hashes at once: a user's, and one more for another
+        user."""
         return 1 + min(self.at_once or len(os.sched_getaffinity(0)), MOST_AT_ONCE)
 
     def book_words(self) -> list[str]:
@@ -102,7 +105,9 @@ def door(name: str, path: str, mode: str, group: str, operations: str) -> Door:
     allowed = frozenset(OPERATIONS if operations == "all" else os.fsencode(operations).split(b","))
     if unknown := allowed - OPERATIONS.keys():
         word, known = os.fsdecode(min(unknown)), ", ".join(map(os.fsdecode, OPERATIONS))
-        raise Problem(f"the socket {name}: {word!r} is no operation; write all or some of {known}")
+        raise Problem(
+            f"the socket {name}: {word!r} isn't an operation; write all, or some of {known}"
+        )
     return Door(name, os.path.abspath(path), int(mode, 8), group, allowed)
 
 
@@ -123,7 +128,7 @@ def parser() -> Parser:
     made.add_argument("file", metavar="FILE", nargs="?", default="", help=text)
     made.add_argument("--version", action="version", version=f"credkeep-server {VERSION}")
     words = ("NAME", "PATH", "MODE", "GROUP", "OPERATIONS")
-    text = "a socket in place of the login and the admin socket; for each one"
+    text = "a socket instead of the login and the admin socket; repeat for each"
     made.add_argument("--socket", nargs=5, action="append", metavar=words, help=text)
     for it in fields(Options):
         if it.metadata:
@@ -139,7 +144,7 @@ def parse(words: Sequence[str]) -> Options:
     if not options.file:
         raise Problem("FILE is missing; --help shows all options")
     if options.upgrade and "=" not in options.upgrade.rpartition("$")[2]:
-        raise Problem("--upgrade takes costs without a salt: $argon2id$v=19$m=65536,t=3,p=4")
+        raise Problem("--upgrade needs costs without a salt: $argon2id$v=19$m=65536,t=3,p=4")
     options.setting = options.upgrade or options.setting
     options.bound()
     folder = folder_of(options.file)
@@ -153,5 +158,5 @@ def parse(words: Sequence[str]) -> Options:
         options.doors.append(web_door(options.http, mode, group))
     named = Counter(word for it in options.doors for word in (it.name, it.path))
     if twice := [word for word, count in named.items() if count > 1]:
-        raise Problem(f"two sockets are called {twice[0]}")
+        raise Problem(f"two sockets have the name {twice[0]}")
     return options

@@ -17,7 +17,7 @@ RIGHT, WRONG, ABSENT, NO_ACCOUNT = "yes", "no", "absent", "noaccount"
 
 @dataclass(frozen=True)
 class Answer:
-    """An answer with no other words, such as names, behind it."""
+    """An answer with no other words, such as names, after it."""
 
     meaning: str  # on pages
     tried: str = ""  # as what a try is counted that gets it
@@ -94,22 +94,22 @@ ANSWERS = {
     "removed": Answer(
         "the record is gone, and the name stays", tried=RIGHT, changed=True, reply="REMOVED"
     ),
-    "kept": Answer("the record has these costs already", tried=RIGHT, reply="KEPT"),
-    "ok": done("OK", "it is done"),
+    "kept": Answer("the record already has these costs", tried=RIGHT, reply="KEPT"),
+    "ok": done("OK", "the operation took effect"),
     "enrolled": done("ENROLLED", "the account has its first record"),
     "disabled": done("DISABLED", "the record is gone, and the name stays"),
     "deleted": done("DELETED", "name and record are gone"),
     "renamed": done("RENAMED", "the account has the new name"),
     "locked": done("LOCKED", "each password is wrong from now on, until `unlock`"),
-    "unlocked": done("UNLOCKED", "the record counts again"),
-    "forgiven": Answer("the failed tries are forgotten"),
+    "unlocked": done("UNLOCKED", "the lock is gone, and the record counts again"),
+    "forgiven": Answer("no failed try counts any more"),
     "exists": Answer(
-        "the account has a record already; of `rename`: the new name is an account",
+        "the account already has a record; of `rename`: an account already has the new name",
         reply="EXISTS",
         ask=4,
     ),
     "none": Answer(
-        "there is nothing of this kind: a record, a lock, a right password",
+        "there is none: the account has no record or no lock, or got no right password so far",
         reply="NONE",
         ask=4,
     ),
@@ -121,7 +121,7 @@ ANSWERS = {
         text="The new password is too short.",
     ),
     "same": Answer(
-        "after `expire` the user needs another password than before",
+        "after `expire` the new password must differ from the old one",
         tried=RIGHT,
         reply="SAME",
         pam="AUTHTOK_ERR",
@@ -129,8 +129,8 @@ ANSWERS = {
         text="The new password is the old one.",
     ),
     "later": Answer(
-        "too many tries at this name failed, and this one wasn't looked at: wait (1 s to 15"
-        " minutes), or `credkeep-ask --server forgive NAME`",
+        "too many tries at this name failed, so this one had no effect: wait (1 s to 15 minutes),"
+        " or `credkeep-ask --server forgive NAME`",
         http=429,
         pam="MAXTRIES",
         ask=4,
@@ -141,10 +141,11 @@ ANSWERS = {
         ask=1,
     ),
     "unavailable": Answer(
-        "the book has ended, or is ending: a change may be stored or not, so look at the account",
+        "the book's process has ended, or is ending: a change may be stored or not, so check the"
+        " account",
         ask=5,
     ),
-    "bad 1 exists": refused("the book, or the file of `--foreign`, has the name already", ask=4),
+    "bad 1 exists": refused("the book, or the file of `--foreign`, already has the name", ask=4),
     "bad 2 full": refused("the book has no room for another account", ask=6),
     "bad 3 name": Answer("no book can have such a name", http=401, pam="USER_UNKNOWN", ask=1),
     "bad 4 memory": refused("there was no memory for a hash: see `--memory`", ask=3),
@@ -152,7 +153,7 @@ ANSWERS = {
     "bad 11 line": refused("no such line exists"),
     "bad 13 password": refused("the password isn't base64 of up to 256 bytes", ask=6, http=401),
     "bad 14 busy": refused(
-        "others changed the account meanwhile, or another import is under way: try again", ask=5
+        "others changed the account meanwhile, or another import is running: try again", ask=5
     ),
     "bad 16 long": refused(
         "a line of over 960 bytes, or an import of over 128 MiB; the connection goes on", http=401
@@ -172,14 +173,14 @@ NO_ANSWER = Answer("")  # any other text
 
 @dataclass(frozen=True)
 class Command:
-    """A command of credkeep-ask for a server: the words behind it, and its text of help."""
+    """A command of credkeep-ask for a server: the words after it, and its text of help."""
 
     words: str
     text: str
 
     @cached_property
     def counts(self) -> range:
-        """The number of words behind the command, without options."""
+        """The number of words after the command, without options."""
         words = [word for word in self.words.split() if not word.startswith(("[-", "[OPTION]"))]
         least = sum(not word.startswith("[") for word in words)
         return range(least, len(words) + 1)
@@ -205,7 +206,7 @@ class Operation:
 
     @cached_property
     def tries(self) -> bool:
-        """Whether a line may be a guess."""
+        """Whether a line has a present password, and so may be a guess."""
         return self.place("PW") > 0
 
     @cached_property
@@ -215,12 +216,12 @@ class Operation:
 
     @cached_property
     def new(self) -> int:
-        """The place of a new password among its fields; 0 if none is one."""
+        """The place of a new password among its fields; 0 without one."""
         return self.place("NEW")
 
     @cached_property
     def setting(self) -> int:
-        """The place of a setting among its fields; 0 if none may be one."""
+        """The place of a setting among its fields; 0 without one."""
         return self.place("[SETTING]")
 
     @cached_property
@@ -287,13 +288,13 @@ OPERATIONS = {
         "NAME OTHER",
         "renamed exists noaccount",
         changes=True,
-        command=Command("NAME NEW", "give the account another name"),
+        command=Command("NAME NEW", "give an account another name"),
     ),
     b"lock": Operation(
         "NAME",
         "locked noaccount",
         changes=True,
-        command=Command("NAME", "refuse each password; the record stays"),
+        command=Command("NAME", "refuse every password; the record stays"),
     ),
     b"unlock": Operation(
         "NAME",
@@ -305,21 +306,23 @@ OPERATIONS = {
         "NAME",
         "expired absent noaccount",
         changes=True,
-        command=Command("NAME", "the password must be changed"),
+        command=Command("NAME", "require another password"),
     ),
     b"known": Operation("NAME", LOOK),
     b"show": Operation(
-        "NAME", "none", command=Command("[--record] NAME", "the costs of its record, or all of it")
+        "NAME",
+        "none",
+        command=Command("[--record] NAME", "print the costs of a record, or the whole record"),
     ),
-    b"list": Operation("FROM COUNT", command=Command("", "all names")),
+    b"list": Operation("FROM COUNT", command=Command("", "print all names")),
     b"marks": Operation(
         "FROM COUNT",
-        command=Command("[NAME]", "who is locked, and who must change the password"),
+        command=Command("[NAME]", "print who is locked, and who must change the password"),
     ),
     b"forgive": Operation(
         "NAME",
         "forgiven noaccount",
-        command=Command("NAME", "end a wait after failed tries"),
+        command=Command("NAME", "end the wait after failed tries"),
     ),
     b"import": Operation(
         "SIZE [OPTION]..",
@@ -328,7 +331,7 @@ OPERATIONS = {
         command=Command("[OPTION]..", "add the accounts of the lines on standard input"),
     ),
     b"export": Operation(
-        "", is_transfer=True, command=Command("", "a line NAME:RECORD for each account")
+        "", is_transfer=True, command=Command("", "print a line NAME:RECORD for each account")
     ),
     b"backup": Operation(
         "", is_transfer=True, command=Command("FILE", "write a copy of the whole book")
@@ -337,12 +340,12 @@ OPERATIONS = {
         "NAME",
         "none",
         is_own=True,
-        command=Command("NAME", "the time of the last right password"),
+        command=Command("NAME", "print the time of the last right password"),
     ),
     b"waits": Operation(
-        "", is_own=True, command=Command("", "the names that have to wait, and the seconds")
+        "", is_own=True, command=Command("", "print the names that must wait, with the seconds")
     ),
-    b"stats": Operation("", is_own=True, command=Command("", "counts of answers")),
+    b"stats": Operation("", is_own=True, command=Command("", "print the counts of answers")),
 }
 # The options of an import, as credkeep has them.
 ONLY_TRIED = "--dry-run"

@@ -46,12 +46,12 @@ METRICS = (
     Metric("tries_total", "Tries by their answer.", TRIES),
     Metric("changes_total", "Changes that were stored.", ("changes",)),
     Metric("upgraded_total", "Records that --upgrade upgraded.", ("upgraded",)),
-    Metric("memory_total", "Lines that found no memory for a hash.", ("memory",)),
-    Metric("disk_total", "Changes that found no room on a disk.", ("disk",)),
+    Metric("memory_total", "Lines that got no memory for a hash.", ("memory",)),
+    Metric("disk_total", "Changes that were refused for lack of room on a disk.", ("disk",)),
     Metric("denied_total", "Lines that their socket doesn't allow.", ("denied",)),
-    Metric("refused_total", "Connections that had no room.", ("refused",)),
+    Metric("refused_total", "Connections that were refused for lack of room.", ("refused",)),
     Metric("clients", "Connections.", ("clients",)),
-    Metric("waits", "Names that have to wait, as their tries were told.", ("waits",)),
+    Metric("waits", "Names that must wait after failed tries.", ("waits",)),
     Metric("waited_seconds_total", "Seconds that lines waited for their turn.", ("waited",)),
 )
 COUNTED = [*(count for metric in METRICS for count in metric.counts), "book"]  # by `stats`
@@ -59,7 +59,7 @@ COUNTED = [*(count for metric in METRICS for count in metric.counts), "book"]  #
 
 @dataclass(frozen=True)
 class Wait:
-    """The wait that a try was answered: its seconds, and the moment of that answer."""
+    """The wait in the answer to a try: its seconds, and the moment of the answer."""
 
     seconds: int
     told: float
@@ -93,7 +93,7 @@ class Tally:
         if answer == LATER.decode():
             self.counts["later"] += 1
             remember(self.early, name, Wait(seconds, time.monotonic()))
-            log_seldom((LATER, name), "%s has to wait after %d failed tries", name, self.tries)
+            log_seldom((LATER, name), "%s must wait after %d failed tries", name, self.tries)
         if answer == FORGIVEN:
             self.end_wait(name, "an administrator forgave it")
         meaning = ANSWERS.get(answer, NO_ANSWER)
@@ -103,7 +103,7 @@ class Tally:
         self.counts["disk"] += answer == "bad 19 disk"
         if answer == "bad 4 memory":
             self.counts["memory"] += 1
-            log_seldom(answer, "no memory for a hash: see --memory, and the machine's")
+            log_seldom(answer, "no memory for a hash: check --memory and the machine's memory")
         if not kind.tries:
             if kind.hashes and has_changed:
                 self.end_wait(name, "a new password")
@@ -118,21 +118,21 @@ class Tally:
         """Notes that a name's wait has ended, and logs the end if the wait was logged."""
         self.early.pop(name, None)
         if forget_message((LATER, name)):
-            log.info("%s has to wait no more: %s", name, why)
+            log.info("%s need not wait any longer: %s", name, why)
 
     def end_waits(self, staying: Callable[[str], int]) -> None:
-        """Notes that a new process of the book has the file, which knows no failed tries: each wait
-        has ended but those of names with seconds that stay."""
+        """Ends all waits, since a new process of the book knows no failed tries; only waits at
+        names for which `staying` has seconds remain."""
         ended = [name for name in self.early if not staying(name)]
         for name in ended:
             del self.early[name]
             forget_message((LATER, name))
         if ended:
-            log.info("%d names have to wait no more: the book's process is new", len(ended))
+            log.info("%d names need not wait any longer: the book's process is new", len(ended))
 
     def waits(self) -> list[str]:
-        """The names with a try that was too early, a wait that isn't over, and no login or
-        `forgive` since: each as NAME:SECONDS, with the seconds that are left."""
+        """The names whose wait isn't over, each as NAME:SECONDS with the rest of the wait: a try
+        there came too early, and no login or `forgive` ended the wait."""
         early = self.early.items()
         return [f"{name}:{rest}" for name, wait in early if (rest := wait.rest())]
 

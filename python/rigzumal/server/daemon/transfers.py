@@ -37,7 +37,7 @@ KILLED_FIRST = "1000"  # of proc(5), oom_score_adj
 
 
 def memory_file() -> BinaryIO:
-    """A file in memory, without a name: no hanging disk holds it up."""
+    """A file in memory, without a name, so that no hanging disk can block it."""
     return open(os.memfd_create("credkeep-server"), "w+b")
 
 
@@ -80,7 +80,7 @@ class Incoming:
         self.text = memory_file()
 
     def take(self, data: bytes) -> bytes:
-        """Stores the bytes of the text, and returns the bytes behind the text."""
+        """Stores the bytes of the text, and returns the bytes after the text."""
         own, rest = data[: self.missing], data[self.missing :]
         self.text.write(own)
         self.missing -= len(own)
@@ -140,7 +140,7 @@ class Transfers:
         return self.service.has_room() and has_room(folder, size + NEEDED)
 
     def drop(self, incoming: Incoming) -> None:
-        """Drops a text that didn't arrive to its end."""
+        """Drops a text that didn't arrive completely."""
         incoming.text.close()
         self.has_import = False
 
@@ -199,7 +199,7 @@ class Transfers:
             async with self.service.book.lent() as status:
                 if status:
                     return Result(status, faults=ENDING)
-                log.info("an import has the book: lines wait")
+                log.info("an import runs, and lines wait")
                 result = await self.run(self.file, *words, text=text)
                 log.info("the import has ended with status %d", result.status)
         finally:

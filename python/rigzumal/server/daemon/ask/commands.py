@@ -37,7 +37,7 @@ LISTS = ("list", "marks", "stats", "waits")  # commands whose answers are names,
 
 
 class Commands:
-    """The function of each command, by its word: it prints the answer, and returns the status."""
+    """The commands for a server, each a method: it prints the answer, and returns the status."""
 
     def __init__(self, server: Server) -> None:
         self.server = server
@@ -126,7 +126,7 @@ class Commands:
         return "\n".join(f"{name}:{MARKS[mark]}" for name, mark in told)
 
     def show(self, name: str, is_whole: bool) -> str:
-        """Prints a record's costs, or the whole record, behind the marks."""
+        """Prints the marks and then a record's costs, or the whole record."""
         said = self.server.ask("show", name)
         marks = marks_of(said)
         if said in ("none", marks):
@@ -152,7 +152,7 @@ class Commands:
         return self.server.run_with(text, "import", str(len(text)), *options)
 
     def backup(self, file: str) -> int:
-        """Writes a copy of the book beside its destination, to which credkeep renames it as any
+        """Writes the server's copy beside the destination, from which credkeep then writes the
         backup."""
         end_in_order()
         folder = os.path.dirname(os.path.abspath(file))

@@ -35,7 +35,7 @@ class Server:
         self.answers = self.socket.makefile("rb")
 
     def send(self, *words: str) -> str:
-        """The answer to a line, a refusal too."""
+        """The answer to a line, even a refusal."""
         with suppress(OSError):  # a server that has ended answers nothing
             self.socket.sendall(f"{TAG} {' '.join(words)}\n".encode())
         return self.answer()
@@ -89,7 +89,7 @@ class Server:
         self.socket.settimeout(None)
         said = self.ask(*words)
         if said != f"send {len(text)}":
-            end(5, f"{self.path}: no answer of a server: {said:.40}")
+            end(5, f"{self.path}: no answer from a server: {said:.40}")
         with suppress(OSError):  # a server that has ended answers nothing
             self.socket.sendall(text)
         return self.copy_result(self.answer(), sys.stdout.buffer)
@@ -98,7 +98,7 @@ class Server:
         """Copies the output of credkeep on both streams, and returns its status."""
         word, *numbers = said.split(" ")
         if word != "ended" or len(numbers) != 3 or not all(map(str.isdecimal, numbers)):
-            end(5, f"{self.path}: no answer of a server: {said:.40}")
+            end(5, f"{self.path}: no answer from a server: {said:.40}")
         status, size, size_of_faults = map(int, numbers)
         self.copy(size, output)
         self.copy(size_of_faults, sys.stderr.buffer)

@@ -24,7 +24,7 @@ def end(status: int, text: str = "") -> NoReturn:
 
 
 def end_by(number: int, _: object) -> NoReturn:
-    """Ends the program by the first signal alone, so that the echo comes back."""
+    """Ends the program only by the first signal, so that the echo comes back."""
     for signal_number in SIGNALS:
         signal.signal(signal_number, signal.SIG_IGN)
     sys.exit(128 + number)
