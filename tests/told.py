@@ -1,12 +1,13 @@
 """Runs the tests of a module by unittest, and writes the outcome of each to a file, for
 tools/run_tests.py.
 
-    python3 tests/told.py TOLD MODULE [PART PARTS]
+    python3 tests/told.py TOLD MODULE [PART PARTS] [--first]
 
 MODULE is a file, below the folder in which this runs. Where PARTS processes share its tests, the
-PARTth runs each PARTSth of them. A line of the file TOLD is a word, a test's name and, of a skip,
-its reason, with tabs between. The words are `begun`, `passed`, `failed` and `skipped`. The last
-line is `all` and the module, so whoever reads it knows that nothing ended the process before.
+PARTth runs each PARTSth of them. With --first no test runs after one that failed. A line of the
+file TOLD is a word, a test's name and, of a skip, its reason, with tabs between. The words are
+`begun`, `passed`, `failed` and `skipped`. The last line is `all` and the module, so whoever reads
+it knows that nothing ended the process before.
 """
 
 from __future__ import annotations
@@ -108,7 +109,7 @@ def outside(module: Any) -> Iterator[str]:
 
 
 def main() -> int | str:
-    _, module, *part = sys.argv[1:]
+    _, module, *part = (it for it in sys.argv[1:] if it != "--first")
     sys.path[0] = os.getcwd()
     try:
         found = importlib.import_module(module[: -len(".py")].replace("/", "."))
@@ -125,7 +126,8 @@ def main() -> int | str:
         return f"{module}: nothing runs {', '.join(lost)}"
     if part:
         tests = tests[int(part[0]) - 1 :: int(part[1])]
-    runner = unittest.TextTestRunner(resultclass=Told, verbosity=2)
+    is_first = "--first" in sys.argv
+    runner = unittest.TextTestRunner(resultclass=Told, verbosity=2, failfast=is_first)
     done = runner.run(unittest.TestSuite(tests))
     write("all", module)
     return 0 if done.wasSuccessful() else 1

@@ -5,10 +5,11 @@
 
 A maintainer runs it before a release, once the gate has built all. The tool makes each change of
 the table below in a copy of the tree with its built files, and there tools/run_tests.py runs the
-jobs that the plant names. A test that fails there with nothing planted refuses nothing: all jobs
-run once so first. If no other test fails, or the file lacks the text that is replaced, the plant is
-NOT REFUSED. With words only plants with one of them in their file's name are tried. The last line
-is `N refused, M not`, and the status is 1 if one wasn't.
+jobs that the plant names, up to the first failure. A test that fails there with nothing planted
+refuses nothing: all jobs run once so first. If no other test fails, or the file lacks the text that
+is replaced, the plant is NOT REFUSED. With words only plants with one of them in their file's name
+are tried. Each line ends with the seconds of the plant's jobs. The last line is `N refused, M not`,
+and the status is 1 if one wasn't.
 """
 
 from __future__ import annotations
@@ -20,6 +21,7 @@ import shutil
 import subprocess
 import sys
 import tempfile
+import time
 from collections.abc import Collection, Iterable
 from typing import NamedTuple
 
@@ -176,10 +178,10 @@ def copied(room: pathlib.Path) -> pathlib.Path:
     return room
 
 
-def failures(top: pathlib.Path, words: Iterable[str]) -> list[str]:
+def failures(top: pathlib.Path, words: Iterable[str], *options: str) -> list[str]:
     """The tests that fail in the jobs of these words, or what says that none could run."""
     done = subprocess.run(
-        [sys.executable, str(top / "tools/run_tests.py"), *words],
+        [sys.executable, str(top / "tools/run_tests.py"), *options, *words],
         cwd=top,
         stdin=subprocess.DEVNULL,
         stdout=subprocess.PIPE,
@@ -198,7 +200,8 @@ def refusal(top: pathlib.Path, plant: Plant, failing: Collection[str]) -> str:
         return ""
     path.write_text(text.replace(plant.old, plant.new, 1))
     try:
-        refusing = [it for it in failures(top, [plant.jobs]) if it not in failing]
+        options = [] if failing else ["--first"]
+        refusing = [it for it in failures(top, [plant.jobs], *options) if it not in failing]
     finally:
         path.write_text(text)
     return refusing[0] if refusing else ""
@@ -220,8 +223,10 @@ def main() -> int:
         for name in failing:
             print(f"it fails with nothing planted: {name}", flush=True)
         for plant in chosen:
+            began = time.monotonic()
             by = refusal(top, plant, failing)
-            print(f"{plant.file}: {f'refused by {by}' if by else 'NOT REFUSED'}", flush=True)
+            word = f"refused by {by}" if by else "NOT REFUSED"
+            print(f"{plant.file}: {word}, {time.monotonic() - began:.0f} s", flush=True)
             refused += bool(by)
     left = len(chosen) - refused
     print(f"{refused} refused, {left} not")

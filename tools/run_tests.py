@@ -1,7 +1,7 @@
 #!/usr/bin/env python3
 """Runs the tests over what `rt ci` built, as many side by side as there are processors.
 
-    python3 tools/run_tests.py [--long] [--note] [WORD..]
+    python3 tools/run_tests.py [--long] [--note] [--first] [WORD..]
 
 The jobs of tools/jobs.py run, those with one of the words in their names: each module of tests is a
 process of its own, and so are some tools. Meanwhile `make` builds the library and the PAM module
@@ -12,7 +12,8 @@ N passed, M failed, K skipped`, and the status is 1 if one failed. A signal ends
 that its jobs started; its last line is `tests: interrupted` then.
 
 --long runs the modules that every run leaves out. --note keeps how long each job took in
-tools/job_seconds.json, by which the longest begin first.
+tools/job_seconds.json, by which the longest begin first. --first begins no job after one that
+failed, and no test of a module after one that failed.
 """
 
 from __future__ import annotations
@@ -30,6 +31,7 @@ import sys
 import tempfile
 import threading
 import time
+from collections.abc import Sequence
 from typing import Any
 
 from jobs import SECONDS, Job, jobs, seconds
@@ -76,8 +78,9 @@ def interrupt(number: int, _: Any) -> None:
 class Done:
     """The outcome of a job: its tests by their words, its output, and its time."""
 
-    def __init__(self, job: Job) -> None:
+    def __init__(self, job: Job, words: Sequence[str] = ()) -> None:
         self.job = job
+        self.words = words if job.is_told else ()
         self.tests: dict[str, str] = {}
         self.output = ""
         self.is_whole = not job.is_told
@@ -97,10 +100,10 @@ class Done:
     def run(self, told: pathlib.Path, printed: pathlib.Path) -> None:
         """Runs the job to its end, or ends it with all that it started."""
         mark, began = f"{os.getpid()}-{told}", time.monotonic()
-        command = [sys.executable, *(it.format(told=told) for it in self.job.command)]
+        command = [it.format(told=told) for it in (*self.job.command, *self.words)]
         with open(printed, "wb") as output:
             process = subprocess.Popen(
-                command,
+                [sys.executable, *command],
                 cwd=self.job.at,
                 env={**os.environ, MARK: f"{os.environ.get(MARK, '')}{RUN};{mark};"},
                 stdin=subprocess.DEVNULL,
@@ -159,8 +162,9 @@ def fault_of_build() -> str:
 class Progress:
     """The running jobs, printed each half minute, and the outcomes of those that ended."""
 
-    def __init__(self, count: int) -> None:
+    def __init__(self, count: int, is_first: bool = False) -> None:
         self.count, self.done = count, list[Done]()
+        self.is_first = is_first  # whether the first failure is all that is asked for
         self.running: dict[str, float] = {}
         # What a build that failed says, once it has ended.
         self.library = concurrent.futures.Future[str]()
@@ -192,8 +196,10 @@ class Progress:
         for job in queue:
             if INTERRUPTED.is_set() or job.needs_library and self.library.result():
                 return
+            if self.is_first and any(it.failed() for it in self.done):
+                return
             self.running[job.name] = time.monotonic()
-            done = Done(job)
+            done = Done(job, ["--first"] if self.is_first else [])
             del self.running[job.name]
             self.done.append(done)
             if done.failed():
@@ -233,12 +239,13 @@ def main() -> int:
     reader = argparse.ArgumentParser(usage=(__doc__ or "").split("\n\n")[1].strip())
     reader.add_argument("--long", action="store_true")
     reader.add_argument("--note", action="store_true")
+    reader.add_argument("--first", action="store_true")
     reader.add_argument("words", nargs="*")
     asked = reader.parse_args()
     for it in SIGNALS:
         signal.signal(it, interrupt)
     chosen = jobs(asked.words, asked.long)
-    progress = Progress(len(chosen))
+    progress = Progress(len(chosen), asked.first)
     progress.run_beside([it for it in chosen if not it.is_quiet])
     progress.run_beside([it for it in chosen if it.is_quiet])
     if asked.note:

@@ -86,6 +86,14 @@ def sample(page, language, word):
     return next(it for it in found if word in it)
 
 
+def program_of_readme():
+    """README's C as a program, whose status is 0 if the record that it makes is verified."""
+    code = sample("README.md", "c", "rigzumal.h")
+    if "main(" in code:
+        return code
+    return MAIN % code.partition("\n")[2].replace("...", "return 0;")
+
+
 # A processor, where its library is built, its name in folders, and what runs its programs here.
 LIBRARIES = (
     ("amd64", "c/out", "x86_64-linux-gnu", ()),
@@ -123,12 +131,9 @@ class Install(helpers.Case):
         need_file(*BUILT)
         if not all(map(levels, PROGRAMS)):  # the gate's own aren't known to be for a level
             raise lacking("programs of `make programs`")
-        code = sample("README.md", "c", "rigzumal.h")
-        if "main(" not in code:
-            code = MAIN % code.partition("\n")[2].replace("...", "return 0;")
         samples = {
             "SAMPLE": sample("python/README.md", "python", "PasswordHasher"),
-            "C_SAMPLE": code,
+            "C_SAMPLE": program_of_readme(),
         }
         env = {
             "ROOM": str(self.room()),

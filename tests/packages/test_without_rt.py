@@ -4,11 +4,13 @@ php-cli."""
 
 import os
 import pathlib
+import re
 import shutil
 import stat
 
 from tests import helpers
-from tests.helpers import TOP, each, need, run, write_files
+from tests.helpers import TOP, each, need, need_module, run, write_files
+from tests.packages.test_install import program_of_readme, sample
 
 # A record that Argon2's reference implementation made of a password (test.c of phc-winner-argon2).
 RECORD = "$argon2id$v=19$m=65536,t=2,p=1$c29tZXNhbHQ$CTFhFdXPJO1aFaMaO6Mm5c8y7cJHAph8ArZWb2GRPPc"
@@ -90,13 +92,17 @@ class WithoutRt(helpers.Case):
         return self.as_user("make", "-C", self.top / folder, *words, status=status, **env)
 
     def test_library(self):
-        """The library is built of c/proved, and hashes as others do, in Python and in PHP."""
+        """The library is built of c/proved, and hashes as others do, in Python and in PHP. A program
+        in C links it from its folder, as BUILDING says."""
         self.make()
         found = self.as_user("/usr/bin/python3", "-c", CHECKS, PYTHONPATH=str(self.top / "python"))
         self.assertEqual(found.splitlines()[1], f"{self.top}/c/out/librigzumal.so.1")
         if shutil.which("php"):
             said = self.as_user("php", "-r", VERIFIES, LD_LIBRARY_PATH=str(self.top / "c/out"))
             self.assertEqual(said.split(), ["bool(true)", "bool(false)"])
+        write_files(self.top, {"service.c": program_of_readme()})
+        (link,) = re.findall("^cc .*", sample("docs/BUILDING.md", "sh", "cc service.c"), re.M)
+        self.as_user("sh", "-c", f"{link}\n./a.out", at=self.top)
         # again there is nothing to do, for root too
         self.assertNotIn("cp proved", self.make())
 
@@ -185,14 +191,12 @@ class WithoutRt(helpers.Case):
 
     def test_pip(self):
         """`pip install ./python` builds the library, with no registry, and so does -e."""
+        need_module("ensurepip", python="/usr/bin/python3")  # of python3-venv
         for words in ((), ("-e",)):
             with self.subTest(words):
                 shutil.rmtree(self.top / "c/out", ignore_errors=True)
                 room = self.home / "-".join(["venv", *words])
-                if "ensurepip is not" in self.as_user(
-                    "sh", "-c", f"/usr/bin/python3 -m venv {room} || true"
-                ):
-                    self.skipTest("python3-venv isn't installed")
+                self.as_user("/usr/bin/python3", "-m", "venv", room)
                 self.as_user(room / "bin/pip", "install", "--no-index", *words, self.top / "python")
                 found = self.as_user(room / "bin/python", "-c", CHECKS)
                 self.assertIn(str(self.top if words else room), found)

@@ -41,10 +41,12 @@ def logged() -> Iterator[list[str]]:
 
         reading = threading.Thread(target=read)
         reading.start()
-        yield lines
-        with socket.socket(socket.AF_UNIX, socket.SOCK_DGRAM) as end:
-            end.sendto(b"", "/dev/log")
-        reading.join()
+        try:
+            yield lines
+        finally:  # a reader that isn't ended would keep a failed test from ending
+            with socket.socket(socket.AF_UNIX, socket.SOCK_DGRAM) as end:
+                end.sendto(b"", "/dev/log")
+            reading.join()
 
 
 class Logins(Case):

@@ -184,6 +184,12 @@ class RunTests(Case):
             helpers.until(lambda it=words: not it.exists() or not it.read_bytes(), "it has ended")
         at_work.unlink()
 
+    def test_first_failure(self) -> None:
+        """With --first nothing begins after a failure: no test of its module, and no other job."""
+        done = self.run_tests("--first", "test_false", "server/test_clients")
+        self.assertEqual(done.written.splitlines()[-1], "tests: 0 passed, 1 failed, 0 skipped")
+        self.assertFalse((self.top / "order").exists())
+
     def test_what_passes(self) -> None:
         done = self.run_tests("c/tests", "tests/tools")
         self.assertEqual(done.written.splitlines()[-1], "tests: 5 passed, 0 failed, 2 skipped")

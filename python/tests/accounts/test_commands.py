@@ -140,6 +140,8 @@ class Words(Commands):
             self.assertRegex(page, rf'(?m)^\.IP "?\\fB{command}\\fP')
             for text in completed:
                 self.assertRegex(text, rf"\b{command}\b")
+        listed = re.search(r"commands=\((.*)\)", completed[shells.index("zsh")])
+        self.assertEqual({*listed[1].split()}, {*cli._COMMANDS})
 
     @each(
         ("bash", "rigzumal ", "hash verify calibrate accounts --version"),
@@ -154,6 +156,17 @@ class Words(Commands):
         ("bash", "rigzumal accounts check --secret ", ""),
     )
     def test_what_shells_complete(self, shell, line, offered):
+        self.assertEqual(self.offered(shell, line), {*offered.split()})
+
+    @each(*SHELLS)
+    def test_each_command_is_completed(self, shell):
+        for command in cli._COMMANDS:
+            with self.subTest(command=command):
+                offered = self.offered(shell, f"rigzumal accounts {command[:-1]}")
+                self.assertIn(command, offered)
+
+    def offered(self, shell, line):
+        """The words that a shell offers at the end of a line."""
         need(shell)
         code = f"source {support.PACKAGE.parent}/completions/rigzumal/{shell}; "
         words = [*line.split(), *([""] if line.endswith(" ") else [])]
@@ -164,8 +177,8 @@ class Words(Commands):
         else:
             command = ["fish", "-N", "-c", code + f"complete -C {shlex.quote(line)}"]
         done = subprocess.run(command, capture_output=True, text=True)
-        found = {it.partition("\t")[0] for it in done.stdout.splitlines()} - {""}
-        self.assertEqual((found, done.stderr), ({*offered.split()}, ""))
+        self.assertEqual(done.stderr, "")
+        return {it.partition("\t")[0] for it in done.stdout.splitlines()} - {""}
 
 
 class Passwords(Commands):

@@ -57,7 +57,9 @@ class Imports(Commands):
         name = f"{self.server.path}.pipe"
         os.mkfifo(name)
         lines = "".join(f"user{it} {RECORD}\n" for it in range(3000))
-        writer = threading.Thread(target=pathlib.Path(name).write_text, args=(lines,))
+        write = pathlib.Path(name).write_text
+        # as a daemon, so that no command that fails before it reads keeps the test from ending
+        writer = threading.Thread(target=write, args=(lines,), daemon=True)
         writer.start()
         self.assert_answers((f"import {name}", "", "3000 added, 0 there already"))
         writer.join()
