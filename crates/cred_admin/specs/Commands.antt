@@ -1,11 +1,11 @@
--- What the commands on one account do.
+-- What the operations on one account do.
 use Rattle.std.specs.Io.KnownBytes.{Keeps}
 use Rattle.std.specs.Prelude.{◌≡◌, ◌⊎◌, ℕ, List, Bool, not, Option, Some, None, Result, Ok, Err, IfErr, true, false}
 use Rattle.cred_phc.specs.Values.{RecordValue}
-use Rattle.cred_book.specs.{Works.is_for_current, Works.new_record, declared.reply.Reply.Reply}
+use Rattle.cred_book.specs.{Works.new_record, declared.reply.Reply.Reply}
 use Rattle.cred_file.specs.Edits.{has_room_for}
-use Rattle.cred_admin.specs.{Lines.IsMisread, Lines.Reads, Listing.Tells, Seen.Seen, Marked.MarkedBook, Marked.tried, Marked.with_account, Marked.with_record, Statuses.hint_of, Statuses.verdict_line, Statuses.verdict_status, declared.command.Command.Command}
-use Rattle.cred_admin.specs.declared.command.Command.TheVariants.{Add, Check, Change, Reset, Upgrade, Remove}
+use Rattle.cred_admin.specs.{Lines.IsMisread, Lines.Reads, Listing.Tells, Seen.Seen, Marked.MarkedBook, Marked.tried, Marked.with_account, Marked.with_record, Statuses.hint_of, Statuses.verdict_line, Statuses.verdict_status}
+use Rattle.cred_admin.specs.declared.operation.Operation.TheVariants.{Add, Check, Change, Reset, Upgrade, Remove}
 use Rattle.cred_admin.specs.{declared.fault.Fault.Fault, declared.operation.Operation.Operation, declared.password.Passwords.Passwords}
 use Rattle.cred_admin.specs.{declared.password.Typed.Typed, declared.status.Hint.Hint, declared.status.Status.Status, declared.verdict.Verdict.Verdict, declared.verdict.Verdict.TheVariants.Told}
 use Rattle.cred_admin.specs.declared.password.Passwords.TheVariants.{Present, New, PresentAndNew}
@@ -13,28 +13,16 @@ use Rattle.std.specs.FinMap as map
 use Rattle.cred_book.specs.declared.reply.Reply.TheVariants as reply
 use Rattle.cred_book.specs.declared.request.Request.TheVariants as request
 use Rattle.cred_admin.specs.declared.fault.Fault.TheVariants as fault
-use Rattle.cred_admin.specs.declared.operation.Operation.TheVariants as operation
 
 -- ---- what is asked
 
-abbrev pub passwords_of : Command → Passwords
+abbrev pub passwords_of : Operation → Passwords
 passwords_of (Add new) = New new.empty
 passwords_of Check = Present
 passwords_of (Change new) = PresentAndNew new.empty
 passwords_of (Reset new) = New new.empty
 passwords_of (Upgrade setting) = Present
 passwords_of Remove = Present
-
--- what is asked for with the passwords that were read
-abbrev pub operation_of : List ℕ → Command → Typed → Operation
-operation_of name (Add new) t = operation.Enrol name new.setting t.last
-operation_of name Check t = operation.Ask (request.Verify name t.first)
-operation_of name (Change new) t =
-    operation.Ask (request.Change name t.first t.last new.setting)
-operation_of name (Reset new) t = operation.Reset name new.setting t.last
-operation_of name (Upgrade setting) t =
-    operation.Ask (request.Upgrade name t.first setting)
-operation_of name Remove t = operation.Ask (request.Remove name t.first)
 
 -- ---- what is done
 
@@ -76,30 +64,34 @@ reset_step book name stored = reset_at book name stored (map.get book.accounts n
 abbrev pub as_told : Reply × MarkedBook → Verdict × MarkedBook
 as_told o = (Told o.0, o.1)
 
--- the answer to a whole operation, and the book after it
-abbrev pub done : MarkedBook → Operation → Verdict × MarkedBook
-done book (operation.Ask request) = tried book request
-done book (operation.Enrol name setting pw) = as_told (enrolment book name (new_record setting pw))
-done book (operation.Reset name setting pw) = as_told (reset_step book name (new_record setting pw))
-
--- a setting of a new record isn't of version 0x10
-abbrev pub is_current_operation : Operation → Bool
-is_current_operation (operation.Ask request) = is_for_current request
-is_current_operation (operation.Enrol name setting pw) = true
-is_current_operation (operation.Reset name setting pw) = true
+-- the answer to the operation with these passwords, and the book after it
+abbrev pub done : MarkedBook → List ℕ → Operation → Typed → Verdict × MarkedBook
+done book name (Add new) t = as_told (enrolment book name (new_record new.setting t.last))
+done book name Check t = tried book (request.Verify name t.first)
+done book name (Change new) t = tried book (request.Change name t.first t.last new.setting)
+done book name (Reset new) t = as_told (reset_step book name (new_record new.setting t.last))
+done book name (Upgrade setting) t = tried book (request.Upgrade name t.first setting)
+done book name Remove t = tried book (request.Remove name t.first)
 
 -- it adds an account, for which there is no room
-abbrev pub FindsNoRoom : ℕ → MarkedBook → Operation → Type 0
-FindsNoRoom capacity book (operation.Enrol name setting pw) =
-    has_room_for capacity book.accounts name ≡ false
-FindsNoRoom capacity book _ = ⊥
+abbrev pub FindsNoRoom : ℕ → MarkedBook → List ℕ → Operation → Type 0
+FindsNoRoom capacity book name (Add new) = has_room_for capacity book.accounts name ≡ false
+FindsNoRoom capacity book name _ = ⊥
 
--- it is done, or not
-abbrev pub Works : ℕ → MarkedBook → MarkedBook → Operation → Result Verdict Fault → Type 0
-Works capacity old new o (Ok v) = (v, new) ≡ done old o
-Works capacity old new o (Err fault.Memory) = new ≡ old
-Works capacity old new o (Err fault.Full) = FindsNoRoom capacity old o × (new ≡ old)
-Works capacity old new o (Err _) = ⊥
+-- it comes to this answer and this book; or memory runs out, or there is no room, and the book is
+-- as it was
+abbrev pub ComesTo : Verdict × MarkedBook → Type 0 → MarkedBook → MarkedBook
+    → Result Verdict Fault → Type 0
+ComesTo outcome NoRoom old new (Ok v) = (v, new) ≡ outcome
+ComesTo outcome NoRoom old new (Err fault.Memory) = new ≡ old
+ComesTo outcome NoRoom old new (Err fault.Full) = NoRoom × (new ≡ old)
+ComesTo outcome NoRoom old new (Err _) = ⊥
+
+-- the operation is done with these passwords, or not
+abbrev pub Works : ℕ → MarkedBook → MarkedBook → List ℕ → Operation → Typed
+    → Result Verdict Fault → Type 0
+Works capacity old new name o t r =
+    ComesTo (done old name o t) (FindsNoRoom capacity old name o) old new r
 
 -- ---- what comes of it
 
@@ -108,21 +100,21 @@ abbrev pub answer_of : Verdict → Option Hint → List ℕ × Status
 answer_of v hint = (verdict_line v, verdict_status v hint)
 
 -- the operation is done, and answered or not; the hint is the first line's
-abbrev pub IsDone : ℕ → List ℕ → Command → Seen → Result Status Fault → Type 0
-IsDone capacity name command s ended = (t : Typed) × Reads (passwords_of command) s.reading t
-    × (v : Verdict) × Works capacity s.old s.new (operation_of name command t) (Ok v)
+abbrev pub IsDone : ℕ → List ℕ → Operation → Seen → Result Status Fault → Type 0
+IsDone capacity name operation s ended = (t : Typed) × Reads (passwords_of operation) s.reading t
+    × (v : Verdict) × Works capacity s.old s.new name operation t (Ok v)
     × Tells (answer_of v (hint_of t.first)) s.writing ended
     × IfErr ended (λ e. e ≡ fault.Write)
 
 -- the passwords aren't read, and the book is as it was; or the operation meets this fault
-abbrev pub IsNotDone : ℕ → List ℕ → Command → Seen → Fault → Type 0
-IsNotDone capacity name command s e =
-    (IsMisread (passwords_of command) s.reading e × (s.new ≡ s.old))
-    ⊎ ((t : Typed) × Reads (passwords_of command) s.reading t
-    × Works capacity s.old s.new (operation_of name command t) (Err e))
+abbrev pub IsNotDone : ℕ → List ℕ → Operation → Seen → Fault → Type 0
+IsNotDone capacity name operation s e =
+    (IsMisread (passwords_of operation) s.reading e × (s.new ≡ s.old))
+    ⊎ ((t : Typed) × Reads (passwords_of operation) s.reading t
+    × Works capacity s.old s.new name operation t (Err e))
 
 -- it is done, or it is not and nothing is written
-abbrev pub Obeys : ℕ → List ℕ → Command → Seen → Result Status Fault → Type 0
-Obeys capacity name command s ended = IsDone capacity name command s ended
-    ⊎ ((e : Fault) × (ended ≡ Err e) × IsNotDone capacity name command s e
+abbrev pub Obeys : ℕ → List ℕ → Operation → Seen → Result Status Fault → Type 0
+Obeys capacity name operation s ended = IsDone capacity name operation s ended
+    ⊎ ((e : Fault) × (ended ≡ Err e) × IsNotDone capacity name operation s e
     × Keeps s.writing.before s.writing.now)

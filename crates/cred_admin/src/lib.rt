@@ -6,7 +6,6 @@
 //! writes an answer before the change.
 #![tactic(auto)]
 
-mod command;
 mod detail;
 mod edit_reply;
 mod edits;
@@ -24,7 +23,6 @@ mod showing;
 mod status;
 mod verdict;
 
-pub use command::Command;
 pub use detail::Detail;
 pub use edit_reply::{EditReply, edit_line};
 pub use edits::{Edit, disable_shown, edit_account};
@@ -34,7 +32,7 @@ pub use host::Host;
 pub use import::{BadLine, Existing, Gathered, ImportFault, LockedRecords, Rules, gather};
 pub use laws::imports_are_of_their_lines;
 pub use listing::{Line, a_piece_has_64_kib, line_of, list};
-pub use operation::put_in_place;
+pub use operation::{Operation, put_in_place};
 pub use password::{EmptyPassword, NewPassword, Passwords};
 pub use printing::tell;
 pub use setting::{NewSetting, setting_of};

@@ -1,57 +1,134 @@
-//! The work of a command after its passwords are read.
+//! The operations on one account, which read its passwords.
 
-ghost use Rattle.std.specs.Prelude.{◌≡◌, IfOk, OnErr, true};
+ghost use Rattle.std.specs.Prelude.{◌≡◌, Err, IfOk, OnErr, false, true};
 ghost use Rattle.std.specs.FinMap as map;
-ghost use Rattle.cred_book.specs.Works.{is_for_current};
-ghost use Rattle.cred_admin.specs.{Commands.Works, Commands.is_current_operation, Commands.reset_step, Commands.takes_first};
-ghost use Rattle.cred_admin.specs.declared.operation.Operation.TheVariants as operation;
+ghost use Rattle.cred_book.specs.Works.{is_for_current, new_record};
+ghost use Rattle.cred_cli.specs.Watched.{Basis, failed_of, reading_on, writing_on};
+ghost use Rattle.cred_file.specs.Edits.{has_room_for};
+ghost use Rattle.cred_admin.specs.{Commands.ComesTo, Commands.Obeys, Commands.Works, Commands.as_told, Commands.enrolment, Commands.passwords_of, Commands.reset_step, Commands.takes_first, Marked.tried, Seen.FitsSince, Seen.seen};
 
 use crate::fault::Fault;
 use crate::host::Host;
+use crate::password::{NewPassword, Passwords, Typed, read_passwords};
+use crate::printing::tell;
 use crate::setting::NewSetting;
-use crate::verdict::{Verdict, commit_try};
+use crate::status::{Status, hint_of};
+use crate::verdict::{Verdict, commit_try, verdict_line, verdict_status};
 use cred_book::{Name, Reply, Request};
-use cred_cli::Tools;
+use cred_cli::{Tools, Watched};
 use cred_phc::{Password, Record};
 use cred_pool::NoGate;
 use std::alloc::AllocError;
+use std::io::{Read, Write};
 use std::thread::Threads;
 
-/// A whole operation on one account.
-#[derive(Clone, Copy)]
-pub(crate) enum Operation {
-    /// Compares a password with the account's record, and does what the request asks.
-    Ask(Request),
-    /// Sets the first record of an account, which is added if it is new.
-    Enrol {
-        name: Name,
-        setting: NewSetting,
-        pw: Password,
-    },
-    /// Sets the record of an account, if it exists.
-    Reset {
-        name: Name,
-        setting: NewSetting,
-        pw: Password,
-    },
+/// An operation on one account, with its passwords read a line each.
+#[derive(Clone, Copy, Debug, PartialEq, Eq)]
+pub enum Operation {
+    /// Stores the first record of the account, and adds the account if it doesn't exist. The answer
+    /// is `enrolled`, or `exists`.
+    Add(NewPassword),
+    /// Asks whether a password is the account's. The answer is `yes` or `no`.
+    Check,
+    /// Replaces the old password's record by one of a new password. The answer is `replaced` or
+    /// `wrong`.
+    Change(NewPassword),
+    /// Sets the record of a new password, without the old one. The answer is
+    /// `replaced`, or `enrolled` for the first record.
+    Reset(NewPassword),
+    /// Rehashes the account's record, unless it has this scheme with these numbers. The answer is
+    /// `upgraded`, `kept` or `wrong`.
+    Upgrade(NewSetting),
+    /// Removes the account's record; the name stays. The answer is `removed` or `wrong`.
+    Remove,
 }
 
 impl Operation {
-    /// Does the operation.
+    /// The passwords that the operation reads.
+    pub fn passwords(&self) -> Passwords
+        ensures { result ≡ passwords_of self.now }
+    {
+        match self {
+            Operation::Check | Operation::Upgrade(_) | Operation::Remove => Passwords::Present,
+            Operation::Add(new) | Operation::Reset(new) => Passwords::New(new.empty),
+            Operation::Change(new) => Passwords::PresentAndNew(new.empty),
+        }
+    }
+
+    /// Reads the passwords, does the whole operation, and then writes the answer: `noaccount` or
+    /// `absent` where the account or its record is missing. A locked account answers as if each
+    /// password were wrong. A right password that must be changed is `expired`, and a change to
+    /// itself is `same`.
     ///
-    /// Errors: `Memory`, `Full`: nothing is changed.
-    pub(crate) fn work<T: Threads + Sync, K: Host>(
+    /// Only a call of the reader or the writer may wait: else every body returns, and is bound by
+    /// this.
+    ///
+    /// Errors: `Read`, `NoPassword`, `NoNewPassword`, `Password`, `Empty`, `Memory`, and `Full` if
+    /// the book has no room for an account: nothing is written or changed; `Write`.
+    pub fn carry_out<T: Threads + Sync, K: Host, R: Read, W: Write>(
         &self,
         tools: &Tools<'_, T>,
         keeper: &mut K,
-    ) -> Result<Verdict, Fault>
-        requires { is_current_operation self.now ≡ true }
-        ensures { Works K.capacity (K.book keeper.old) (K.book keeper.new) self.now result }
+        name: &Name,
+        reader: &mut Watched<R>,
+        writer: &mut Watched<W>,
+    ) -> Result<Status, Fault>
+        ensures done { (basis : Basis) → FitsSince basis reader.old reader.new
+            → Obeys K.capacity name.now self.now
+            (seen (reading_on basis R.remaining reader.old reader.new)
+            (writing_on basis W.contents writer.old writer.new)
+            (K.book keeper.old) (K.book keeper.new)) result }
+        ensures memory { result ≡ Err Fault.Memory → failed_of reader.new ≡ failed_of reader.old }
     {
+        let typed = read_passwords(tools.alloc, self.passwords(), reader)?;
+        let verdict = self.work(tools, keeper, name, &typed)?;
+        let hint = hint_of(&typed.first);
+        tell(
+            verdict_line(&verdict),
+            verdict_status(&verdict, hint),
+            writer,
+        )
+    }
+
+    /// Does the operation with these passwords.
+    fn work<T: Threads + Sync, K: Host>(
+        &self,
+        tools: &Tools<'_, T>,
+        keeper: &mut K,
+        name: &Name,
+        typed: &Typed,
+    ) -> Result<Verdict, Fault>
+        ensures { Works K.capacity (K.book keeper.old) (K.book keeper.new) name.now self.now
+            typed.now result }
+    {
+        let Typed {
+            first: pw,
+            last: new_pw,
+        } = *typed;
         match self {
-            Operation::Ask(request) => settle(tools, keeper, *request),
-            Operation::Enrol { name, setting, pw } => enrol(tools, keeper, name, setting, pw),
-            Operation::Reset { name, setting, pw } => reset(tools, keeper, name, setting, pw),
+            Operation::Add(new) => enrol(tools, keeper, name, &new.setting, &new_pw),
+            Operation::Check => settle(tools, keeper, Request::Verify { name: *name, pw }),
+            Operation::Change(new) => {
+                let setting = new.setting.setting();
+                let change = Request::Change {
+                    name: *name,
+                    pw,
+                    new_pw,
+                    setting,
+                };
+                settle(tools, keeper, change)
+            }
+            Operation::Reset(new) => reset(tools, keeper, name, &new.setting, &new_pw),
+            Operation::Upgrade(new) => {
+                let setting = new.setting();
+                let upgrade = Request::Upgrade {
+                    name: *name,
+                    pw,
+                    setting,
+                };
+                settle(tools, keeper, upgrade)
+            }
+            Operation::Remove => settle(tools, keeper, Request::Remove { name: *name, pw }),
         }
     }
 }
@@ -63,8 +140,8 @@ fn settle<T: Threads + Sync, K: Host>(
     request: Request,
 ) -> Result<Verdict, Fault>
     requires { is_for_current request ≡ true }
-    ensures { Works K.capacity (K.book keeper.old) (K.book keeper.new)
-        (operation.Ask request) result }
+    ensures { ComesTo (tried (K.book keeper.old) request) ⊥ (K.book keeper.old)
+        (K.book keeper.new) result }
 {
     let Ok(ticket) = keeper.accounts().begin(request) else {
         return Ok(Verdict::Told(Reply::NoAccount));
@@ -85,8 +162,10 @@ fn enrol<T: Threads + Sync, K: Host>(
     setting: &NewSetting,
     pw: &Password,
 ) -> Result<Verdict, Fault>
-    ensures { Works K.capacity (K.book keeper.old) (K.book keeper.new)
-        (operation.Enrol name.now setting.now pw.now) result }
+    ensures { ComesTo
+        (as_told (enrolment (K.book keeper.old) name.now (new_record setting.now pw.now)))
+        (has_room_for K.capacity (K.book keeper.old).accounts name.now ≡ false)
+        (K.book keeper.old) (K.book keeper.new) result }
 {
     if !takes_first(keeper, name) {
         return Ok(Verdict::Told(Reply::Exists));
@@ -114,8 +193,9 @@ fn reset<T: Threads + Sync, K: Host>(
     setting: &NewSetting,
     pw: &Password,
 ) -> Result<Verdict, Fault>
-    ensures { Works K.capacity (K.book keeper.old) (K.book keeper.new)
-        (operation.Reset name.now setting.now pw.now) result }
+    ensures { ComesTo
+        (as_told (reset_step (K.book keeper.old) name.now (new_record setting.now pw.now))) ⊥
+        (K.book keeper.old) (K.book keeper.new) result }
 {
     if !keeper.accounts().contains(name) {
         return Ok(Verdict::Told(Reply::NoAccount));

@@ -1,9 +1,7 @@
 -- The lemmas that the proofs of the script engine cite.
-pub mod Bounds
 pub mod Events
 pub mod EventLines
 pub mod Feeds
-pub mod Fronts
 pub mod Lines
 pub mod Names
 pub mod Openings
@@ -12,8 +10,6 @@ pub mod Prompts
 pub mod Readings
 pub mod Runs
 pub mod Simulation
-pub mod StarvedCommits
 pub mod StepLemmas
-pub mod Unended
 pub mod Basis
 pub mod Writes

@@ -3,34 +3,31 @@ use Rattle.std.proofs.Common.{◌≡◌, ℕ, ◌+◌, ◌≤◌, ◌<◌, arith
 use Rattle.std.proofs.lemmas.List.{append_cancel_right, length-append}
 use Rattle.std.specs.Io.KnownBytes.{Consumes}
 use Rattle.cred_book.specs.Accounts.{Accounts}
-use Rattle.cred_cli.specs.{Feeding.Finishes, Feeding.GoesOn, Feeding.IsAt, Feeding.Standing, Script.ScriptStart, Script.answers_before, Script.events_of, Script.line_ends, Script.script_start, Script.with_events, Service.EndsAs, Service.IsHistory, Service.IsSameBefore, Service.events_by}
-use Rattle.cred_cli.specs.{Calls.Call, History.book_at, Outcome.IsAnsweredAs, Prompt.HasFewer, Prompt.IsPrompt, Prompt.IsPromptAt, Prompt.left_length, Watched.Reading, Watched.Writing, declared.event.Event.Event, declared.fault.ScriptFault.ScriptFault, declared.policy.Policy.Policy}
-use Rattle.cred_cli.proofs.{Fronts.stands_front, Lines.line_ends_longer, Readings.HasCome, Readings.cut_behind, Readings.if_known}
+use Rattle.cred_cli.specs.{Feeding.Finishes, Feeding.GoesOn, Feeding.IsAt, Feeding.Standing, Script.ScriptStart, Script.answers_before, Script.events_of, Script.line_ends, Script.script_start, Scripts.ScriptEnds}
+use Rattle.cred_cli.specs.{Calls.Call, History.book_at, Outcome.IsAnswered, Prompt.HasFewer, Prompt.IsPrompt, Prompt.IsPromptAt, Prompt.left_length, Watched.Reading, Watched.Writing, declared.fault.ScriptFault.ScriptFault}
+use Rattle.cred_cli.proofs.Readings.{HasCome, cut_behind, if_known}
 
 -- ---- while a script is read
 
 -- a script is read so far, and each call on its reader was prompt
-pub record IsReadTo (policy : Policy) (capacity : ℕ) (script : ScriptStart) (name : ℕ) (left : Option (List ℕ)) (s : Standing) (calls : List Call) : Type 0 where
+pub record IsReadTo (capacity : ℕ) (script : ScriptStart) (name : ℕ) (left : Option (List ℕ)) (s : Standing) (calls : List Call) : Type 0 where
   pub front : List ℕ
   pub rest : List ℕ
   pub cut : script.bytes ≡ front ++ rest
   pub left_is : left ≡ Some rest
-  pub events : List Event
-  pub at : IsAt policy capacity (with_events script events) front s
-  -- whatever the lines behind it come to
-  pub prompt : (later : List Event) → IsSameBefore (line_ends front) events later → IsPrompt capacity (with_events script later) name calls
+  pub at : IsAt capacity script front s
+  pub prompt : IsPrompt capacity script name calls
   pub fewer : HasFewer (Some rest) calls
 
 -- the reader was not called yet
-pub read_to_start : (policy : Policy) (capacity : ℕ) (script : ScriptStart) (name : ℕ) (left : Option (List ℕ)) (s : Standing) (calls : List Call) → left ≡ Some script.bytes → IsAt policy capacity script [] s → calls ≡ [] → IsReadTo policy capacity script name left s calls
-read_to_start policy capacity script name left s calls known at none = record {
+pub read_to_start : (capacity : ℕ) (script : ScriptStart) (name : ℕ) (left : Option (List ℕ)) (s : Standing) (calls : List Call) → left ≡ Some script.bytes → IsAt capacity script [] s → calls ≡ [] → IsReadTo capacity script name left s calls
+read_to_start capacity script name left s calls known at none = record {
   front = [];
   rest = script.bytes;
   cut = refl;
   left_is = known;
-  events = script.events;
   at = at;
-  prompt = λ later same. rw none tt;
+  prompt = rw none tt;
   fewer = rw none tt;
 }
 
@@ -43,49 +40,39 @@ pub record IsCalled (left : Option (List ℕ)) (name : ℕ) (s : Standing) (earl
   pub written_is : call.written ≡ s.written
   pub accounts_are : call.accounts ≡ s.accounts
 
-module _ {policy : Policy} {capacity : ℕ} {script : ScriptStart} {name : ℕ} {left : Option (List ℕ)} {s : Standing} {earlier calls : List Call} (read : IsReadTo policy capacity script name left s earlier)
-    (called : IsCalled left name s earlier calls) where
+module _ {capacity : ℕ} {script : ScriptStart} {name : ℕ} {left : Option (List ℕ)} {s : Standing} {earlier calls : List Call} (read : IsReadTo capacity script name left s earlier) (called : IsCalled left name s earlier calls) where
   -- it is prompt, whatever comes of it
-  pub prompt_call : (later : List Event) → IsSameBefore (line_ends read.front) read.events later → IsPrompt capacity (with_events script later) name calls
-  prompt_call later same =
-      let stands = stands_front capacity script.book read.events later (line_ends read.front) same script.before s.written s.accounts read.at.place.0.stands in
-      rw called.are (
-        record { front = read.front; came = rw (called.left_is, read.left_is) read.cut; beside = called.beside_is; stands = rw (called.written_is, called.accounts_are) stands },
-        rw (called.left_is, read.left_is) read.fewer,
-        read.prompt later same,
-      )
+  pub prompt_call : IsPrompt capacity script name calls
+  prompt_call = rw called.are (
+    record { front = read.front; came = rw (called.left_is, read.left_is) read.cut; beside = called.beside_is; stands = rw (called.written_is, called.accounts_are) read.at.place.stands },
+    rw (called.left_is, read.left_is) read.fewer,
+    read.prompt,
+  )
 
   -- and where it gave bytes that are taken, the script is read behind them
   pub read_on : {now : Option (List ℕ)} {new : Standing} (bytes : List ℕ) → HasCome read.rest bytes now → 0 < length bytes
-      → GoesOn {A = Unit {0}} policy capacity (with_events script read.events) (line_ends read.front) (λ after _. IsAt policy capacity after (read.front ++ bytes) new) s new (Ok tt) → IsReadTo policy capacity script name now new calls
+      → GoesOn {A = Unit {0}} capacity script (λ _. IsAt capacity script (read.front ++ bytes) new) new (Ok tt) → IsReadTo capacity script name now new calls
   read_on bytes more some fed = record {
     front = read.front ++ bytes;
     rest = more.left;
     cut = cut_behind script.bytes read.front read.rest bytes more.left read.cut more.cut;
     left_is = more.now_is;
-    events = fed.events;
     at = fed.ended;
-    prompt = λ later same. prompt_call later (λ j before. same j (omega (arith, before, line_ends_longer read.front bytes)) ∙ fed.same j before);
+    prompt = prompt_call;
     fewer = rw (called.are, called.left_is, read.left_is) (omega (arith, some, ap length more.cut, length-append bytes more.left));
   }
 
   -- a fault comes of it
-  pub run_breaks : {A : Type 0} {new : Standing} {done : ScriptStart → A → Type 0} (r : Reading) (w : Writing) (e : ScriptFault) → r.log ≡ calls → w.name ≡ name → w.now ≡ new.written
-      → GoesOn policy capacity (with_events script read.events) (line_ends read.front) done s new (Err e)
-      → (events : List Event) × IsHistory policy.mode capacity script.book (events_by policy.mode policy.most script.bytes) events × EndsAs s.progress.limit capacity (with_events script events) r w new.accounts (Err e)
-  run_breaks r w e log named now broken = (
-    broken.events,
-    broken.history,
-    record { done = tt; fault = rw now (broken.ended r.left); short = tt; prompt = rw (named, log) (prompt_call broken.events broken.same) },
-  )
+  pub run_breaks : {A : Type 0} {new : Standing} {done : A → Type 0} (r : Reading) (w : Writing) (e : ScriptFault) → r.log ≡ calls → w.name ≡ name → w.now ≡ new.written
+      → GoesOn capacity script done new (Err e) → ScriptEnds capacity script r w new.accounts (Err e)
+  run_breaks r w e log named now broken = record { done = tt; fault = rw now (broken.ended r.left); short = tt; prompt = rw (named, log) prompt_call }
 
 -- the end was met, and the last line is answered
-pub run_ends : {policy : Policy} {capacity : ℕ} {script : ScriptStart} {name : ℕ} {left : Option (List ℕ)} {s new : Standing} {earlier : List Call} {r : Result ℕ ScriptFault} (read : IsReadTo policy capacity script name left s earlier)
-    → read.rest ≡ [] → Finishes policy capacity s new r
-    → GoesOn policy capacity (with_events script read.events) (line_ends read.front) (λ after lines. IsAnsweredAs capacity after new.written new.accounts lines) s new r
+pub run_ends : {capacity : ℕ} {script : ScriptStart} {name : ℕ} {left : Option (List ℕ)} {s new : Standing} {earlier : List Call} {r : Result ℕ ScriptFault} (read : IsReadTo capacity script name left s earlier)
+    → read.rest ≡ [] → Finishes capacity s new r → GoesOn capacity script (λ lines. IsAnswered capacity script new.written new.accounts lines) new r
 run_ends {script = script} read none finishes =
     let whole : read.front ≡ script.bytes = sym (rw (none, append-nil) at read.cut) in
-    rw whole (finishes (with_events script read.events) (rw whole at read.at))
+    finishes script (rw whole at read.at)
 
 -- no call was made, and so none too early
 pub no_calls : (capacity : ℕ) (book : Accounts) (name : ℕ) (before known : Option (List ℕ)) (calls : List Call) → calls ≡ [] → IfSome known (λ bytes. IsPrompt capacity (script_start book bytes before) name calls)

@@ -3,8 +3,8 @@ use Rattle.std.proofs.Common.{◌≡◌, ℕ, ◌-◌, replicate, List, [], ◌+
 use Rattle.std.proofs.{KnownBytes.Appends-nil, lemmas.List.get_or-replicate, lemmas.List.length-replicate}
 use Rattle.std.specs.Io.KnownBytes.{Consumes, IsAtEnd, Keeps}
 use Rattle.cred_book.specs.{Accounts.Accounts, Works.Task}
-use Rattle.cred_cli.specs.{declared.progress.Progress.Progress, declared.event.Event.Event, Feeding.IsAt, Outcome.StandsAfter, Script.answers_before, Script.start_as, Service.events_by, declared.policy.Policy.Policy}
-use Rattle.cred_cli.proofs.{Openings.open_at-zero, Names.book_at-zero, StarvedCommits.history_asked}
+use Rattle.cred_cli.specs.{declared.progress.Progress.Progress, declared.event.Event.Event, Feeding.IsAt, Outcome.StandsAfter, Script.answers_before, Script.events_of, Script.script_start}
+use Rattle.cred_cli.proofs.{Openings.open_at-zero, Names.book_at-zero}
 
 pub nothing_done : (capacity : ℕ) (book : Accounts) (events : List Event) (before : Option (List ℕ)) → StandsAfter capacity book events 0 before before book
 unfolding answers_before
@@ -14,20 +14,16 @@ nothing_done capacity book events before = record {
 }
 
 -- no byte was taken
-pub opening : (policy : Policy) (capacity : ℕ) (book : Accounts) (all : List ℕ) (before : Option (List ℕ)) (slots : List (Option Task)) (progress : Progress) → slots ≡ replicate 64 None → progress.start ≡ [] → progress.lines ≡ 0 → progress.taken ≡ 0 →
-    IsAt policy capacity (start_as book all before (events_by policy.mode policy.most all)) [] (record { written = before; accounts = book; slots = slots; progress = progress })
-opening policy capacity book all before slots progress empty start lines taken = record {
-  place = (
-    record {
-      history = history_asked policy.mode capacity book (events_by policy.mode policy.most all);
-      stands = nothing_done capacity book (events_by policy.mode policy.most all) before;
-      tickets = record {
-        size = rw empty (length-replicate {A = Option Task} 64 None);
-        each = λ key low high. rw (open_at-zero capacity book (events_by policy.mode policy.most all) key, empty, get_or-replicate {A = Option Task} 64 (key - 1) None None (omega (arith, low, high))) tt;
-      };
-    },
-    λ i after. refl,
-  );
+pub opening : (capacity : ℕ) (book : Accounts) (all : List ℕ) (before : Option (List ℕ)) (slots : List (Option Task)) (progress : Progress) → slots ≡ replicate 64 None → progress.start ≡ [] → progress.lines ≡ 0 → progress.taken ≡ 0 →
+    IsAt capacity (script_start book all before) [] (record { written = before; accounts = book; slots = slots; progress = progress })
+opening capacity book all before slots progress empty start lines taken = record {
+  place = record {
+    stands = nothing_done capacity book (events_of all) before;
+    tickets = record {
+      size = rw empty (length-replicate {A = Option Task} 64 None);
+      each = λ key low high. rw (open_at-zero capacity book (events_of all) key, empty, get_or-replicate {A = Option Task} 64 (key - 1) None None (omega (arith, low, high))) tt;
+    };
+  };
   lines_are = lines;
   start_is = start;
   taken_is = taken;

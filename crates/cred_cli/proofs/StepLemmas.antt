@@ -1,10 +1,10 @@
 -- What a begin and a commit do, step by step.
-use Rattle.std.proofs.{Common.◌≡◌, Common.ℕ, Common.◌-◌, Common.List, Common.Option, Common.Some, Common.None, Common.Ok, Common.true, Common.false, Common.is_some, Common.set, Common.refl, Common.sym, Common.ap, Common.◌∙◌, lemmas.Bool.false_from_ne_true, lemmas.List.set-get_or, lemmas.List.set-set}
+use Rattle.std.proofs.{Common.◌≡◌, Common.ℕ, Common.◌-◌, Common.List, Common.Option, Common.Some, Common.None, Common.Ok, Common.true, Common.false, Common.is_some, Common.set, Common.refl, Common.sym, Common.ap, Common.◌∙◌, lemmas.List.set-get_or}
 use Rattle.cred_phc.specs.Values.{RecordValue}
-use Rattle.cred_book.specs.{Accounts.Accounts, Commits.Begins, Commits.Commits, Commits.commit_outcome, Works.Task, Works.name_of, Works.same, declared.reply.Reply.Reply, declared.request.Request.Request}
+use Rattle.cred_book.specs.{Accounts.Accounts, Commits.Begins, Commits.Commits, Commits.commit_outcome, Works.Task, Works.name_of, declared.reply.Reply.Reply, declared.request.Request.Request}
 use Rattle.cred_cli.specs.{Answers.IsDone, Answers.line_bytes, History.Answer, History.Begun, History.Refused, Texts.line_of, Texts.reply_line, declared.answer.AnswerLine.AnswerLine}
 use Rattle.cred_cli.specs.{Steps.Step, Steps.stay, Steps.slot, Steps.begin_step, Steps.begin_step_at, Steps.commit_step, Steps.reply_answer, declared.refusal.Refusal.TheVariants.Book, declared.refusal.Refusal.TheVariants.Busy, declared.refusal.Refusal.TheVariants.Idle}
-use Rattle.cred_book.proofs.{Commitments.committed_found, Equality.same-Decides, Rows.no_some}
+use Rattle.cred_book.proofs.Rows.{no_some}
 use Rattle.cred_cli.proofs.Simulation.{begun-at, committing-at}
 use Rattle.std.specs.FinMap as map
 use Rattle.cred_book.specs.declared.error.BookError.TheVariants as error
@@ -43,17 +43,6 @@ pub commits_done : (old new : Accounts) (slots left : List (Option Task)) (key :
 commits_done old new slots left key task work reply some closed is commits =
     let done : commit_outcome old task ≡ (reply, new) = ap (commit_outcome old) (sym is) ∙ sym commits in
     committing-at old slots key (Some task) (sym some) ∙ ap (λ c. record { answer = reply_answer c.0; book = c.1; slots = set slots (key - 1) None }) done ∙ ap (λ s. record { answer = reply_answer reply; book = new; slots = s }) (sym closed)
-
-pub commits_changed : (book : Accounts) (slots left : List (Option Task)) (key : ℕ) (task : Task) (now : Option RecordValue) → slot slots key ≡ Some task → left ≡ set slots (key - 1) None → map.get book (name_of task.0) ≡ Some now →
-    (now ≡ task.1 → ⊥) → commit_step book slots key ≡ record { answer = reply_answer (reply.Changed now); book = book; slots = left }
-commits_changed book slots left key task now some closed found other =
-    let done : commit_outcome book task ≡ (reply.Changed now, book) = committed_found book task (name_of task.0) refl (Some now) found ∙ rw (false_from_ne_true (same now task.1) (λ e. other ((same-Decides now task.1).0 e))) refl in
-    committing-at book slots key (Some task) some ∙ ap (λ c. record { answer = reply_answer c.0; book = c.1; slots = set slots (key - 1) None }) done ∙ ap (λ s. record { answer = reply_answer (reply.Changed now); book = book; slots = s }) (sym closed)
-
--- a ticket that is taken out and put back
-pub opened_again : (slots left back : List (Option Task)) (key : ℕ) (task : Task) → slot slots key ≡ Some task → left ≡ set slots (key - 1) None → back ≡ set left (key - 1) (Some task) → back ≡ slots
-opened_again slots left back key task some closed again =
-    again ∙ ap (λ s. set s (key - 1) (Some task)) closed ∙ set-set slots (key - 1) None (Some task) ∙ ap (set slots (key - 1)) (sym some) ∙ set-get_or slots (key - 1) None
 
 -- a reply's line is that of its answer
 pub line_of_reply : (r : Reply) → reply_line r ≡ line_of (reply_answer r)

@@ -25,7 +25,8 @@ pub record RunsWhole (r : Reading) (w : Writing) : Type 0 where
 -- or it met a fault, and its book is let go
 pub record RunFails (r : Reading) (w : Writing) (fault : ScriptFault) : Type 0 where
   pub stands : IfSome r.input (λ bytes. (accounts : Accounts)
-      × ScriptFails most_accounts map.empty bytes r.left w.before w.now accounts fault)
+      × ScriptFails most_accounts (script_start map.empty bytes w.before) r.left w.now accounts
+      fault)
   pub cause : HasCause r.failed w.failed fault
   pub prompt : RunsPrompt r w
 

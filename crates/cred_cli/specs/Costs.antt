@@ -1,11 +1,10 @@
--- How much memory and work hashes take, and which lines bring a setting or a record that asks for
--- more than is allowed.
-use Rattle.std.specs.Prelude.{ℕ, ◌+◌, ◌*◌, ◌/◌, ◌^◌, Bool, false, ◌||◌, if◌then◌else◌, nat_lt, List, Option, Some, None, map}
+-- How much memory and work hashes take, and which settings and requests ask for more than is
+-- allowed.
+use Rattle.std.specs.Prelude.{ℕ, ◌+◌, ◌*◌, ◌/◌, ◌^◌, Bool, false, ◌||◌, nat_lt, Option, Some, None}
 use Rattle.cred_phc.specs.{declared.scheme.Scheme.Scheme, declared.scheme.Scheme.TheVariants.Argon2, declared.scheme.Scheme.TheVariants.Scrypt}
 use Rattle.cred_book.specs.declared.request.Request.{Request}
 use Rattle.cred_book.specs.declared.request.Request.TheVariants.{Enrol, Verify, Change, Upgrade, Remove}
-use Rattle.cred_cli.specs.{Script.events_of, declared.costs.CostBounds.CostBounds, declared.event.Event.Event, declared.refusal.Refusal.TheVariants.Costly}
-use Rattle.cred_cli.specs.declared.event.Event.TheVariants.{Load, Begin, Bad}
+use Rattle.cred_cli.specs.declared.costs.CostBounds.{CostBounds}
 
 -- the KiB of so many tables of scrypt's, rounded up: each has 128 r 2^ln bytes (RFC 7914, section
 -- 5)
@@ -50,17 +49,3 @@ request_exceeds most (Change name pw new setting) = exceeds most setting.scheme
 request_exceeds most (Upgrade name pw setting) = exceeds most setting.scheme
 request_exceeds most (Verify name pw) = false
 request_exceeds most (Remove name pw) = false
-
--- the setting or the record that a line brings does
-abbrev pub is_costly : CostBounds → Event → Bool
-is_costly most (Load name stored) = exceeds most stored.setting.scheme
-is_costly most (Begin key request) = request_exceeds most request
-is_costly most _ = false
-
--- such a line is refused
-abbrev pub within : CostBounds → Event → Event
-within most event = if is_costly most event then Bad Costly else event
-
--- what the lines of these bytes come to, within the bounds
-abbrev pub events_within : CostBounds → List ℕ → List Event
-events_within most bytes = map (within most) (events_of bytes)

@@ -16,7 +16,6 @@ pub mod Prompt
 pub mod Refusals
 pub mod Script
 pub mod Scripts
-pub mod Service
 pub mod Steps
 pub mod Texts
 pub mod Tickets

@@ -1,7 +1,7 @@
 -- What stands whenever more of a script is asked for.
 use Rattle.std.specs.Prelude.{◌≡◌, ℕ, ◌<◌, Option, Some, None, List, [], ◌∷◌, length}
 use Rattle.std.specs.Io.KnownBytes.{Consumes}
-use Rattle.cred_cli.specs.{Calls.Call, Outcome.StandsAfter, Script.ScriptStart, Script.line_ends}
+use Rattle.cred_cli.specs.{Calls.Call, Outcome.StandsAfter, Script.ScriptStart, Script.events_of, Script.line_ends}
 
 -- As the call was made, each whole line of the bytes that had come was done and answered, and
 -- nothing else was: the keeper's book is the one after them, and the writer of this name holds
@@ -10,7 +10,7 @@ pub record IsPromptAt (capacity : ℕ) (script : ScriptStart) (name : ℕ) (call
   pub front : List ℕ
   pub came : Consumes (Some script.bytes) call.left front
   pub beside : call.beside ≡ name
-  pub stands : StandsAfter capacity script.book script.events (line_ends front)
+  pub stands : StandsAfter capacity script.book (events_of script.bytes) (line_ends front)
       script.before call.written call.accounts
 
 -- how many bytes are left, as far as that is known

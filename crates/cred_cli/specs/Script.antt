@@ -1,5 +1,5 @@
 -- What a script is answered.
-use Rattle.std.specs.Prelude.{ℕ, zero, suc, ◌==◌, if◌then◌else◌, List, [], ◌∷◌, ◌++◌, length, map, Option, drop, take}
+use Rattle.std.specs.Prelude.{ℕ, zero, suc, ◌==◌, if◌then◌else◌, List, [], ◌∷◌, ◌++◌, length, map, Option}
 use Rattle.cred_book.specs.Accounts.{Accounts}
 use Rattle.cred_cli.specs.{declared.event.Event.Event, Events.event_of, History.answer_at, Texts.line_of}
 
@@ -15,25 +15,14 @@ lines_of (c ∷ cs) = if c == 10 then [] ∷ lines_of cs else onto_first c (line
 abbrev pub events_of : List ℕ → List Event
 events_of bytes = map event_of (lines_of bytes)
 
--- a script at its start: the book, its bytes, what was written before it, and the events that its
--- lines come to
+-- a script at its start: the book, its bytes, and what was written before it
 pub record ScriptStart : Type 0 where
   pub book : Accounts
   pub bytes : List ℕ
   pub before : Option (List ℕ)
-  pub events : List Event
 
-abbrev pub start_as : Accounts → List ℕ → Option (List ℕ) → List Event → ScriptStart
-start_as book bytes before events =
-    record { book = book; bytes = bytes; before = before; events = events }
-
--- each line comes to what it asks for
 abbrev pub script_start : Accounts → List ℕ → Option (List ℕ) → ScriptStart
-script_start book bytes before = start_as book bytes before (events_of bytes)
-
--- its lines come to other events
-abbrev pub with_events : ScriptStart → List Event → ScriptStart
-with_events script events = start_as script.book script.bytes script.before events
+script_start book bytes before = record { book = book; bytes = bytes; before = before }
 
 -- the answers to the first events, a line each
 unfoldable pub answers_before : ℕ → Accounts → List Event → ℕ → List ℕ
@@ -49,8 +38,3 @@ out capacity book bytes = answers_before capacity book (events_of bytes) (length
 abbrev pub line_ends : List ℕ → ℕ
 line_ends [] = 0
 line_ends (c ∷ cs) = if c == 10 then suc (line_ends cs) else line_ends cs
-
--- what the lines of these bytes come to, of which the last one comes to something else if it has no
--- end
-unfoldable pub with_unended : {A : Type 0} → (A → A) → List ℕ → List A → List A
-with_unended f bytes lines = take (line_ends bytes) lines ++ map f (drop (line_ends bytes) lines)

@@ -2,9 +2,18 @@
 use Rattle.std.specs.Prelude.{◌≡◌, ℕ, ◌+◌, ◌≤◌, true, List, ◌++◌, Option, Some, length, IfErr, IfOk, IfSome, OnOk, Result}
 use Rattle.cred_book.specs.Accounts.{Accounts}
 use Rattle.cred_cli.specs.{Outcome.HasCause, Outcome.IsAnswered, Outcome.ScriptFails, Outcome.longest_script, Outcome.most_calls, Prompt.IsPrompt}
-use Rattle.cred_cli.specs.{Script.out, Script.script_start, Service.EndsAs, declared.fault.ScriptFault.ScriptFault, declared.script.End.End}
-use Rattle.cred_cli.specs.Watched.{GivesAsContracted, IsLogged, MayFollow, TakesAsContracted, calls_of, ended_of, failed_of, given_of, inner_of, log_of, name_of, taken_of, transcript_reading, transcript_writing}
+use Rattle.cred_cli.specs.{Script.ScriptStart, Script.out, Script.script_start, declared.fault.ScriptFault.ScriptFault, declared.script.End.End}
+use Rattle.cred_cli.specs.Watched.{GivesAsContracted, IsLogged, MayFollow, Reading, TakesAsContracted, Writing, calls_of, ended_of, failed_of, given_of, inner_of, log_of, name_of, taken_of, transcript_reading, transcript_writing}
 use Rattle.cred_cli.specs.{declared.watched.Watched.Watched}
+
+-- How a script ended: all its lines were answered, or a fault was met; and whenever more was asked
+-- for, what had come was answered.
+pub record ScriptEnds (capacity : ℕ) (script : ScriptStart) (r : Reading) (w : Writing)
+    (new : Accounts) (result : Result End ScriptFault) : Type 0 where
+  pub done : IfOk result (λ end. IsAnswered capacity script w.now new end.lines)
+  pub fault : IfErr result (ScriptFails capacity script r.left w.now new)
+  pub short : OnOk result (length script.bytes ≤ longest_script)
+  pub prompt : IsPrompt capacity script w.name r.log
 
 -- what a run works on: the keeper's book, its reader and its writer
 pub record RunState (R W : Type 0) : Type 0 where
@@ -22,15 +31,15 @@ pub record RunsScript {R W : Type 0} (capacity : ℕ) (remaining : R → Option 
     : Type 0 where
   -- of the bytes that the contracts name: each line is answered
   pub done : IfOk result (λ end. IfSome (remaining (inner_of old.reader)) (λ bytes.
-      IsAnswered capacity old.book bytes (contents (inner_of old.writer))
+      IsAnswered capacity (script_start old.book bytes (contents (inner_of old.writer)))
       (contents (inner_of new.writer)) new.book end.lines))
   -- and they are at most so many
   pub short : OnOk result
       (IfSome (remaining (inner_of old.reader)) (λ bytes. length bytes ≤ longest_script))
   -- or what stands after the fault
   pub fault : IfErr result (λ fault. IfSome (remaining (inner_of old.reader)) (λ bytes.
-      ScriptFails capacity old.book bytes (remaining (inner_of new.reader))
-      (contents (inner_of old.writer)) (contents (inner_of new.writer)) new.book fault))
+      ScriptFails capacity (script_start old.book bytes (contents (inner_of old.writer)))
+      (remaining (inner_of new.reader)) (contents (inner_of new.writer)) new.book fault))
   -- whenever the reader was called, what had come was answered
   pub prompt : IfSome (remaining (inner_of old.reader)) (λ bytes. IsPrompt capacity
       (script_start old.book bytes (contents (inner_of old.writer)))
@@ -44,7 +53,7 @@ pub record RunsScript {R W : Type 0} (capacity : ℕ) (remaining : R → Option 
   pub end : OnOk result (ended_of new.reader ≡ true)
   -- whatever else may come, `done`, `short`, `fault` and `prompt` hold of all that the reader gives
   pub transcript : (rest : List ℕ) → MayFollow rest new.reader
-      → EndsAs longest_script capacity (script_start old.book
+      → ScriptEnds capacity (script_start old.book
       (given_of new.reader ++ rest) (Some (taken_of old.writer)))
       (transcript_reading rest new.reader) (transcript_writing old.writer new.writer)
       new.book result

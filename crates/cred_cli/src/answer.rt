@@ -1,26 +1,26 @@
 //! The effect of an event, and the line that answers it.
 
-ghost use Rattle.std.specs.Prelude.{◌≡◌, ◌↔◌, ◌-◌, IfErr, IfOk, IsTrue, List, None, OnOk, OnErr, Option, Some, slice_set, true};
+ghost use Rattle.std.specs.Prelude.{◌≡◌, IfErr, IfOk, OnOk, OnErr, Some, true};
 ghost use Rattle.std.specs.Io.KnownBytes.{Appends};
-ghost use Rattle.cred_book.specs.Works.{Task, is_for_current};
-ghost use Rattle.cred_cli.specs.{Answers.IsDone, Answers.IsDoneOrStarved, Answers.line_bytes, Events.IsSound, History.Done, History.Refused, History.Shown};
-ghost use Rattle.cred_cli.specs.{Service.hashes, Steps.WriteFails, Steps.begin_step, Steps.slot, Texts.line_of, Texts.reply_line};
-ghost use Rattle.cred_cli.specs.{declared.event.Event.TheVariants.Commit, Watched.Basis, Watched.IsWritten, Watched.failed_of, Watched.held_on};
+ghost use Rattle.cred_book.specs.Works.{is_for_current};
+ghost use Rattle.cred_cli.specs.{Answers.IsDone, Answers.line_bytes, Events.IsSound, History.Done, History.Refused, History.Shown};
+ghost use Rattle.cred_cli.specs.{Steps.WriteFails, Steps.begin_step, Steps.commit_step, Steps.step, Texts.line_of, Texts.reply_line};
+ghost use Rattle.cred_cli.specs.Watched.{Basis, IsWritten, failed_of, held_on};
 
 use crate::event::Event;
 use crate::fault::ScriptFault;
-use crate::keeper_by::KeeperBy;
 use crate::key::Key;
-use crate::policy::{Engine, Mode};
 use crate::refusal::Refusal;
 use crate::tickets::Tickets;
+use crate::tools::Tools;
 use crate::watched::Watched;
 use crate::writing::write_whole;
-use cred_book::{BookError, Keeper, Reply, Request, Ticket};
+use cred_book::{BookError, Keeper, Reply, Request};
 use cred_phc::{Record, write_record};
 use cred_pool::NoGate;
 use std::alloc::{AllocError, Global};
 use std::io::Write;
+use std::sync::Wait;
 use std::thread::Threads;
 
 /// The bytes of an answer with its line end. Only a record's text is allocated; the others are
@@ -74,33 +74,33 @@ impl AnswerLine {
 }
 
 /// Applies the event to the keeper's book and the open tickets. Without memory the book stays.
-pub(crate) fn do_event<Way, T: Threads + Sync, K: KeeperBy<Way, T>>(
-    engine: &Engine<'_, T>,
+pub(crate) fn do_event<T: Threads + Wait + Sync, K: Keeper>(
+    tools: &Tools<'_, T>,
     keeper: &mut K,
     tickets: &mut Tickets,
     event: Event,
 ) -> Result<AnswerLine, AllocError>
     requires { IsSound event }
-    ensures done { IfOk result (IsDoneOrStarved engine.now.policy.mode K.capacity
-        (K.book keeper.old) tickets.old event (K.book keeper.new) tickets.new) }
+    ensures done { IfOk result (IsDone (step K.capacity (K.book keeper.old) tickets.old event)
+        (K.book keeper.new) tickets.new) }
     ensures refused { OnErr result (K.book keeper.new ≡ K.book keeper.old) }
 {
     match event {
-        Event::Account(name) => match keeper.admit_by(engine.tools.rt, name) {
+        Event::Account(name) => match keeper.admit(tools.rt, name) {
             Ok(()) => Ok(AnswerLine::Fixed(b"ok\n")),
             Err(refusal) => refused(refusal),
         },
-        Event::Load(name, stored) => match keeper.load_by(engine.tools.rt, &name, stored) {
+        Event::Load(name, stored) => match keeper.load(tools.rt, &name, stored) {
             Ok(()) => Ok(AnswerLine::Fixed(b"ok\n")),
             Err(refusal) => refused(refusal),
         },
         Event::Show(name) => match keeper.show(&name) {
             Ok(None) => Ok(AnswerLine::Fixed(b"none\n")),
-            Ok(Some(stored)) => AnswerLine::shown(engine.tools.alloc, &stored),
+            Ok(Some(stored)) => AnswerLine::shown(tools.alloc, &stored),
             Err(refusal) => refused(refusal),
         },
         Event::Begin(key, request) => Ok(begin(keeper, tickets, key, request)),
-        Event::Commit(key) => commit(engine, keeper, tickets, key),
+        Event::Commit(key) => commit(tools, keeper, tickets, key),
         Event::Bad(why) => Ok(AnswerLine::bad(why)),
     }
 }
@@ -122,75 +122,26 @@ fn begin<K: Keeper>(keeper: &K, tickets: &mut Tickets, key: Key, request: Reques
     }
 }
 
-fn commit<Way, T: Threads + Sync, K: KeeperBy<Way, T>>(
-    engine: &Engine<'_, T>,
+fn commit<T: Threads + Wait + Sync, K: Keeper>(
+    tools: &Tools<'_, T>,
     keeper: &mut K,
     tickets: &mut Tickets,
     key: Key,
 ) -> Result<AnswerLine, AllocError>
-    ensures done { IfOk result (IsDoneOrStarved engine.now.policy.mode K.capacity
-        (K.book keeper.old) tickets.old (Commit key) (K.book keeper.new) tickets.new) }
+    ensures done { IfOk result (IsDone (commit_step (K.book keeper.old) tickets.old key)
+        (K.book keeper.new) tickets.new) }
     ensures refused { OnErr result (K.book keeper.new ≡ K.book keeper.old) }
 {
     let Some(ticket) = tickets.close(key) else {
         return Ok(AnswerLine::bad(Refusal::Idle));
     };
-    let tools = engine.tools;
-    let worked = match ticket.work(tools.rt, tools.alloc, tools.workers, &NoGate) {
-        Ok(worked) => worked,
-        Err(ticket) => return starve(engine.policy.mode, keeper, tickets, key, ticket),
+    let Ok(worked) = ticket.work(tools.rt, tools.alloc, tools.workers, &NoGate) else {
+        return Err(AllocError);
     };
-    let Ok(reply) = keeper.commit_by(tools.rt, worked) else {
+    let Ok(reply) = keeper.commit(tools.rt, worked) else {
         return Err(AllocError);
     };
     Ok(AnswerLine::Fixed(reply_line(&reply)))
-}
-
-/// Answers a commit for whose hash memory ran out. If the account has another record by now, the
-/// answer needs no hash.
-fn starve<K: Keeper>(
-    mode: Mode,
-    keeper: &K,
-    tickets: &mut Tickets,
-    key: Key,
-    ticket: Ticket,
-) -> Result<AnswerLine, AllocError>
-    ensures { IfOk result (λ line. (slots : List (Option Task)) → slot slots key ≡ Some ticket
-        → tickets.old ≡ slice_set slots (key - 1) None
-        → IsDoneOrStarved mode K.capacity (K.book keeper.now) slots (Commit key)
-        (K.book keeper.now) tickets.new line) }
-{
-    if !mode.is_service() {
-        return Err(AllocError);
-    }
-    let request = ticket.request();
-    let Ok(now) = keeper.show(&request.name()) else {
-        return Err(AllocError);
-    };
-    if !is_equal(&now, &ticket.copy()) {
-        return Ok(AnswerLine::Fixed(reply_line(&Reply::Changed { now })));
-    }
-    if !hashes(&request, &now) {
-        return Err(AllocError);
-    }
-    tickets.open(key, ticket);
-    Ok(AnswerLine::bad(Refusal::Book(BookError::Memory)))
-}
-
-fn is_equal(a: &Option<Record>, b: &Option<Record>) -> bool
-    ensures { IsTrue result ↔ (a.now ≡ b.now) }
-{
-    *a == *b
-}
-
-/// Whether the whole operation at this record hashes.
-fn hashes(request: &Request, stored: &Option<Record>) -> bool
-    ensures { result ≡ hashes request.now stored.now }
-{
-    match request {
-        Request::Enrol { .. } => stored.is_none(),
-        _ => stored.is_some(),
-    }
 }
 
 /// The reply's word with the line end. The text is a constant, so that a change needs no memory for

@@ -3,10 +3,8 @@
 ghost use Rattle.std.specs.Prelude.{◌≡◌, IfOk, length, map, nat_lt, take, true};
 ghost use Rattle.cred_phc.specs.Pieces.{pieces};
 ghost use Rattle.cred_book.specs.Works.{is_for_current};
-ghost use Rattle.cred_cli.specs.Costs.{is_costly, within};
 ghost use Rattle.cred_cli.specs.Events.{IsSound, begin_event, begun, commit_event, event_of, event_of_pieces, is_line, longest_line, most_pieces};
 
-use crate::costs::{CostBounds, exceeds, request_exceeds};
 use crate::fields;
 use crate::key::Key;
 use crate::refusal::Refusal;
@@ -44,29 +42,6 @@ impl Event {
         match event_of_pieces(&first_pieces(line)) {
             Ok(event) => event,
             Err(why) => Event::Bad(why),
-        }
-    }
-
-    /// The event, or a refusal if its setting or its record needs more memory or work than is
-    /// allowed.
-    pub(crate) fn within(self, most: &CostBounds) -> Event
-        requires { IsSound self }
-        ensures event { result ≡ within most.now self }
-        ensures sound { IsSound result }
-    {
-        if self.is_costly(most) {
-            return Event::Bad(Refusal::Costly);
-        }
-        self
-    }
-
-    fn is_costly(&self, most: &CostBounds) -> bool
-        ensures { result ≡ is_costly most.now self.now }
-    {
-        match self {
-            Event::Load(_, stored) => exceeds(most, &stored.setting()),
-            Event::Begin(_, request) => request_exceeds(most, request),
-            Event::Account(_) | Event::Show(_) | Event::Commit(_) | Event::Bad(_) => false,
         }
     }
 }

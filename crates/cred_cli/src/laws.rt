@@ -1,13 +1,11 @@
 //! Laws of the definitions of a history and of a line, which show that they say what they should.
 
 ghost use Rattle.std.specs.List.{join_with_byte};
-ghost use Rattle.std.specs.Prelude.{◌≡◌, ◌+◌, ◌≤◌, ◌++◌, ◌∷◌, [], ℕ, List, codes, Some, false, length, slice_get, suc, take, true};
+ghost use Rattle.std.specs.Prelude.{◌≡◌, ◌+◌, ◌≤◌, ◌++◌, ℕ, List, Some, length, take};
 ghost use Rattle.cred_book.specs.Accounts.{Accounts};
-ghost use Rattle.cred_cli.specs.{Calls.Call, Costs.is_costly, Costs.within, EventLines.IsLineOf, Events.event_of, Prompt.IsPrompt, Prompt.IsPromptAt};
-ghost use Rattle.cred_cli.specs.History.{answer_at, book_at, deeds_before, is_among, names_at, open_at};
-ghost use Rattle.cred_cli.specs.{Script.ScriptStart, Script.answers_before, Script.events_of, Script.line_ends, Script.script_start, Service.IsStarved};
-ghost use Rattle.cred_cli.specs.{Texts.line_of, declared.costs.CostBounds.CostBounds, declared.event.Event.Event, declared.event.Event.TheVariants.Bad};
-ghost use Rattle.cred_cli.specs.declared.refusal.Refusal.TheVariants.{Costly};
+ghost use Rattle.cred_cli.specs.{Calls.Call, EventLines.IsLineOf, Events.event_of, Prompt.IsPrompt, Prompt.IsPromptAt};
+ghost use Rattle.cred_cli.specs.History.{book_at, deeds_before, is_among, names_at};
+ghost use Rattle.cred_cli.specs.{Script.ScriptStart, Script.answers_before, Script.events_of, Script.line_ends, Script.script_start, declared.event.Event.Event};
 ghost use Rattle.std.specs.FinMap as map;
 
 /// The law that the names that a history counts are those of the book that it leaves, at every
@@ -27,41 +25,6 @@ pub fn names_are_the_books()
 pub fn history_is_a_front()
     ensures { (capacity : ℕ) (book : Accounts) (events : List Event) (j i : ℕ) → j ≤ i
         → take j (deeds_before capacity book events i) ≡ deeds_before capacity book events j }
-{}
-
-/// The law that a starved commit changes nothing: the book stays, and so does each open number,
-/// its own too; and its answer is `bad 4 memory`.
-#[tactic(auto, using(crate::proofs::StarvedCommits::starved_laws))]
-pub fn starved_commits_change_nothing()
-    ensures book { (capacity : ℕ) (book : Accounts) (asked events : List Event) (i : ℕ)
-        → IsStarved capacity book asked events i
-        → book_at capacity book events (suc i) ≡ book_at capacity book events i }
-    ensures open { (capacity : ℕ) (book : Accounts) (asked events : List Event) (i key : ℕ)
-        → IsStarved capacity book asked events i
-        → open_at capacity book events (suc i) key ≡ open_at capacity book events i key }
-    ensures answer { (capacity : ℕ) (book : Accounts) (asked events : List Event) (i : ℕ)
-        → IsStarved capacity book asked events i
-        → line_of (answer_at capacity book events i) ≡ codes "bad 4 memory" ++ 10 ∷ [] }
-{}
-
-/// The law that an event within bounds has no setting or record that needs more, and that a line
-/// with one is refused: the book stays, and so does each open number; and its answer is
-/// `bad 18 costly`.
-#[tactic(auto, using(crate::proofs::Bounds::costly_laws))]
-pub fn costly_lines_change_nothing()
-    ensures within { (most : CostBounds) (event : Event)
-        → is_costly most (within most event) ≡ false }
-    ensures refused { (most : CostBounds) (event : Event) → is_costly most event ≡ true
-        → within most event ≡ Bad Costly }
-    ensures book { (capacity : ℕ) (book : Accounts) (events : List Event) (i : ℕ)
-        → slice_get events i ≡ Some (Bad Costly)
-        → book_at capacity book events (suc i) ≡ book_at capacity book events i }
-    ensures open { (capacity : ℕ) (book : Accounts) (events : List Event) (i key : ℕ)
-        → slice_get events i ≡ Some (Bad Costly)
-        → open_at capacity book events (suc i) key ≡ open_at capacity book events i key }
-    ensures answer { (capacity : ℕ) (book : Accounts) (events : List Event) (i : ℕ)
-        → slice_get events i ≡ Some (Bad Costly)
-        → line_of (answer_at capacity book events i) ≡ codes "bad 18 costly" ++ 10 ∷ [] }
 {}
 
 /// The law that a line that asks for something is its event's word and fields with one space

@@ -1,10 +1,13 @@
 //! The progress of reading a script.
 
 ghost use Rattle.std.specs.Prelude.{◌≡◌, [], ◌∷◌, ◌++◌, ◌≤◌, take};
-ghost use Rattle.cred_cli.specs.{Events.most_kept, Outcome.longest_service};
+ghost use Rattle.cred_cli.specs.{Events.most_kept, Outcome.longest_script};
 
 use crate::event::LONGEST_LINE;
 use std::marker::Model;
+
+/// The longest script in bytes.
+pub(crate) const LONGEST_SCRIPT: u64 = 1048576;
 
 /// The maximum number of bytes that are kept of a line: one more than a good line may have, since a
 /// longer one is refused whatever follows.
@@ -69,27 +72,21 @@ pub(crate) struct Progress {
     pub(crate) lines: u64,
     /// The number of bytes that were taken.
     pub(crate) taken: u64,
-    /// The maximum number of bytes.
-    pub(crate) limit: u64,
 
     ghost fewer_lines: { lines ≤ taken },
-    ghost not_too_long: { taken ≤ limit },
-    ghost countable: { limit ≤ longest_service },
+    ghost not_too_long: { taken ≤ longest_script },
 }
 
 impl Progress {
-    pub(crate) fn new(limit: u64) -> Progress
-        requires { limit ≤ longest_service }
+    pub(crate) fn new() -> Progress
         ensures start { result.start ≡ [] }
         ensures lines { result.lines ≡ 0 }
         ensures taken { result.taken ≡ 0 }
-        ensures limit { result.limit ≡ limit }
     {
         Progress {
             start: LineStart::new(),
             lines: 0,
             taken: 0,
-            limit,
         }
     }
 }

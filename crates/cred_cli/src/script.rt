@@ -2,10 +2,7 @@
 
 ghost use Rattle.cred_cli.specs.{Scripts.RunsScript, Scripts.run_state, Watched.IsNew};
 
-use crate::costs::CostBounds;
 use crate::fault::ScriptFault;
-use crate::keeper_by::{KeeperBy, Waiting};
-use crate::policy::{Engine, Mode, Policy};
 use crate::run::answer_all;
 use crate::tools::Tools;
 use crate::watched::Watched;
@@ -14,9 +11,6 @@ use std::alloc::Global;
 use std::io::{Read, Write};
 use std::sync::Wait;
 use std::thread::Threads;
-
-/// The longest script in bytes.
-const LONGEST_SCRIPT: u64 = 1048576;
 
 /// The end of a script without a fault.
 #[derive(Clone, Copy, Debug, PartialEq, Eq)]
@@ -55,31 +49,5 @@ pub fn run_script<T: Threads + Wait + Sync, K: Keeper, R: Read, W: Write>(
         (run_state (K.book keeper.new) reader.new writer.new) result }
 {
     let tools = Tools { rt, alloc, workers };
-    run_script_by::<Waiting, T, K, R, W>(&tools, keeper, reader, writer)
-}
-
-/// Runs a script as [`run_script`] does, over a keeper whose changes are made in this way.
-///
-/// It waits only where a call of the reader, the writer or the keeper does. So over a keeper whose
-/// changes wait for nobody every body of it returns, and is bound by this.
-pub fn run_script_by<Way, T: Threads + Sync, K: KeeperBy<Way, T>, R: Read, W: Write>(
-    tools: &Tools<'_, T>,
-    keeper: &mut K,
-    reader: &mut Watched<R>,
-    writer: &mut Watched<W>,
-) -> Result<End, ScriptFault>
-    requires new_reader { IsNew reader.old }
-    requires new_writer { IsNew writer.old }
-    ensures { RunsScript K.capacity R.remaining W.contents
-        (run_state (K.book keeper.old) reader.old writer.old)
-        (run_state (K.book keeper.new) reader.new writer.new) result }
-{
-    let engine = Engine {
-        tools,
-        policy: Policy {
-            mode: Mode::Script,
-            most: CostBounds::none(),
-        },
-    };
-    answer_all(&engine, LONGEST_SCRIPT, keeper, reader, writer)
+    answer_all(&tools, keeper, reader, writer)
 }

@@ -82,8 +82,8 @@ abbrev pub Commands : (Result Status Fault → Type 0) → Result Ending Failure
 Commands Holds ended = (r : Result Status Fault) × Holds r × (ended ≡ command_end r)
 
 abbrev pub Performs : Order → Seen → Result Ending Failure → Type 0
-Performs (Account name command) s ended =
-    Commands (Obeys register_capacity name command s) ended
+Performs (Account name operation) s ended =
+    Commands (Obeys register_capacity name operation s) ended
 Performs (Edit edit) s ended =
     Commands (Edits register_capacity s.old s.new edit s.writing) ended
 Performs (DisableShown name) s ended =
@@ -139,5 +139,5 @@ is_unread (Show name detail) = true
 is_unread (ShowJson name detail) = true
 is_unread (Edit edit) = true
 is_unread (DisableShown name) = true
-is_unread (Account name command) = false
+is_unread (Account name operation) = false
 is_unread (Import how) = false

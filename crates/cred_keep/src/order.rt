@@ -9,7 +9,7 @@ use crate::import::{Importing, import};
 use crate::outcome::{Ending, Failure, command_end, import_end};
 use crate::report::{refuse, tell_end};
 use cred_admin::{
-    Command, Detail, Edit, Line, Status, disable_shown, edit_account, list, show, show_json,
+    Detail, Edit, Line, Operation, Status, disable_shown, edit_account, list, show, show_json,
 };
 use cred_book::Name;
 use cred_cli::{Tools, Watched};
@@ -21,8 +21,8 @@ use std::thread::Threads;
 /// An order on a kept book.
 #[derive(Clone, Copy)]
 pub enum Order {
-    /// Does a command on one account, with its passwords.
-    Account { name: Name, command: Command },
+    /// Does an operation on one account, with its passwords.
+    Account { name: Name, operation: Operation },
     /// Disables, deletes, renames, locks, unlocks or expires an account without its password.
     Edit { edit: Edit },
     /// Writes the account's line of a passwd-file, and removes its record without its password.
@@ -94,8 +94,8 @@ fn perform<T: Threads + Sync, S: Alter, R: Read, W: Write>(
     ensures unread { is_unread order.now ≡ true → reader.new ≡ reader.old }
 {
     match order {
-        Order::Account { name, command } => {
-            command_end(command.carry_out(tools, book, name, reader, writer))
+        Order::Account { name, operation } => {
+            command_end(operation.carry_out(tools, book, name, reader, writer))
         }
         Order::Edit { edit } => command_end(edit_account(book, edit, writer)),
         Order::DisableShown { name } => {

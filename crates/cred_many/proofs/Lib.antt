@@ -15,4 +15,5 @@ pub mod Shares
 pub mod Telling
 pub mod Transcripts
 pub mod Turns
+pub mod Unended
 pub mod Uses

@@ -4,10 +4,11 @@ use Rattle.std.proofs.{lemmas.Bool.cases_lt, lemmas.Bool.Decides.eqb_tells, lemm
 use Rattle.std.specs.List.{filter}
 use Rattle.cred_phc.specs.{Pieces.pieces, Values.SettingValue}
 use Rattle.cred_cli.specs.{Events.longest_line, Events.most_kept, Events.most_pieces, Feeding.unfinished_from, Script.line_ends, Script.lines_of, declared.costs.CostBounds.CostBounds}
-use Rattle.cred_cli.proofs.{Feeds.get_seam, Feeds.none_kept, Feeds.some_kept, Feeds.take-kept, Readings.if_known, Unended.ends_sooner, Unended.unended_at, Unended.unended_last}
+use Rattle.cred_cli.proofs.{Feeds.get_seam, Feeds.none_kept, Feeds.some_kept, Feeds.take-kept, Readings.if_known}
 use Rattle.cred_cli.proofs.Lines.{length-whole_from, line_ends-append, line_ends-end, line_ends-more, lines_of-ended, lines_of-line_end, lines_of-unfinished, longer, unfinished_from-end, unfinished_from-more, whole_from}
 use Rattle.cred_many.specs.{Asks.Tagged, Asks.entry_of, Asks.tag_of, Asks.tagged, Asks.tagged_by, Asks.tagged_of, Asks.untagged, Asks.within, Reading.ComesNext, Reading.IsCutLine, Reading.IsWholeLine, Reading.MovesOver, Reading.NothingIsLeft, Reading.Place, Reading.Splits}
 use Rattle.cred_many.specs.Service.{IsLine, Service, asked_from, cut_line, drawn_setting}
+use Rattle.cred_many.proofs.Unended.{ends_sooner, unended_at, unended_last}
 use Rattle.cred_cli.specs.declared.refusal.Refusal.TheVariants as refusal
 
 pub long_read : (drawn : SettingValue) (line : List ℕ) → nat_lt longest_line (length line) ≡ true → untagged refusal.Long ≡ tagged_of drawn line

@@ -1,13 +1,12 @@
 -- How often a record was seen to change.
-use Rattle.std.proofs.Common.{◌≡◌, ℕ, suc, ◌+◌, ◌≤◌, List, [], ◌∷◌, ◌++◌, Option, Some, None, IfSome, subst, Bool, true, false, if◌then◌else◌, refl, sym, ap, ◌∙◌, append_assoc, arith, option_map, set, slice_get}
-use Rattle.std.proofs.{lemmas.Bool.cond_both, lemmas.List.length-set, lemmas.List.map-set, lemmas.List.set-get_or, lemmas.Option.IfSome_then, lemmas.Option.get_or_from_slice_get, lemmas.Option.slice_get-map, lemmas.Option.slice_get_within, lemmas.Slice.Eq.bytes_eq-Decides}
+use Rattle.std.proofs.Common.{◌≡◌, ℕ, suc, ◌+◌, ◌<◌, ◌≤◌, List, [], ◌∷◌, ◌++◌, Option, Some, None, IfSome, subst, Bool, true, false, if◌then◌else◌, refl, sym, ap, ◌∙◌, append_assoc, arith, length, option_map, set, slice_get}
+use Rattle.std.proofs.{lemmas.Bool.cond_both, lemmas.List.get_or-set_same, lemmas.List.length-set, lemmas.List.map-set, lemmas.List.set-get_or, lemmas.Option.IfSome_then, lemmas.Option.get_or_from_slice_get, lemmas.Option.slice_get-get_or, lemmas.Option.slice_get-map, lemmas.Option.slice_get_within, lemmas.Slice.Eq.bytes_eq-Decides}
 use Rattle.std.proofs.lemmas.List.Elements.{All-append, All-drop, All-get_or, All-same, All-set, All-take, All-weaker}
 use Rattle.std.specs.{List.All, List.remove, Str.bytes_eq}
 use Rattle.cred_phc.specs.Values.{RecordValue}
 use Rattle.cred_book.specs.Works.{same}
 use Rattle.cred_admin.specs.Marked.{MarkedBook}
 use Rattle.cred_book.proofs.Equality.{same-Decides}
-use Rattle.cred_cli.proofs.Fronts.{set_here}
 use Rattle.cred_many.specs.{declared.ask.Ask.Ask, declared.open.Open.Open, declared.open.Sight.Sight, declared.fault.ServiceFault.ServiceFault, Asks.Entry, Served.answers, Served.book_after, Served.change_from, Served.changes, Served.done, Served.line_at, Served.name_asked, Served.record_at, Served.tries}
 use Rattle.cred_many.specs.Scribe.{AreClosed, IsBusy, IsReady, Notes, SightHolds, counted, numbers}
 
@@ -117,6 +116,9 @@ looked_ready why left rest place name stored count number l ready = record {
   within = rw (l.new_is, length-set) ready.within;
   there = ap (λ ns. slice_get ns place) (looked_numbers left rest place name stored count l) ∙ ready.there;
 }
+
+set_here : {A : Type 0} (xs : List A) (i : ℕ) (x : A) → i < length xs → slice_get (set xs i x) i ≡ Some x
+set_here xs i x within = slice_get-get_or (set xs i x) i x (rw length-set within) ∙ ap Some (get_or-set_same xs i x x within)
 
 -- which may be often enough
 pub looked_worn : (left rest : List Open) (place : ℕ) (name : List ℕ) (stored : Option RecordValue) (count : ℕ) (ask : Ask) → Notes left place name stored rest count

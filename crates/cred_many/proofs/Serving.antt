@@ -7,11 +7,11 @@ use Rattle.std.specs.{List.All, List.range_with_len, List.remove, List.Sorted.Is
 use Rattle.cred_phc.specs.Values.{RecordValue}
 use Rattle.cred_admin.specs.Marked.{MarkedBook}
 use Rattle.cred_cli.specs.{History.Refused, Script.lines_of, Texts.line_of}
-use Rattle.cred_cli.proofs.{Readings.if_known, Unended.length-unended}
+use Rattle.cred_cli.proofs.Readings.{if_known}
 use Rattle.cred_many.specs.{Asks.Entry, Asks.entry, Asks.refused, Served.AreFor, Served.HasCause, Served.IsFor, Served.IsGivenUp, Served.IsWritten, Served.Moment, Served.NeedsMemory, Served.Stands, Served.StandsAtEnd, Served.answers, Served.book_after, Served.done, Served.entry_numbers, Served.line_at, Served.most_together, Served.record_at}
 use Rattle.cred_many.specs.{declared.ask.Ask.Ask, declared.fault.ServiceFault.ServiceFault, declared.open.Open.Open, Scribe.AreClosed, Scribe.History, Scribe.IsAnswered, Scribe.IsBusy, Scribe.IsConcluded, Scribe.IsReady, Scribe.Notes, Scribe.SightHolds, Scribe.numbers, Scribe.unseen, Transcript.TakesMore, Transcript.Written}
 use Rattle.cred_many.specs.Service.{IsLine, Service, asked, asked_from, cut_line}
-use Rattle.cred_many.proofs.{Seen.answers-append, Seen.book_after-append, Seen.looked_numbers, Seen.watched_looked, Seen.watched_on, Seen.watched_rest, Seen.worn, Transcripts.takes_both, Transcripts.takes_none}
+use Rattle.cred_many.proofs.{Unended.length-unended, Seen.answers-append, Seen.book_after-append, Seen.looked_numbers, Seen.watched_looked, Seen.watched_on, Seen.watched_rest, Seen.worn, Transcripts.takes_both, Transcripts.takes_none}
 use Rattle.cred_tries.specs.Limits.{Limits}
 use Rattle.cred_many.specs.{Scribe.IsCounted, Scribe.IsSentAway, Scribe.KeepsCount, Scribe.passed_of, Served.later_line, Served.name_asked, Served.told_at, Tries.is_try, declared.ask.Ask.TheVariants.Later}
 use Rattle.cred_many.proofs.{Limiting.limit_kept, Telling.counts_one, Telling.has_limit, Telling.nothing_counted, Telling.told_more}

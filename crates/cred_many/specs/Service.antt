@@ -1,10 +1,10 @@
 -- Which service it is.
-use Rattle.std.specs.Prelude.{◌≡◌, ℕ, zero, suc, List, [], ◌∷◌, Option, Some, None, slice_get, codes}
+use Rattle.std.specs.Prelude.{◌≡◌, ℕ, zero, suc, List, [], ◌∷◌, ◌++◌, Option, Some, None, slice_get, codes, drop, map, take}
 use Rattle.rand_core.specs.Stream.{Stream, fill_bytes}
 use Rattle.cred_phc.specs.{Values.SettingValue, Values.setting_of, declared.scheme.Scheme.Scheme, declared.scheme.Scheme.TheVariants.Scrypt}
 use Rattle.cred_admin.specs.Marked.{MarkedBook, marked_book}
 use Rattle.cred_file.specs.Cells.{unmarked}
-use Rattle.cred_cli.specs.{Costs.no_bounds, Script.lines_of, Script.with_unended, declared.costs.CostBounds.CostBounds}
+use Rattle.cred_cli.specs.{Costs.no_bounds, Script.line_ends, Script.lines_of, declared.costs.CostBounds.CostBounds}
 use Rattle.cred_many.specs.{Asks.Entry, Asks.entry, Asks.entry_of, Asks.refused, Transcript.Written, Transcript.nothing_written, declared.service.ServiceConfig.ServiceConfig}
 use Rattle.std.specs.FinMap as map
 use Rattle.cred_cli.specs.declared.refusal.Refusal.TheVariants as refusal
@@ -51,6 +51,11 @@ unfoldable pub asked_from : Service → ℕ → List (List ℕ) → List Entry
 asked_from s n [] = []
 asked_from s n (line ∷ lines) =
     entry_of n s.most (drawn_setting s n) line ∷ asked_from s (suc n) lines
+
+-- what the lines of these bytes come to, of which the last one comes to something else if it has no
+-- end
+unfoldable pub with_unended : {A : Type 0} → (A → A) → List ℕ → List A → List A
+with_unended f bytes lines = take (line_ends bytes) lines ++ map f (drop (line_ends bytes) lines)
 
 -- the last line, if it has no end: as more than that may be lost of it, it is refused under no tag
 abbrev pub cut_line : ℕ → Entry

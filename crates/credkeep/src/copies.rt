@@ -68,11 +68,11 @@ fn plural_of(count: u64) -> &'static str {
 /// Writes a copy of the book to another place. The book may be in use.
 pub(crate) fn back_up(
     host: &HostRuntime,
-    command: &CommandLine<'_>,
+    line: &CommandLine<'_>,
     to: &str,
 ) -> Result<Contents, Status> {
-    let file = command.file;
-    look(host, file, command.remarks)?;
+    let file = line.file;
+    look(host, file, line.remarks)?;
     let source = accept(host, file, real_path(host, file))?;
     let place = accept(host, to, real_path(host, to))?;
     if place == source {
@@ -80,7 +80,7 @@ pub(crate) fn back_up(
     }
     accept(host, to, look_at_old(host, place.as_str()))?;
     let read = make_draft(host, place.as_str(), READ)?;
-    let log = read_book(host, file, &read, command.remarks)?;
+    let log = read_book(host, file, &read, line.remarks)?;
     accept(host, file, see_whole(log))?;
     let new = make_draft(host, place.as_str(), NEW)?;
     let accounts = copy(host, file, &read, &new)?;
@@ -92,47 +92,47 @@ pub(crate) fn back_up(
 /// Puts a copy in the place of the book.
 pub(crate) fn restore(
     host: &HostRuntime,
-    command: &CommandLine<'_>,
+    line: &CommandLine<'_>,
     from: &str,
 ) -> Result<Contents, Status> {
     if let Err(FileFault::Absent) = look_at(host, from) {
         let _ = writeln!(host.stderr(), "credkeep: {from}: there is no such file");
         return Err(Status::Database);
     }
-    look(host, from, command.remarks)?;
-    let file = command.file;
+    look(host, from, line.remarks)?;
+    let file = line.file;
     let place = accept(host, file, real_path(host, file))?;
     accept(host, file, look_at_old(host, place.as_str()))?;
     // A copy may take long to read, so a book in use is refused first.
-    if is_busy(host, place.as_str(), command.wait) {
+    if is_busy(host, place.as_str(), line.wait) {
         return Err(refuse_file(host, file, FileFault::Busy));
     }
     let read = make_draft(host, place.as_str(), READ)?;
-    let log = read_book(host, from, &read, command.remarks)?;
+    let log = read_book(host, from, &read, line.remarks)?;
     // A book restored from itself comes back without the damaged changes.
     if accept(host, from, real_path(host, from))? != place {
         accept(host, from, see_whole(log))?;
     }
     let new = make_draft(host, place.as_str(), NEW)?;
     let accounts = copy(host, from, &read, &new)?;
-    let put = put_back(host, &new, place.as_str(), command.wait);
+    let put = put_back(host, &new, place.as_str(), line.wait);
     accept(host, place.as_str(), put)?;
     Ok(Contents { accounts, log })
 }
 
 /// Reads the file and its log to their ends, and tells their content. The book may be in use, and
 /// nothing is written into its files.
-pub(crate) fn verify(host: &HostRuntime, command: &CommandLine<'_>) -> Result<Status, Status> {
-    let file = command.file;
-    look(host, file, command.remarks)?;
+pub(crate) fn verify(host: &HostRuntime, line: &CommandLine<'_>) -> Result<Status, Status> {
+    let file = line.file;
+    look(host, file, line.remarks)?;
     let place = accept(host, file, real_path(host, file))?;
     let read = make_draft(host, place.as_str(), READ)?;
-    let log = read_book(host, file, &read, command.remarks)?;
+    let log = read_book(host, file, &read, line.remarks)?;
     let conn = open_database(host, file, read.path(), 0, DamagedLog::Cut)?;
     let (conn, counted) = count_in(host.alloc(), conn);
     drop(conn);
     let accounts = accept(host, file, counted)?;
-    let status = Contents { accounts, log }.tell(host, command.counts);
+    let status = Contents { accounts, log }.tell(host, line.counts);
     accept(host, file, see_whole(log))?;
     Ok(status)
 }

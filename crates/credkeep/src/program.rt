@@ -14,7 +14,7 @@ use cred_cli::{Tools, Watched};
 use cred_file::{FileBook, OpenFault};
 use cred_keep::{Order, refuse, serve_in};
 use credkeep_words::{
-    Act, CommandLine, Counted, Progress, Remarks, advise, read_passwords, read_words, say,
+    Command, CommandLine, Counted, Progress, Remarks, advise, read_passwords, read_words, say,
 };
 use sqlite::{Alter, Connection};
 use std::alloc::Global;
@@ -27,7 +27,7 @@ use std::{env, io};
 /// The maximum number of threads for an order on one account: the lanes of the default setting.
 const LANES: u8 = 4;
 
-/// Does the act that the process's words ask for.
+/// Does the command that the process's words ask for.
 pub(crate) fn run<T: Threads + Wait + Clock + Sync + Copy + Send + 'static>(
     host: &HostRuntime,
     rt: &T,
@@ -47,47 +47,47 @@ fn run_words<T: Threads + Wait + Clock + Sync + Copy + Send + 'static>(
 ) -> io::Result<Status> {
     let words: Vec<String> = env::args(host)?.collect(host.alloc())?;
     match read_words(host, &words) {
-        Ok(command) => match answer(host, rt, &command) {
+        Ok(line) => match answer(host, rt, &line) {
             Ok(status) | Err(status) => Ok(status),
         },
         Err(status) => Ok(status),
     }
 }
 
-/// Does an act. Either status is the program's; with the second, the refusal was written.
+/// Does a command. Either status is the program's; with the second, the refusal was written.
 fn answer<T: Threads + Wait + Clock + Sync + Copy + Send + 'static>(
     host: &HostRuntime,
     rt: &T,
-    command: &CommandLine<'_>,
+    line: &CommandLine<'_>,
 ) -> Result<Status, Status> {
-    match &command.act {
-        Act::Init => init(host, command),
-        Act::Backup(to) => Ok(back_up(host, command, to)?.tell(host, command.counts)),
-        Act::Restore(from) => Ok(restore(host, command, from)?.tell(host, command.counts)),
-        Act::Verify => verify(host, command),
-        Act::Tagged(service) => serve_tagged(host, rt, command, &Tagged::of(service)),
-        Act::Perform { order, echo } => {
+    match &line.command {
+        Command::Init => init(host, line),
+        Command::Backup(to) => Ok(back_up(host, line, to)?.tell(host, line.counts)),
+        Command::Restore(from) => Ok(restore(host, line, from)?.tell(host, line.counts)),
+        Command::Verify => verify(host, line),
+        Command::Tagged(service) => serve_tagged(host, rt, line, &Tagged::of(service)),
+        Command::Perform { order, echo } => {
             let tools = Tools {
                 rt,
                 alloc: host.alloc(),
                 workers: LANES,
             };
-            look(host, command.file, command.remarks)?;
-            look_before_export(host, command.file, order)?;
-            let lines = read_passwords(host, command.file, order, *echo)?;
-            on_file(host, &tools, command, order, lines)
+            look(host, line.file, line.remarks)?;
+            look_before_export(host, line.file, order)?;
+            let lines = read_passwords(host, line.file, order, *echo)?;
+            on_file(host, &tools, line, order, lines)
         }
     }
 }
 
 /// Begins a book, in a file that is put at its place once it is whole, or in an existing
 /// database.
-fn init(host: &HostRuntime, command: &CommandLine<'_>) -> Result<Status, Status> {
-    let file = command.file;
+fn init(host: &HostRuntime, line: &CommandLine<'_>) -> Result<Status, Status> {
+    let file = line.file;
     match accept(host, file, look_before_init(host, file))? {
         Beginning::NewFile => begin_beside(host, file),
         Beginning::Database => {
-            let conn = open_database(host, file, file, command.wait, DamagedLog::Refused)?;
+            let conn = open_database(host, file, file, line.wait, DamagedLog::Refused)?;
             let (conn, status) = begin_in(host.alloc(), conn, host.stderr());
             Ok(close(host, conn, status))
         }
@@ -115,19 +115,19 @@ fn begin_beside(host: &HostRuntime, file: &str) -> Result<Status, Status> {
 fn on_file<T: Threads + Sync>(
     host: &HostRuntime,
     tools: &Tools<'_, T>,
-    command: &CommandLine<'_>,
+    line: &CommandLine<'_>,
     order: &Order,
     passwords: Option<Vec<u8>>,
 ) -> Result<Status, Status> {
-    let file = command.file;
-    let conn = open_database(host, file, file, command.wait, DamagedLog::Refused)?;
+    let file = line.file;
+    let conn = open_database(host, file, file, line.wait, DamagedLog::Refused)?;
     let (lines, rest) = match &passwords {
         Some(lines) => (&lines[..], 0),
         None => (&[][..], u64::MAX),
     };
     let input = lines.chain(host.stdin().take(rest));
     let remarks = match order {
-        Order::Import { .. } => command.remarks,
+        Order::Import { .. } => line.remarks,
         _ => Remarks::Hidden,
     };
     let counted = Counted::new(input, Progress::new(host, remarks));

@@ -62,11 +62,11 @@ impl Tagged {
 pub(crate) fn serve_tagged<T: Threads + Wait + Clock + Sync + Copy + Send + 'static>(
     host: &HostRuntime,
     rt: &T,
-    command: &CommandLine<'_>,
+    line: &CommandLine<'_>,
     tagged: &Tagged,
 ) -> Result<Status, Status> {
-    let file = command.file;
-    look(host, file, command.remarks)?;
+    let file = line.file;
+    look(host, file, line.remarks)?;
     let Ok(salts) = make_rng::<StdRng, HostRuntime>(host) else {
         return Err(say(host, "the system has no random bytes", Status::Io));
     };
@@ -80,7 +80,7 @@ pub(crate) fn serve_tagged<T: Threads + Wait + Clock + Sync + Copy + Send + 'sta
         writer: Watched::new(host.stdout()),
         salts,
     };
-    let conn = open_database(host, file, file, command.wait, DamagedLog::Refused)?;
+    let conn = open_database(host, file, file, line.wait, DamagedLog::Refused)?;
     let finished = serve_in(&tools, tagged, conn, streams, &mut host.stderr());
     let Finished { conn, status, .. } = finished;
     Ok(close(host, conn, status))

@@ -107,9 +107,9 @@ const TO_HELP: &str = "The file of the copy, which replaces one that is there in
 
 const FROM_HELP: &str = "The file of the copy, which is only read";
 
-/// A word or an option of the program, or of a command.
+/// An operand or an option of the program, or of a command.
 #[derive(Clone, Copy)]
-pub(crate) enum Word {
+pub(crate) enum Argument {
     File,
     Wait,
     Quiet,
@@ -138,10 +138,10 @@ pub(crate) enum Word {
     Json,
 }
 
-/// The form of a word.
+/// The form of an argument.
 #[derive(Clone, Copy)]
 enum Form {
-    /// A word at its place, with its name in help.
+    /// A word at its place, with the name of its value in help.
     Operand(&'static str),
     /// An option with a value, and the value's name in help.
     Valued(&'static str),
@@ -150,43 +150,43 @@ enum Form {
     Flag,
 }
 
-/// The words that may stand before the command.
-pub(crate) static PROGRAM: [Word; 3] = [Word::Wait, Word::Quiet, Word::File];
+/// The arguments that may stand before the command.
+pub(crate) static PROGRAM: [Argument; 3] = [Argument::Wait, Argument::Quiet, Argument::File];
 
-impl Word {
-    /// The name of the word, its form, and its text in help.
+impl Argument {
+    /// The name of the argument, its form, and its text in help.
     fn text(self) -> (&'static str, Form, &'static str) {
         match self {
-            Word::File => ("file", Form::Operand("FILE"), FILE_HELP),
-            Word::Wait => ("wait", Form::Defaulted("SECONDS", "0"), WAIT_HELP),
-            Word::Quiet => ("quiet", Form::Flag, QUIET_HELP),
-            Word::To => ("to", Form::Operand("TO"), TO_HELP),
-            Word::From => ("from", Form::Operand("FROM"), FROM_HELP),
-            Word::Name => ("name", Form::Operand("NAME"), NAME_HELP),
-            Word::NewName => ("new", Form::Operand("NEW"), NEW_NAME_HELP),
-            Word::Setting => ("setting", Form::Valued("TEXT"), SETTING_HELP),
-            Word::Tagged => ("tagged", Form::Flag, TAGGED_HELP),
-            Word::AtOnce => ("at-once", Form::Valued("N"), AT_ONCE_HELP),
-            Word::Tries => ("tries", Form::Valued("N"), TRIES_HELP),
-            Word::Memory => ("memory", Form::Valued("SIZE"), MEMORY_HELP),
-            Word::MostMemory => ("most-memory", Form::Valued("SIZE"), MOST_MEMORY_HELP),
-            Word::MostWork => ("most-work", Form::Valued("SIZE"), MOST_WORK_HELP),
-            Word::EmptyPassword => ("empty-password", Form::Flag, EMPTY_HELP),
-            Word::Echo => ("echo", Form::Flag, ECHO_HELP),
-            Word::Show => ("show", Form::Flag, SHOW_HELP),
-            Word::Record => ("record", Form::Flag, RECORD_HELP),
-            Word::SkipExisting => ("skip-existing", Form::Flag, SKIP_HELP),
-            Word::Update => ("update", Form::Flag, UPDATE_HELP),
-            Word::SkipBad => ("skip-bad", Form::Flag, SKIP_BAD_HELP),
-            Word::DisableLocked => ("disable-locked", Form::Flag, DISABLE_LOCKED_HELP),
-            Word::KeepLocked => ("keep-locked", Form::Flag, KEEP_LOCKED_HELP),
-            Word::DryRun => ("dry-run", Form::Flag, DRY_RUN_HELP),
-            Word::Costs => ("costs", Form::Flag, COSTS_HELP),
-            Word::Json => ("json", Form::Flag, JSON_HELP),
+            Argument::File => ("file", Form::Operand("FILE"), FILE_HELP),
+            Argument::Wait => ("wait", Form::Defaulted("SECONDS", "0"), WAIT_HELP),
+            Argument::Quiet => ("quiet", Form::Flag, QUIET_HELP),
+            Argument::To => ("to", Form::Operand("TO"), TO_HELP),
+            Argument::From => ("from", Form::Operand("FROM"), FROM_HELP),
+            Argument::Name => ("name", Form::Operand("NAME"), NAME_HELP),
+            Argument::NewName => ("new", Form::Operand("NEW"), NEW_NAME_HELP),
+            Argument::Setting => ("setting", Form::Valued("TEXT"), SETTING_HELP),
+            Argument::Tagged => ("tagged", Form::Flag, TAGGED_HELP),
+            Argument::AtOnce => ("at-once", Form::Valued("N"), AT_ONCE_HELP),
+            Argument::Tries => ("tries", Form::Valued("N"), TRIES_HELP),
+            Argument::Memory => ("memory", Form::Valued("SIZE"), MEMORY_HELP),
+            Argument::MostMemory => ("most-memory", Form::Valued("SIZE"), MOST_MEMORY_HELP),
+            Argument::MostWork => ("most-work", Form::Valued("SIZE"), MOST_WORK_HELP),
+            Argument::EmptyPassword => ("empty-password", Form::Flag, EMPTY_HELP),
+            Argument::Echo => ("echo", Form::Flag, ECHO_HELP),
+            Argument::Show => ("show", Form::Flag, SHOW_HELP),
+            Argument::Record => ("record", Form::Flag, RECORD_HELP),
+            Argument::SkipExisting => ("skip-existing", Form::Flag, SKIP_HELP),
+            Argument::Update => ("update", Form::Flag, UPDATE_HELP),
+            Argument::SkipBad => ("skip-bad", Form::Flag, SKIP_BAD_HELP),
+            Argument::DisableLocked => ("disable-locked", Form::Flag, DISABLE_LOCKED_HELP),
+            Argument::KeepLocked => ("keep-locked", Form::Flag, KEEP_LOCKED_HELP),
+            Argument::DryRun => ("dry-run", Form::Flag, DRY_RUN_HELP),
+            Argument::Costs => ("costs", Form::Flag, COSTS_HELP),
+            Argument::Json => ("json", Form::Flag, JSON_HELP),
         }
     }
 
-    /// The name of the word, if it is an option.
+    /// The name of the argument, if it is an option.
     pub(crate) fn option(self) -> Option<&'static str> {
         match self.text() {
             (_, Form::Operand(_), _) => None,
@@ -212,7 +212,7 @@ fn without_commands<'a>(alloc: Global) -> Result<Command<'a>, AllocError> {
         .subcommand_required(true)
         .disable_help_subcommand(true)
         .override_usage("credkeep [--wait <SECONDS>] <FILE> <COMMAND>");
-    with_words(alloc, command, &PROGRAM)
+    with_arguments(alloc, command, &PROGRAM)
 }
 
 /// The program with a command. The command is made here, so that no second one lives while the
@@ -226,27 +226,27 @@ fn with_command<'a>(
 }
 
 fn command_of<'a>(alloc: Global, text: &CommandText) -> Result<Command<'a>, AllocError> {
-    let command = Command::new(alloc, text.verb.word())
+    let command = Command::new(alloc, text.name.word())
         .about(text.about)
         .long_about(text.long)
         .override_usage(text.usage);
-    with_words(alloc, command, text.words)
+    with_arguments(alloc, command, text.arguments)
 }
 
-fn with_words<'a>(
+fn with_arguments<'a>(
     alloc: Global,
     command: Command<'a>,
-    words: &[Word],
+    arguments: &[Argument],
 ) -> Result<Command<'a>, AllocError> {
     let mut command = command;
-    for word in words {
-        command = command.arg(arg_of(alloc, *word))?;
+    for argument in arguments {
+        command = command.arg(arg_of(alloc, *argument))?;
     }
     Ok(command)
 }
 
-fn arg_of<'a>(alloc: Global, word: Word) -> Arg<'a> {
-    let (name, form, help) = word.text();
+fn arg_of<'a>(alloc: Global, argument: Argument) -> Arg<'a> {
+    let (name, form, help) = argument.text();
     let arg = match form {
         Form::Operand(value) => operand(alloc, name, value),
         Form::Valued(value) => option(alloc, name, value),
@@ -255,7 +255,7 @@ fn arg_of<'a>(alloc: Global, word: Word) -> Arg<'a> {
     };
     arg.help(help)
         .next_line_help(true)
-        .global(matches!(word, Word::Quiet))
+        .global(matches!(argument, Argument::Quiet))
 }
 
 fn operand<'a>(alloc: Global, id: &'static str, value: &'static str) -> Arg<'a> {

@@ -3,7 +3,7 @@
 use crate::arguments::credkeep;
 use crate::commands::command_named;
 use crate::options::{counts_in, either, number_in, text_in};
-use crate::orders::act_of;
+use crate::orders::read_command;
 use crate::refusal::Refusal;
 use clap::{ArgMatches, Error};
 use cred_admin::{NewSetting, Status};
@@ -13,7 +13,7 @@ use cred_tries::TryLimit;
 use std::alloc::Global;
 use std::random::RandomSource;
 
-/// A file, and an act on it.
+/// A file, and a command on it.
 #[derive(Drop)]
 pub struct CommandLine<'a> {
     pub file: &'a str,
@@ -21,7 +21,7 @@ pub struct CommandLine<'a> {
     pub wait: u16,
     pub remarks: Remarks,
     pub counts: Counts,
-    pub act: Act<'a>,
+    pub command: Command<'a>,
 }
 
 /// Whether passwords may be typed at a terminal, which shows them.
@@ -38,9 +38,9 @@ pub enum Remarks {
     Hidden,
 }
 
-/// An act on a file.
+/// A command on a file.
 #[derive(Drop)]
-pub enum Act<'a> {
+pub enum Command<'a> {
     /// Begins a book.
     Init,
     /// Writes a copy of the book to this place.
@@ -98,7 +98,7 @@ fn line_of<'a, R: RandomSource + AllocGlobal>(
         wait: number_in(&matches, "wait", 0, 3600)?.unwrap_or(0),
         remarks: either(&matches, "quiet", Remarks::Hidden, Remarks::Told),
         counts: counts_in(values),
-        act: act_of(rt, text.verb, values)?,
+        command: read_command(rt, text.name, values)?,
     })
 }
 

@@ -15,7 +15,7 @@ mod progress;
 mod refusal;
 mod slip;
 
-pub use command_line::{Act, CommandLine, Echo, Remarks, Service, read_words};
+pub use command_line::{Command, CommandLine, Echo, Remarks, Service, read_words};
 pub use fault::FileFault;
 pub use passwords::{advise, read_passwords};
 pub use progress::{Counted, Progress};

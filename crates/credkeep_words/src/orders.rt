@@ -1,13 +1,15 @@
-//! The act of each command.
+//! The command that each name and its options ask for.
 
-use crate::command_line::{Act, Echo, Service};
-use crate::commands::Verb;
+use crate::command_line::{Command, Echo, Service};
+use crate::commands::CommandName;
 use crate::options::{
     either, importing_in, line_in, most_in, name_in, size_in, text_in, threads_in, tries_in,
 };
 use crate::refusal::Refusal;
 use clap::ArgMatches;
-use cred_admin::{Command, Detail, Edit, EmptyPassword, Line, NewPassword, NewSetting, setting_of};
+use cred_admin::{
+    Detail, Edit, EmptyPassword, Line, NewPassword, NewSetting, Operation, setting_of,
+};
 use cred_book::Name;
 use cred_cli::{exceeds, memory_alone};
 use cred_keep::Order;
@@ -23,62 +25,64 @@ pub(crate) const DEFAULT_SETTING: &str = "$argon2id$v=19$m=65536,t=3,p=4";
 /// The default memory of all hashes of tagged lines together, in KiB.
 const DEFAULT_MEMORY: u64 = 2097152;
 
-/// The act of a command with these options.
-pub(crate) fn act_of<'a, R: RandomSource + AllocGlobal>(
+/// The command of this name with these options.
+pub(crate) fn read_command<'a, R: RandomSource + AllocGlobal>(
     rt: &R,
-    verb: Verb,
+    name: CommandName,
     values: &ArgMatches<'a>,
-) -> Result<Act<'a>, Refusal<'a>> {
-    match verb {
-        Verb::Init => Ok(Act::Init),
-        Verb::Backup => Ok(Act::Backup(text_in(values, "to"))),
-        Verb::Restore => Ok(Act::Restore(text_in(values, "from"))),
-        Verb::Verify => Ok(Act::Verify),
-        Verb::Serve if values.get_flag("tagged") => Ok(Act::Tagged(service_in(rt, values)?)),
-        Verb::Serve => Err(Refusal::Untagged),
-        Verb::List => list(values, line_in(values)),
-        Verb::Export => list(values, Line::Passwd(Detail::Record)),
-        Verb::Import => {
+) -> Result<Command<'a>, Refusal<'a>> {
+    match name {
+        CommandName::Init => Ok(Command::Init),
+        CommandName::Backup => Ok(Command::Backup(text_in(values, "to"))),
+        CommandName::Restore => Ok(Command::Restore(text_in(values, "from"))),
+        CommandName::Verify => Ok(Command::Verify),
+        CommandName::Serve if values.get_flag("tagged") => Ok(Command::Tagged(service_in(
+            rt, values,
+        )?)),
+        CommandName::Serve => Err(Refusal::Untagged),
+        CommandName::List => list(values, line_in(values)),
+        CommandName::Export => list(values, Line::Passwd(Detail::Record)),
+        CommandName::Import => {
             let how = importing_in(values)?;
             perform(values, Order::Import { how })
         }
-        Verb::Show => show(values, name_in(values, "name")?),
-        Verb::Disable => disable(values, name_in(values, "name")?),
-        Verb::Delete => edit(values, Edit::Delete(name_in(values, "name")?)),
-        Verb::Rename => rename(values, name_in(values, "name")?),
-        Verb::Lock => edit(values, Edit::Lock(name_in(values, "name")?)),
-        Verb::Unlock => edit(values, Edit::Unlock(name_in(values, "name")?)),
-        Verb::Expire => edit(values, Edit::Expire(name_in(values, "name")?)),
-        Verb::Check => account(values, Command::Check),
-        Verb::Remove => account(values, Command::Remove),
-        Verb::Add => account(values, Command::Add(new_password_in(rt, values)?)),
-        Verb::Change => account(values, Command::Change(new_password_in(rt, values)?)),
-        Verb::Reset => account(values, Command::Reset(new_password_in(rt, values)?)),
-        Verb::Upgrade => account(values, Command::Upgrade(setting_in(rt, values)?)),
+        CommandName::Show => show(values, name_in(values, "name")?),
+        CommandName::Disable => disable(values, name_in(values, "name")?),
+        CommandName::Delete => edit(values, Edit::Delete(name_in(values, "name")?)),
+        CommandName::Rename => rename(values, name_in(values, "name")?),
+        CommandName::Lock => edit(values, Edit::Lock(name_in(values, "name")?)),
+        CommandName::Unlock => edit(values, Edit::Unlock(name_in(values, "name")?)),
+        CommandName::Expire => edit(values, Edit::Expire(name_in(values, "name")?)),
+        CommandName::Check => account(values, Operation::Check),
+        CommandName::Remove => account(values, Operation::Remove),
+        CommandName::Add => account(values, Operation::Add(new_password_in(rt, values)?)),
+        CommandName::Change => account(values, Operation::Change(new_password_in(rt, values)?)),
+        CommandName::Reset => account(values, Operation::Reset(new_password_in(rt, values)?)),
+        CommandName::Upgrade => account(values, Operation::Upgrade(setting_in(rt, values)?)),
     }
 }
 
-fn perform<'a>(values: &ArgMatches<'a>, order: Order) -> Result<Act<'a>, Refusal<'a>> {
-    Ok(Act::Perform {
+fn perform<'a>(values: &ArgMatches<'a>, order: Order) -> Result<Command<'a>, Refusal<'a>> {
+    Ok(Command::Perform {
         order,
         echo: either(values, "echo", Echo::Taken, Echo::Refused),
     })
 }
 
-fn list<'a>(values: &ArgMatches<'a>, line: Line) -> Result<Act<'a>, Refusal<'a>> {
+fn list<'a>(values: &ArgMatches<'a>, line: Line) -> Result<Command<'a>, Refusal<'a>> {
     perform(values, Order::List { line })
 }
 
-fn edit<'a>(values: &ArgMatches<'a>, edit: Edit) -> Result<Act<'a>, Refusal<'a>> {
+fn edit<'a>(values: &ArgMatches<'a>, edit: Edit) -> Result<Command<'a>, Refusal<'a>> {
     perform(values, Order::Edit { edit })
 }
 
-fn account<'a>(values: &ArgMatches<'a>, command: Command) -> Result<Act<'a>, Refusal<'a>> {
+fn account<'a>(values: &ArgMatches<'a>, operation: Operation) -> Result<Command<'a>, Refusal<'a>> {
     let name = name_in(values, "name")?;
-    perform(values, Order::Account { name, command })
+    perform(values, Order::Account { name, operation })
 }
 
-fn show<'a>(values: &ArgMatches<'a>, name: Name) -> Result<Act<'a>, Refusal<'a>> {
+fn show<'a>(values: &ArgMatches<'a>, name: Name) -> Result<Command<'a>, Refusal<'a>> {
     let detail = either(values, "record", Detail::Record, Detail::Costs);
     if values.get_flag("json") {
         perform(values, Order::ShowJson { name, detail })
@@ -87,7 +91,7 @@ fn show<'a>(values: &ArgMatches<'a>, name: Name) -> Result<Act<'a>, Refusal<'a>>
     }
 }
 
-fn disable<'a>(values: &ArgMatches<'a>, name: Name) -> Result<Act<'a>, Refusal<'a>> {
+fn disable<'a>(values: &ArgMatches<'a>, name: Name) -> Result<Command<'a>, Refusal<'a>> {
     if values.get_flag("show") {
         perform(values, Order::DisableShown { name })
     } else {
@@ -95,7 +99,7 @@ fn disable<'a>(values: &ArgMatches<'a>, name: Name) -> Result<Act<'a>, Refusal<'
     }
 }
 
-fn rename<'a>(values: &ArgMatches<'a>, name: Name) -> Result<Act<'a>, Refusal<'a>> {
+fn rename<'a>(values: &ArgMatches<'a>, name: Name) -> Result<Command<'a>, Refusal<'a>> {
     edit(values, Edit::Rename(name, name_in(values, "new")?))
 }
 

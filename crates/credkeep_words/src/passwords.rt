@@ -22,10 +22,10 @@ pub fn read_passwords(
     order: &Order,
     echo: Echo,
 ) -> Result<Option<Vec<u8>>, Status> {
-    let Order::Account { command, .. } = order else {
+    let Order::Account { operation, .. } = order else {
         return Ok(None);
     };
-    let passwords = command.passwords();
+    let passwords = operation.passwords();
     if !host.stdin().is_terminal() {
         return Ok(Some(read_lines(host, passwords)?));
     }
@@ -37,10 +37,10 @@ pub fn read_passwords(
 
 /// Warns if the new password of an order ends in a carriage return.
 pub fn advise(host: &HostRuntime, order: &Order, lines: &[u8]) {
-    let Order::Account { command, .. } = order else {
+    let Order::Account { operation, .. } = order else {
         return;
     };
-    let is_new = match command.passwords() {
+    let is_new = match operation.passwords() {
         Passwords::Present => false,
         Passwords::New(_) | Passwords::PresentAndNew(_) => true,
     };

@@ -1,6 +1,6 @@
 //! The texts on refused words, and their exit statuses.
 
-use crate::commands::{CommandText, Verb, command_in, write_commands};
+use crate::commands::{CommandName, CommandText, command_in, write_commands};
 use crate::costs::write_range;
 use crate::orders::DEFAULT_SETTING;
 use crate::slip::{Slip, slip_in};
@@ -132,7 +132,7 @@ fn write_no_command<W: Write>(out: &mut W) -> io::Result<()> {
 }
 
 fn write_unknown<W: Write>(out: &mut W, command: &CommandText, slip: Slip) -> io::Result<()> {
-    write_slip(out, command.verb, slip)?;
+    write_slip(out, command.name, slip)?;
     writeln!(
         out,
         "\nUsage: {}\n\nFor more information, try '--help'.",
@@ -141,11 +141,11 @@ fn write_unknown<W: Write>(out: &mut W, command: &CommandText, slip: Slip) -> io
 }
 
 /// Names the option that is safe to name, and never a word that was given.
-fn write_slip<W: Write>(out: &mut W, verb: Verb, slip: Slip) -> io::Result<()> {
-    let word = verb.word();
+fn write_slip<W: Write>(out: &mut W, name: CommandName, slip: Slip) -> io::Result<()> {
+    let word = name.word();
     write!(out, "credkeep: {word}: ")?;
     match slip {
-        Slip::Unnamed => write_unnamed(out, verb),
+        Slip::Unnamed => write_unnamed(out, name),
         Slip::Late(option) => writeln!(out, "write --{option} before FILE"),
         Slip::Early(option) => writeln!(out, "write --{option} behind {word}"),
         Slip::Elsewhere(option) => writeln!(out, "it has no option --{option}"),
@@ -156,16 +156,16 @@ fn write_slip<W: Write>(out: &mut W, verb: Verb, slip: Slip) -> io::Result<()> {
     }
 }
 
-fn write_unnamed<W: Write>(out: &mut W, verb: Verb) -> io::Result<()> {
+fn write_unnamed<W: Write>(out: &mut W, name: CommandName) -> io::Result<()> {
     writeln!(
         out,
         "a word or an option too many, which isn't shown: it may be a password"
     )?;
-    match verb {
-        Verb::Serve | Verb::Import => {
+    match name {
+        CommandName::Serve | CommandName::Import => {
             writeln!(out, "The input is read from standard input: write < INPUT")
         }
-        Verb::Verify => writeln!(
+        CommandName::Verify => writeln!(
             out,
             "verify reads the whole book; write check NAME to check a password."
         ),

@@ -1,7 +1,7 @@
 //! The meaning of a refused word, as far as a text can tell it without repeating the word: it
 //! may be a password.
 
-use crate::arguments::{PROGRAM, Word};
+use crate::arguments::{Argument, PROGRAM};
 use crate::commands::{COMMANDS, CommandText};
 use std::alloc::Global;
 use strsim::osa_distance;
@@ -28,7 +28,7 @@ pub(crate) enum Slip {
 pub(crate) fn slip_in(alloc: Global, words: &[String], command: &CommandText) -> Slip {
     let mut is_behind = false;
     for word in words {
-        if word.as_str() == command.verb.word() {
+        if word.as_str() == command.name.word() {
             is_behind = true;
         }
         if let Some(text) = word.as_str().strip_prefix("--") {
@@ -57,7 +57,7 @@ fn slip_of(alloc: Global, name: &str, command: &CommandText, is_behind: bool) ->
         return Slip::Misspelt(option);
     }
     let is_programs = has(&PROGRAM, option);
-    let is_commands = has(command.words, option) || has(&[Word::Quiet], option);
+    let is_commands = has(command.arguments, option) || has(&[Argument::Quiet], option);
     match (is_behind, is_programs, is_commands) {
         (false, true, _) | (true, _, true) => Slip::Unnamed,
         (true, true, false) => Slip::Late(option),
@@ -66,10 +66,10 @@ fn slip_of(alloc: Global, name: &str, command: &CommandText, is_behind: bool) ->
     }
 }
 
-/// Whether one of the words is this option.
-fn has(words: &[Word], option: &str) -> bool {
-    for word in words {
-        if word.option() == Some(option) {
+/// Whether one of the arguments is this option.
+fn has(arguments: &[Argument], option: &str) -> bool {
+    for argument in arguments {
+        if argument.option() == Some(option) {
             return true;
         }
     }
@@ -80,21 +80,21 @@ fn has(words: &[Word], option: &str) -> bool {
 fn option_like(alloc: Global, name: &str) -> Option<&'static str> {
     let mut best = nearer(alloc, &PROGRAM, name, (FAR, None));
     for command in &COMMANDS {
-        best = nearer(alloc, command.words, name, best);
+        best = nearer(alloc, command.arguments, name, best);
     }
     best.1
 }
 
-/// The option of these words whose name is most similar, if it beats the best so far.
+/// The option of these arguments whose name is most similar, if it beats the best so far.
 fn nearer(
     alloc: Global,
-    words: &[Word],
+    arguments: &[Argument],
     name: &str,
     best: (usize, Option<&'static str>),
 ) -> (usize, Option<&'static str>) {
     let (mut least, mut found) = best;
-    for word in words {
-        let Some(option) = word.option() else {
+    for argument in arguments {
+        let Some(option) = argument.option() else {
             continue;
         };
         let distance = osa_distance(alloc, option, name).unwrap_or(FAR);

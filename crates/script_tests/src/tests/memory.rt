@@ -3,7 +3,7 @@
 use super::committers::run_on_committer;
 use super::{Ran, hold_bytes, run_in_room};
 use cred_book::{Book, Register};
-use cred_cli::{CostBounds, End, ScriptFault, Tools, Watched, serve};
+use cred_cli::{End, ScriptFault};
 use std::process::Abort;
 
 /// A script, and what it is answered.
@@ -31,20 +31,6 @@ begun
 removed
 none
 ";
-
-/// Lines of a service, of which the fourth needs a hash.
-const SERVICE: &str = "\
-account a
-load a $argon2id$v=19$m=256,t=2,p=1$c29tZXNhbHQ$nf65EOgLrQMR/uIPnA4rEsF5h7TKyQwu9U1bMCHGi/4
-begin 1 verify a cGFzc3dvcmQ
-commit 1
-commit 1
-";
-
-const SERVED: &str = "ok\nok\nbegun\nyes\nbad 15 idle\n";
-
-/// Their answers if memory is refused to that hash: the number is open still.
-const STARVED: &str = "ok\nok\nbegun\nbad 4 memory\nyes\n";
 
 /// Holds whole answers from the front of those that the script has.
 fn hold_front<R: Abort>(rt: &R, whole: &str, written: &[u8]) {
@@ -85,35 +71,4 @@ fn refused_script_on_a_register(rt: HostRuntime) {
 #[test]
 fn refused_script_on_a_committer(rt: HostRuntime) {
     hold_refused(&rt, run_on_committer(&rt, rt.alloc(), 2, SCRIPT.as_bytes()));
-}
-
-#[test]
-fn refused_service(rt: HostRuntime) {
-    let (Ok(mut book), Ok(room)) = (
-        Book::new(rt.alloc()),
-        Vec::<u8>::with_capacity(rt.alloc(), 4096),
-    ) else {
-        return;
-    };
-    let mut reader = Watched::new(SERVICE.as_bytes());
-    let mut writer = Watched::new(room);
-    let tools = Tools {
-        rt: &rt,
-        alloc: rt.alloc(),
-        workers: 1,
-    };
-    let end = serve(
-        &tools,
-        CostBounds::none(),
-        &mut book,
-        &mut reader,
-        &mut writer,
-    );
-    let written = writer.into_inner();
-    if end != Ok(End { lines: 5 }) {
-        assert_eq!(rt; end, Err(ScriptFault::Memory));
-        hold_front(&rt, SERVED, &written);
-    } else if written.as_slice() != STARVED.as_bytes() {
-        hold_bytes(&rt, &written, SERVED);
-    }
 }

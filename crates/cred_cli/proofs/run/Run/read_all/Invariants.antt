@@ -7,12 +7,11 @@ use Rattle.cred_cli.proofs.run.Run.read_all.Given as goal
 abbrev pub invariant-loop-call : goal.invariant-loop-call
 invariant-loop-call g l = record {
   at : (basis : Basis) → Fits basis l.reader → (script : ScriptStart) → left_on basis g.R.Read.remaining l.fn.reader ≡ Some script.bytes →
-      IsAt l.engine.policy g.K.Keeper.capacity script [] (standing (held_on basis g.W.Write.contents l.fn.writer) (g.K.Keeper.book l.fn.keeper) l.fn.self) →
-      IsReadTo l.engine.policy g.K.Keeper.capacity script l.fn.writer.past.name (left_on basis g.R.Read.remaining l.reader) (standing (held_on basis g.W.Write.contents l.writer) (g.K.Keeper.book l.keeper) l.self)
+      IsAt g.K.Keeper.capacity script [] (standing (held_on basis g.W.Write.contents l.fn.writer) (g.K.Keeper.book l.fn.keeper) l.fn.self) →
+      IsReadTo g.K.Keeper.capacity script l.fn.writer.past.name (left_on basis g.R.Read.remaining l.reader) (standing (held_on basis g.W.Write.contents l.writer) (g.K.Keeper.book l.keeper) l.self)
       (log_on basis l.reader.past.calls);
   ended : l.reader.ended ≡ false;
   logged : IsLogged l.fn.reader l.reader;
-  limit : l.self.progress.limit ≡ l.fn.self.progress.limit;
   calls : l.reader.calls ≡ l._call;
   taken : l._call ≤ l.self.progress.taken;
   gives : GivesAsContracted g.R.Read.remaining l.fn.reader l.reader;

@@ -1,30 +1,23 @@
-use Rattle.std.proofs.{Common.◌≡◌, Common.arith, Common.append_assoc, Common.sym, Common.ap, Common.refl, Common.◌∙◌, Common.length, Common.◌∷◌, Common.◌++◌, Common.[], Common.suc, Common.Some, Common.slice_get, lemmas.List.length-append, lemmas.Result.err_from_is_err_and}
-use Rattle.cred_cli.specs.{Events.most_kept, Script.line_ends}
+use Rattle.std.proofs.{Common.◌≡◌, Common.arith, Common.append_assoc, Common.sym, Common.ap, Common.◌∙◌, Common.length, Common.◌∷◌, Common.◌++◌, Common.[], Common.suc, Common.Some, Common.slice_get, lemmas.List.length-append, lemmas.Result.err_from_is_err_and}
+use Rattle.cred_cli.specs.{Events.most_kept, Outcome.longest_script, Script.events_of, Script.line_ends}
 use Rattle.cred_cli.proofs.{Feeds.ended_event, Feeds.take-kept, Feeds.take_front, Lines.line_ends-end, Lines.line_ends-more, Lines.unfinished_from-end, Lines.unfinished_from-more}
 use Rattle.cred_cli.proofs.run.Run.take_byte.Goals as goal
 
 -- a byte too many
-pub returns-then-self-clause-fed : goal.returns-then-self-clause-fed
-returns-then-self-clause-fed g c = λ basis script front rest at_seam at.
+pub returns-then-self-ge-LONGEST_SCRIPT-clause-fed : goal.returns-then-self-ge-LONGEST_SCRIPT-clause-fed
+returns-then-self-ge-LONGEST_SCRIPT-clause-fed g c = λ basis script front rest at_seam at.
     let cut = at_seam ∙ append_assoc front (c.args.byte ∷ []) rest in
-    let limit = c.args.self.now.progress.limit in
-    let size : length front ≡ limit = omega (arith, at.taken_is, c.args.self.now.progress.not_too_long) in
+    let size : length front ≡ longest_script = omega (arith, at.taken_is, c.args.self.now.progress.not_too_long) in
     record {
-      events = script.events;
-      same = λ j before. refl;
-      history = at.place.0.history;
       ended = λ left. (
         omega (arith, size, ap length cut, length-append front (c.args.byte ∷ rest)),
-        rw (take_front script.bytes front (c.args.byte ∷ rest) limit cut size) at.place.0.stands,
+        rw (take_front script.bytes front (c.args.byte ∷ rest) longest_script cut size) at.place.stands,
       );
     }
 
 -- a byte of a line
 pub returns-then-byte-ne10-clause-fed : goal.returns-then-byte-ne10-clause-fed
 returns-then-byte-ne10-clause-fed g c = λ basis script front rest cut at. record {
-  events = script.events;
-  same = λ j before. refl;
-  history = at.place.0.history;
   ended = record {
     place = rw (line_ends-more front c.args.byte c.if-byte-ne10.true) at.place;
     lines_are = at.lines_are ∙ sym (line_ends-more front c.args.byte c.if-byte-ne10.true);
@@ -37,14 +30,10 @@ returns-then-byte-ne10-clause-fed g c = λ basis script front rest cut at. recor
 pub returns-clause-fed : goal.returns-clause-fed
 returns-clause-fed g c = λ basis script front rest at_seam at.
     let here = rw c.if-byte-ne10.false at (at_seam ∙ append_assoc front (c.args.byte ∷ []) rest) in
-    let policy = c.args.engine.now.policy in
-    let event : slice_get script.events (line_ends front) ≡ Some c.event_of-event.result = at.place.1 (line_ends front) (omega arith) ∙ rw (c.event_of-event.ensures.event, c.bytes.ensures, at.start_is) (ended_event policy.mode policy.most script.bytes front rest here) in
+    let event : slice_get (events_of script.bytes) (line_ends front) ≡ Some c.of_line-event.result = rw (c.of_line-event.ensures.event, c.bytes.ensures, at.start_is) (ended_event script.bytes front rest here) in
     let ends : line_ends (front ++ c.args.byte ∷ []) ≡ suc (line_ends front) = rw c.if-byte-ne10.false (line_ends-end front) in
     let done = c.in_ok-answer_line.ensures.answered basis c.args.self.now.progress script (line_ends front) at.place event in
     record {
-      events = done.events;
-      same = done.same;
-      history = done.history;
       ended = record {
         place = rw ends done.ended;
         lines_are = omega (arith, ends, at.lines_are);
@@ -57,8 +46,7 @@ returns-clause-fed g c = λ basis script front rest at_seam at.
 pub returns-in_err-answer_line-clause-fed : goal.returns-in_err-answer_line-clause-fed
 returns-in_err-answer_line-clause-fed g c = λ basis script front rest at_seam at.
     let here = rw c.if-byte-ne10.false at (at_seam ∙ append_assoc front (c.args.byte ∷ []) rest) in
-    let policy = c.args.engine.now.policy in
-    let event : slice_get script.events (line_ends front) ≡ Some c.event_of-event.result = at.place.1 (line_ends front) (omega arith) ∙ rw (c.event_of-event.ensures.event, c.bytes.ensures, at.start_is) (ended_event policy.mode policy.most script.bytes front rest here) in
-    let done = c.in_err-answer_line.ensures.answered basis c.args.self.now.progress script (line_ends front) at.place event in
+    let event : slice_get (events_of script.bytes) (line_ends front) ≡ Some c.of_line-event.result = rw (c.of_line-event.ensures.event, c.bytes.ensures, at.start_is) (ended_event script.bytes front rest here) in
     let told = err_from_is_err_and c.from_residual.result c.from_residual.ensures.1 in
-    record { events = done.events; same = done.same; history = done.history; ended = rw (told.1, told.2) done.ended }
+    let done = c.in_err-answer_line.ensures.answered basis c.args.self.now.progress script (line_ends front) at.place event in
+    record { ended = rw (told.1, told.2) done.ended }

@@ -5,9 +5,8 @@ use Rattle.cred_cli.proofs.run.Run.take_bytes.Given as goal
 -- the first bytes are taken
 abbrev pub invariant-loop-byte : goal.invariant-loop-byte
 invariant-loop-byte g l = record {
-  fed : (basis : Basis) → Takes l.engine.policy g.K.Keeper.capacity (take l.byte-index l.bytes) (standing (held_on basis g.W.Write.contents l.fn.writer) (g.K.Keeper.book l.fn.keeper) l.fn.self)
+  fed : (basis : Basis) → Takes g.K.Keeper.capacity (take l.byte-index l.bytes) (standing (held_on basis g.W.Write.contents l.fn.writer) (g.K.Keeper.book l.fn.keeper) l.fn.self)
       (standing (held_on basis g.W.Write.contents l.writer) (g.K.Keeper.book l.keeper) l.self) (Ok tt);
   written : IsWritten g.W.Write.contents l.fn.writer l.writer;
-  limit : l.self.progress.limit ≡ l.fn.self.progress.limit;
   taken : l.self.progress.taken ≡ l.fn.self.progress.taken + l.byte-index;
 }

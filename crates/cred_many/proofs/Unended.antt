@@ -1,8 +1,9 @@
 -- Lines of which the last one may have no end.
-use Rattle.std.proofs.Common.{◌≡◌, ℕ, zero, suc, ◌+◌, ◌<◌, ◌≤◌, List, [], ◌∷◌, ◌++◌, length, take, drop, map, option_map, refl, ap, ◌∙◌, arith, slice_get, take-append-drop}
-use Rattle.std.proofs.lemmas.{List.Folds.map_fixed, List.length-append, List.length-drop, List.length-map, List.length-take, Option.slice_get-map}
-use Rattle.cred_cli.specs.Script.{line_ends, with_unended}
+use Rattle.std.proofs.Common.{◌≡◌, ℕ, zero, suc, ◌+◌, ◌<◌, ◌≤◌, List, [], ◌∷◌, ◌++◌, length, take, drop, map, option_map, refl, arith, slice_get}
+use Rattle.std.proofs.lemmas.{List.length-append, List.length-drop, List.length-map, List.length-take, Option.slice_get-map}
+use Rattle.cred_cli.specs.Script.{line_ends}
 use Rattle.cred_cli.proofs.Lines.{line_ends-append}
+use Rattle.cred_many.specs.Service.{with_unended}
 
 -- a line that ends later isn't counted yet
 pub ends_sooner : (front rest : List ℕ) → line_ends front < line_ends (front ++ 10 ∷ rest)
@@ -35,8 +36,3 @@ module _ {A : Type 0} (f : A → A) where
     pub unended_last : (i : ℕ) → i ≡ line_ends bytes → slice_get (with_unended f bytes xs) i ≡ option_map f (slice_get xs i)
     unfolding with_unended
     unended_last i last = others_change (line_ends bytes) xs i (omega (arith, last))
-
-    -- which may come to the same
-    pub unended_same : ((x : A) → f x ≡ x) → with_unended f bytes xs ≡ xs
-    unfolding with_unended
-    unended_same same = ap (λ ys. take (line_ends bytes) xs ++ ys) (map_fixed f (drop (line_ends bytes) xs) (λ k d low. same _)) ∙ take-append-drop (line_ends bytes) xs

@@ -1,6 +1,5 @@
-use Rattle.std.proofs.{Common.Err, Common.Ok, Common.inl, Common.inr, Common.refl, Common.subst, KnownBytes.Keeps-refl, lemmas.Result.err_from_is_err_and}
-use Rattle.cred_admin.specs.Commands.{Works}
-use Rattle.cred_admin.proofs.command.Command.carry_out.Goals as goal
+use Rattle.std.proofs.{Common.Err, Common.Ok, Common.inl, Common.inr, Common.refl, KnownBytes.Keeps-refl, lemmas.Result.err_from_is_err_and}
+use Rattle.cred_admin.proofs.operation.Operation.carry_out.Goals as goal
 
 pub returns-in_err-typed-clause-done : goal.returns-in_err-typed-clause-done
 returns-in_err-typed-clause-done g c = λ basis fits.
@@ -11,12 +10,10 @@ pub returns-in_err-verdict-clause-done : goal.returns-in_err-verdict-clause-done
 returns-in_err-verdict-clause-done g c = λ basis fits.
     let told = err_from_is_err_and c.from_residual-in_err-verdict.result c.from_residual-in_err-verdict.ensures.1 in
     let read = rw c.passwords.ensures at (c.in_ok-typed.ensures.read basis fits) in
-    let works = subst (λ o. Works g.K.Host.capacity (g.K.Host.book c.args.keeper.now) (g.K.Host.book c.work.new.keeper) o (Err c.in_err-verdict.field-0.0)) c.operation.ensures.asked c.in_err-verdict.ensures in
-    inr (c.in_err-verdict.field-0.0, rw (told.1, told.2) refl, inr (c.in_ok-typed.typed, read, works), Keeps-refl _)
+    inr (c.in_err-verdict.field-0.0, rw (told.1, told.2) refl, inr (c.in_ok-typed.typed, read, c.in_err-verdict.ensures), Keeps-refl _)
 
 pub returns-clause-done : goal.returns-clause-done
 returns-clause-done g c = λ basis fits.
     let read = rw c.passwords.ensures at (c.in_ok-typed.ensures.read basis fits) in
-    let works = subst (λ o. Works g.K.Host.capacity (g.K.Host.book c.args.keeper.now) (g.K.Host.book c.work.new.keeper) o (Ok c.in_ok-verdict.verdict)) c.operation.ensures.asked c.in_ok-verdict.ensures in
     let told = rw (c.verdict_line.ensures, c.verdict_status.ensures, c.hint_of-hint.ensures) at (c.tell.ensures.told basis) in
-    inl (c.in_ok-typed.typed, read, c.in_ok-verdict.verdict, works, told, c.tell.ensures.fault)
+    inl (c.in_ok-typed.typed, read, c.in_ok-verdict.verdict, c.in_ok-verdict.ensures, told, c.tell.ensures.fault)
