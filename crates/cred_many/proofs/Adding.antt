@@ -10,6 +10,14 @@ use Rattle.cred_many.specs.{Asks.Entry, declared.ask.Ask.Ask, declared.ask.Ask.T
 use Rattle.cred_many.specs.{Service.Service, Answered.AreCalls, Answered.IsCall, Answered.StandsBehind, Answered.State, Answered.answered_in}
 use Rattle.cred_many.specs.Scribe.{AddsNone, AddsOne, AddsSome, IsCountedAt, IsNotSentAway, IsQuick, passed_of}
 
+-- ---- nothing is done
+
+pub same_one : (Same : List Entry → List ℕ → Type 0) (IsSo : Ask → Type 0) (t : ℕ) → AddsOne IsSo t Same Same
+same_one Same IsSo t list times h = ∣ inl h ∣₁
+
+pub same_some : (Same : List Entry → List ℕ → Type 0) (IsSo : Ask → Type 0) (t : ℕ) → AddsSome IsSo t Same Same
+same_some Same IsSo t list times h = ∣ ([], All-nil (λ (e : Entry). IsSo e.ask), subst (Same list) (sym (append-nil times)) (subst (λ l. Same l times) (sym (append-nil list)) h)) ∣₁
+
 -- ---- a history goes on
 
 module _ (Before After : List Entry → List ℕ → Type 0) where
@@ -107,6 +115,11 @@ module _ (Before After : List Entry → List ℕ → Type 0) (t : ℕ) where
   pub quick_counts : (now : ℕ) (old new : Option Limits) (book : MarkedBook) → new ≡ old → AddsOne IsQuick t Before After → AddsOne (IsCountedAt now old new book) t Before After
   quick_counts now old new book same adds = one_weaker Before After IsQuick t (IsCountedAt now old new book) (λ ask quick. subst (λ l. IsCountedAt now old l book ask) (sym same) (quick_at now old book ask quick)) adds
 
+  -- it is counted from a limiter and a book that are the same
+  pub counted_from : (now : ℕ) (first old new : Option Limits) (here book : MarkedBook) → old ≡ first → book ≡ here → AddsOne (IsCountedAt now old new book) t Before After → AddsOne (IsCountedAt now first new here) t Before After
+  counted_from now first old new here book same is adds = one_weaker Before After (IsCountedAt now old new book) t (IsCountedAt now first new here)
+      (λ ask counts. subst (λ l. IsCountedAt now l new here ask) same (subst (λ b. IsCountedAt now old new b ask) is counts)) adds
+
   pub quick_some : AddsOne IsQuick t Before After → AddsSome IsNotSentAway t Before After
   quick_some adds = one_some Before After IsNotSentAway t (one_weaker Before After IsQuick t IsNotSentAway quick_judged adds)
 
@@ -126,7 +139,7 @@ module _ (capacity : ℕ) (s : Service) (list : List Entry) (times : List ℕ) w
       before.1 ++ map (λ (e : Entry). t) es,
       length-append before.1 (map (λ (e : Entry). t) es) ∙ ap (λ n. n + length (map (λ (e : Entry). t) es)) before.2 ∙ ap (λ n. length before.0 + n) (length-map es (λ (e : Entry). t)) ∙ sym (length-append before.0 es),
       subst (answered_in capacity s m (list ++ (before.0 ++ es))) (append_assoc times before.1 (map (λ (e : Entry). t) es))
-      (subst (λ l. answered_in capacity s m l ((times ++ before.1) ++ map (λ (e : Entry). t) es)) (append_assoc list before.0 es) is),
+          (subst (λ l. answered_in capacity s m l ((times ++ before.1) ++ map (λ (e : Entry). t) es)) (append_assoc list before.0 es) is),
     )
 
   one_call : (old new : State) → IsCall capacity s old new → StandsBehind capacity s list times old → StandsBehind capacity s list times new

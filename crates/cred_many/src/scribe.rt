@@ -5,9 +5,9 @@ ghost use Rattle.std.specs.Prelude.{◌≡◌, ◌↔◌, ℕ, ◌+◌, ◌++◌
 ghost use Rattle.cred_cli.specs.Script.{lines_of};
 ghost use Rattle.cred_book.specs.Works.{is_for_current, name_of};
 ghost use Rattle.cred_many.specs.Scribe.{AddsNone, AddsOne, IsCountedAt, IsQuick, answered_by, passed_of};
-ghost use Rattle.cred_many.specs.{Asks.hashed_for, Asks.is_reset, Scribe.HasTurn, Scribe.History, Scribe.IsAnswered, Scribe.IsBusy, Scribe.IsLooked, Scribe.IsReady, Scribe.moment, Scribe.numbers, Scribe.unseen, declared.ask.Ask.TheVariants.Forgive, declared.ask.Ask.TheVariants.Quick};
+ghost use Rattle.cred_many.specs.{Asks.hashed_for, Asks.is_reset, Scribe.History, Scribe.IsAnswered, Scribe.IsLooked, Scribe.IsReady, Scribe.moment, Scribe.numbers, Scribe.unseen, declared.ask.Ask.TheVariants.Forgive, declared.ask.Ask.TheVariants.Quick};
 ghost use Rattle.cred_tries.specs.Answers.{IsReadBy};
-ghost use Rattle.cred_many.specs.{Served.HasCause, Served.NeedsMemory, Served.Stands, Served.StandsAtEnd, Served.left_of, Served.record_at, Transcript.written_of, Turns.KeepsTurns, Turns.UsesTurn};
+ghost use Rattle.cred_many.specs.{Served.HasCause, Served.Stands, Served.StandsAtEnd, Served.left_of, Served.record_at, Transcript.written_of, Turns.KeepsTurns};
 
 mod commits;
 mod groups;
@@ -26,8 +26,8 @@ use crate::service_id::ServiceId;
 use crate::source::Source;
 use crate::tries::Tries;
 use cred_admin::{EditReply, Host, edit_line};
-use cred_book::{BookError, Name, Request, Ticket};
-use cred_cli::{Refusal, Watched};
+use cred_book::{Name, Request, Ticket};
+use cred_cli::Watched;
 use cred_tries::TryLimit;
 pub(crate) use job::Message;
 pub use job::{Hashed, Job, Starved};
@@ -118,6 +118,8 @@ impl<J: ServiceId, K: Host, W: Write> Scribe<J, K, W> {
             → IfSome J.service.input (λ all. result.lines ≡ length (lines_of all)) }
         ensures read { self.output.fault ≡ None → numbers self.output.pending ≡ []
             → IfSome result.source (λ _. result.fault ≡ Some ServiceFault.Read) }
+        ensures kept { (result.keeper ≡ self.keeper) × (result.writer ≡ self.output.writer)
+            × (result.passed ≡ passed_of self.tries) }
     {
         self.lose_pending();
         match ending.end() {
@@ -145,6 +147,9 @@ impl<J: ServiceId, K: Host, W: Write> Scribe<J, K, W> {
         ensures same { numbers self.old.output.pending ≡ []
             → self.new.output.fault ≡ self.old.output.fault }
         ensures came { self.new.came ≡ self.old.came }
+        ensures kept { (self.new.keeper ≡ self.old.keeper)
+            × (self.new.output.writer ≡ self.old.output.writer)
+            × (self.new.tries ≡ self.old.tries) }
     {
         if self.output.fault.is_none() && !self.output.pending.is_empty() {
             self.output.fault = Some(ServiceFault::Lost);
@@ -162,6 +167,8 @@ impl<J: ServiceId, K: Host, W: Write> Scribe<J, K, W> {
         ensures why { result.fault ≡ None → why ≡ None }
         ensures told { self.output.fault ≡ None → result.fault ≡ why }
         ensures source { result.source ≡ source }
+        ensures kept { (result.keeper ≡ self.keeper) × (result.writer ≡ self.output.writer)
+            × (result.passed ≡ passed_of self.tries) }
     {
         let Scribe {
             keeper,
