@@ -16,7 +16,7 @@ pub same_one : (Same : List Entry → List ℕ → Type 0) (IsSo : Ask → Type 
 same_one Same IsSo t list times h = ∣ inl h ∣₁
 
 pub same_some : (Same : List Entry → List ℕ → Type 0) (IsSo : Ask → Type 0) (t : ℕ) → AddsSome IsSo t Same Same
-same_some Same IsSo t list times h = ∣ ([], All-nil (λ (e : Entry). IsSo e.ask), subst (Same list) (sym (append-nil times)) (subst (λ l. Same l times) (sym (append-nil list)) h)) ∣₁
+same_some Same IsSo t list times h = ∣ ([], All-nil (λ (e : Entry). IsSo e.ask), subst (Same (list ++ [])) (sym (append-nil times)) (subst (λ l. Same l times) (sym (append-nil list)) h)) ∣₁
 
 -- ---- a history goes on
 
@@ -47,13 +47,13 @@ module _ (Before After : List Entry → List ℕ → Type 0) where
     none_one stays list times h = ∣ inl (stays list times h) ∣₁
 
     pub none_some : AddsNone Before After → AddsSome IsSo t Before After
-    none_some stays list times h = ∣ ([], All-nil (λ (e : Entry). IsSo e.ask), subst (After list) (sym (append-nil times)) (subst (λ l. After l times) (sym (append-nil list)) (stays list times h))) ∣₁
+    none_some stays list times h = ∣ ([], All-nil (λ (e : Entry). IsSo e.ask), subst (After (list ++ [])) (sym (append-nil times)) (subst (λ l. After l times) (sym (append-nil list)) (stays list times h))) ∣₁
 
     pub one_some : AddsOne IsSo t Before After → AddsSome IsSo t Before After
     one_some adds list times h = ∥∥₁_map (adds list times h) either
       where
         either : After list times ⊎ ((e : Entry) × IsSo e.ask × After (list ++ e ∷ []) (times ++ t ∷ [])) → (more : List Entry) × All (λ e. IsSo e.ask) more × After (list ++ more) (times ++ map (λ _. t) more)
-        either (inl after) = ([], All-nil (λ (e : Entry). IsSo e.ask), subst (After list) (sym (append-nil times)) (subst (λ l. After l times) (sym (append-nil list)) after))
+        either (inl after) = ([], All-nil (λ (e : Entry). IsSo e.ask), subst (After (list ++ [])) (sym (append-nil times)) (subst (λ l. After l times) (sym (append-nil list)) after))
         either (inr more) = (more.0 ∷ [], All-push (λ (e : Entry). IsSo e.ask) [] more.0 (All-nil (λ (e : Entry). IsSo e.ask)) more.1, more.2)
 
     -- ---- what is so is so by another word
@@ -127,7 +127,7 @@ module _ (Before After : List Entry → List ℕ → Type 0) (t : ℕ) where
 
 module _ (capacity : ℕ) (s : Service) (list : List Entry) (times : List ℕ) where
   here : (m : State) → answered_in capacity s m list times → StandsBehind capacity s list times m
-  here m is = ∣ ([], [], refl, subst (answered_in capacity s m list) (sym (append-nil times)) (subst (λ l. answered_in capacity s m l times) (sym (append-nil list)) is)) ∣₁
+  here m is = ∣ ([], [], refl, subst (answered_in capacity s m (list ++ [])) (sym (append-nil times)) (subst (λ l. answered_in capacity s m l times) (sym (append-nil list)) is)) ∣₁
 
   -- some lines more behind them
   module _ (m : State) (t : ℕ) where
@@ -152,7 +152,7 @@ module _ (capacity : ℕ) (s : Service) (list : List Entry) (times : List ℕ) w
 
       some : AddsSome (λ ask. Unit {0}) (passed_of new.limits) (answered_in capacity s old) (answered_in capacity s new)
           → (more : List Entry) × (later : List ℕ) × (length later ≡ length more) × answered_in capacity s old (list ++ more) (times ++ later) → StandsBehind capacity s list times new
-      some adds before = ∥∥₁_map (adds (list ++ before.0) (times ++ before.1) before.3) (λ more. farther new (passed_of new.limits) (before.0, before.1, before.2, tt) more.0 more.2)
+      some more before = ∥∥₁_map (more (list ++ before.0) (times ++ before.1) before.3) (λ es. farther new (passed_of new.limits) (before.0, before.1, before.2, tt) es.0 es.2)
 
 pub stand_behind : (capacity : ℕ) (s : Service) (states : ℕ → State) → AreCalls capacity s states → (list : List Entry) (times : List ℕ) → answered_in capacity s (states 0) list times → (calls : ℕ) → StandsBehind capacity s list times (states calls)
 stand_behind capacity s states all list times is zero = here capacity s list times (states 0) is

@@ -35,8 +35,8 @@ AreCalls capacity s states = (n : ℕ) → IsCall capacity s (states n) (states 
 
 -- these lines are still answered, at these moments, and perhaps more behind them
 abbrev pub StandsBehind : ℕ → Service → List Entry → List ℕ → State → Type 0
-StandsBehind capacity s list times m = ∥ (more : List Entry) × (later : List ℕ)
-    × (length later ≡ length more) × answered_in capacity s m (list ++ more) (times ++ later) ∥₁
+StandsBehind capacity s list times m = ∥ ((more : List Entry) × (later : List ℕ)
+    × (length later ≡ length more) × answered_in capacity s m (list ++ more) (times ++ later)) ∥₁
 
 -- the answers to them, given at these moments, keep the limit, if there is one
 abbrev pub KeepsLimit : ℕ → Service → State → List Entry → List ℕ → Type 0
