@@ -68,6 +68,10 @@ module _ (Before After : List Entry → List ℕ → Type 0) where
     pub some_weaker : (IsMore : Ask → Type 0) → ((ask : Ask) → IsSo ask → IsMore ask) → AddsSome IsSo t Before After → AddsSome IsMore t Before After
     some_weaker IsMore weaker adds list times h = ∥∥₁_map (adds list times h) (λ more. (more.0, All-weaker (λ (e : Entry). IsSo e.ask) (λ (e : Entry). IsMore e.ask) (λ e is. weaker e.ask is) more.0 more.1, more.2))
 
+-- at a moment that is the same
+pub some_at : (Before After : List Entry → List ℕ → Type 0) (IsSo : Ask → Type 0) (t u : ℕ) → t ≡ u → AddsSome IsSo t Before After → AddsSome IsSo u Before After
+some_at Before After IsSo t u same adds = subst (λ at. AddsSome IsSo at Before After) same adds
+
 -- ---- two calls, one after another
 
 module _ (First Then Last : List Entry → List ℕ → Type 0) where

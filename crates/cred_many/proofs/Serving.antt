@@ -216,16 +216,16 @@ module _ (capacity : ℕ) (s : Service) (old now : Written) (book later : Marked
 
   module _ (served : ∥ History capacity s old book was left came limits ∥₁) where
     pub answered : later ≡ (done capacity book line.ask).1 → answer ≡ (done capacity book line.ask).0 → IsCounted limits later_limits book line.ask → ∥ History capacity s now later f rest came later_limits ∥₁
-    answered later_is answer_is counts = goes_on (λ ask. Unit {0}) (passed_of later_limits) Before After (adds_answer (λ ask. Unit {0}) tt later_is answer_is counts) served
+    answered later_is answer_is counts = goes_on Before After (λ ask. Unit {0}) (passed_of later_limits) (adds_answer (λ ask. Unit {0}) tt later_is answer_is counts) served
 
     pub starved : later ≡ book → answer ≡ line_of (Refused (refusal.Book error.Memory)) → NeedsMemory capacity book line.ask → later_limits ≡ limits → ∥ History capacity s now later f rest came later_limits ∥₁
-    starved same is needs idle = goes_on IsQuick (passed_of later_limits) Before After (adds_starved same is needs idle) served
+    starved same is needs idle = goes_on Before After IsQuick (passed_of later_limits) (adds_starved same is needs idle) served
 
     pub given_up : later ≡ book → answer ≡ line_of (Refused refusal.Busy) → IsBusy left place line.ask → later_limits ≡ limits → ∥ History capacity s now later f rest came later_limits ∥₁
-    given_up same is busy idle = goes_on IsQuick (passed_of later_limits) Before After (adds_busy same is busy idle) served
+    given_up same is busy idle = goes_on Before After IsQuick (passed_of later_limits) (adds_busy same is busy idle) served
 
     pub sent_away : (clock seconds : ℕ) → later ≡ book → answer ≡ later_line seconds → is_try line.ask ≡ true → IsSentAway clock limits later_limits (name_asked line.ask) seconds → ∥ History capacity s now later f rest came later_limits ∥₁
-    sent_away clock seconds same is tries early = goes_on (IsCountedAt clock limits later_limits book) (passed_of later_limits) Before After (adds_sent clock seconds same is tries early) served
+    sent_away clock seconds same is tries early = goes_on Before After (IsCountedAt clock limits later_limits book) (passed_of later_limits) (adds_sent clock seconds same is tries early) served
 
 module _ (capacity : ℕ) (s : Service) (now : Written) (book : MarkedBook) (left : List Open) (came : ℕ) (limits : Option Limits) (was : Option ServiceFault) where
   -- the lines stay

@@ -185,6 +185,16 @@ KeepsCount None None times told = Unit {0}
 KeepsCount (Some limit) (Some l) times told = HasCounted limit l times told
 KeepsCount _ _ times told = ⊥
 
+-- what is answered needs no hash, and tells of no try
+abbrev pub IsQuick : Ask → Type 0
+IsQuick (Quick ask) = Unit {0}
+IsQuick _ = ⊥
+
+-- no try is sent away
+abbrev pub IsNotSentAway : Ask → Type 0
+IsNotSentAway (Later name seconds) = ⊥
+IsNotSentAway _ = Unit {0}
+
 -- ---- changes that are made together
 
 -- the lines of what is hashed
@@ -273,13 +283,3 @@ abbrev pub AddsSome : (Ask → Type 0) → ℕ → (List Entry → List ℕ → 
 AddsSome IsSo t old new = (list : List Entry) (times : List ℕ) → old list times
     → ∥ ((more : List Entry) × All (λ e. IsSo e.ask) more
     × new (list ++ more) (times ++ map (λ _. t) more)) ∥₁
-
--- what is answered needs no hash, and tells of no try
-abbrev pub IsQuick : Ask → Type 0
-IsQuick (Quick ask) = Unit {0}
-IsQuick _ = ⊥
-
--- no try is sent away
-abbrev pub IsNotSentAway : Ask → Type 0
-IsNotSentAway (Later name seconds) = ⊥
-IsNotSentAway _ = Unit {0}

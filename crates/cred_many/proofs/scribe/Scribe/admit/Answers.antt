@@ -23,11 +23,11 @@ returns-clause-ready g c =
     let more : c.push.new.self ≡ c.args.self.now.output.pending ++ unseen c.args.line.now.number ∷ [] = search rules in
     opened_ready _ _ _ _ _ c.requires more (search rules)
 
-pub returns-then-number-lt-self-clause-adds : goal.returns-then-number-lt-self-clause-adds
-returns-then-number-lt-self-clause-adds g c = λ list times h. h
+pub returns-then-number-self-clause-adds : goal.returns-then-number-self-clause-adds
+returns-then-number-self-clause-adds g c = λ list times h. h
 
-pub returns-then-adds-clause-adds : goal.returns-then-adds-clause-adds
-returns-then-adds-clause-adds g c = none_still _ _ _ _ _ _ _ _ _ c.requires
+pub returns-then-number-self-2-clause-adds : goal.returns-then-number-self-2-clause-adds
+returns-then-number-self-2-clause-adds g c = none_still _ _ _ _ _ _ _ _ _ c.requires
 
 pub returns-then-is_err-clause-adds : goal.returns-then-is_err-clause-adds
 returns-then-is_err-clause-adds g c =

@@ -20,3 +20,6 @@ returns-in-Ok-clause-adds g c = adds_answer _ g.J.ServiceId.service _ _ (g.K.Hos
 
 pub returns-in-Err-clause-adds : goal.returns-in-Err-clause-adds
 returns-in-Err-clause-adds g c = rw c.in-Err.ensures.refused at c.refuse.ensures.adds
+
+pub invariant_of-self-in-Err-clause-history : goal.invariant_of-self-in-Err-clause-history
+invariant_of-self-in-Err-clause-history g c = rw c.in-Err.ensures.refused c.args.self.now.history

@@ -1,13 +1,14 @@
-use Rattle.std.proofs.Common.{◌≡◌, None, arith, length, map-id, refl, rules, sym, ◌∙◌}
+use Rattle.std.proofs.Common.{◌≡◌, None, ap, arith, length, map-id, refl, rules, sym, ◌∙◌}
 use Rattle.std.proofs.lemmas.Iterator.Adapters.{YieldsList-from_vec}
 use Rattle.std.proofs.lemmas.Iterator.Consumers.{YieldsList-end}
-use Rattle.cred_many.proofs.Adding.{quick_some, same_some, some_some}
+use Rattle.cred_many.proofs.Adding.{quick_some, same_some, some_at, some_some}
+use Rattle.cred_many.specs.Scribe.{IsNotSentAway, passed_of}
 use Rattle.cred_many.proofs.{Groups.none_together, Uses.all_back, Uses.all_done, Uses.gathered_back, Uses.gathered_in, Uses.gathered_starved, Uses.none_gathered}
 use Rattle.cred_many.proofs.scribe.Scribe.commit_together.Goals.{then-is_none+then-not-is_empty, else-is_none, else-is_none-via-then-is_none+else-not-is_empty, else-is_none-via-else-is_none}
 use Rattle.cred_many.proofs.scribe.Scribe.commit_together.Goals as goal
 
 pub loop-hashed-init : goal.loop-hashed-init
-loop-hashed-init g c = rw (c.new-group.ensures.changed, c.new-group.ensures.works, c.new-group.ensures.text) (none_together _ _ _ _, refl, (λ going. (going, none_gathered _ _ _ _ refl)), same_some _ _ _)
+loop-hashed-init g c = rw (c.new-group.ensures.changed, c.new-group.ensures.works, c.new-group.ensures.text) (none_together _ _ _ _, refl, (λ going. (going, none_gathered _ _ _ _ refl)), same_some _ IsNotSentAway _)
 
 pub loop-hashed-preserved-in_default : goal.loop-hashed-preserved-in_default
 loop-hashed-preserved-in_default g c =
@@ -21,7 +22,7 @@ loop-hashed-preserved-in-Err-push g c = (
       let was = c.loop-hashed.invariant.2 (c.starve.ensures.going going) in
       let used = rw (c.into_parts-line.ensures.line, c.in-Err-push.ensures.value_returned, c.in-Err.ensures.back) at (c.starve.ensures.turns going) in
       (was.0, rw (c.in-Err-push.ensures.items, c.in-Err.ensures.same) (gathered_starved c.loop-hashed.yielded _ _ c.in-Some.hashed _ _ _ was.1 used))),
-  some_some _ _ _ _ _ c.loop-hashed.invariant.3 (quick_some _ _ _ (rw (c.starve.ensures.same_tries, c.loop-hashed.invariant.1) at c.starve.ensures.adds)),
+  some_some _ _ _ IsNotSentAway _ c.loop-hashed.invariant.3 (some_at _ _ IsNotSentAway _ _ (ap passed_of (c.starve.ensures.same_tries ∙ c.loop-hashed.invariant.1)) (quick_some _ _ _ c.starve.ensures.adds)),
 )
 
 pub loop-hashed-preserved : goal.loop-hashed-preserved
@@ -59,6 +60,6 @@ returns-clause-clock g c = elim c.if-is_none.branch [
 
 pub returns-clause-adds : goal.returns-clause-adds
 returns-clause-adds g c = elim c.if-is_none.branch [
-  | then-is_none+then-not-is_empty w ↦ rw w.self-is (some_some _ _ _ _ _ (rw (sym c.loop-hashed.invariant.1, sym w.commit_group.ensures.same_tries) at c.loop-hashed.invariant.3) w.commit_group.ensures.adds)
-  | else-is_none w ↦ rw w.self-is (rw (sym c.loop-hashed.invariant.1) at c.loop-hashed.invariant.3)
+  | then-is_none+then-not-is_empty w ↦ rw w.self-is (some_some _ _ _ IsNotSentAway _ (some_at _ _ IsNotSentAway _ _ (ap passed_of (sym (w.commit_group.ensures.same_tries ∙ c.loop-hashed.invariant.1))) c.loop-hashed.invariant.3) w.commit_group.ensures.adds)
+  | else-is_none w ↦ rw w.self-is (some_at _ _ IsNotSentAway _ _ (ap passed_of (sym c.loop-hashed.invariant.1)) c.loop-hashed.invariant.3)
 ]

@@ -77,7 +77,7 @@ returns-then-is_err-clause-adds g c =
     let wrong : c.effect_of-effect.result ≡ effect.Wrong = search rules in
     let told = c.effect_of-effect.ensures ∙ ap (λ a. effect_by (is_try a) c.in-Ok.verdict) c.ask-ask.ensures.ask in
     let still = wrong_stays (is_try c.args.line.ask) _ _ c.args.worked c.in-Ok.verdict c.in-Ok.ensures.done (sym c.if-is_outdated.ensures) (sym told ∙ wrong) in
-    quick_counts _ _ _ c.args.now c.args.self.now.tries _ (g.K.Host.book c.args.self.now.keeper) (c.refuse-2.ensures.same_tries ∙ tries) (rw (still, tries) at c.refuse-2.ensures.adds)
+    quick_counts _ _ _ c.args.now c.args.self.now.tries _ (g.K.Host.book c.args.self.now.keeper) (c.refuse-then-is_err.ensures.same_tries ∙ tries) (rw (still, tries) at c.refuse-then-is_err.ensures.adds)
 
 pub returns-clause-adds : goal.returns-clause-adds
 returns-clause-adds g c =
@@ -88,3 +88,6 @@ returns-clause-adds g c =
     adds_answer _ g.J.ServiceId.service _ _ (g.K.Host.book c.args.self.now.keeper) _ c.args.line _ _ c.args.place _ _ _ _ _ _ _ c.requires.ready c.answer.ensures.came c.answer.ensures.closed c.answer.ensures.told (IsCountedAt c.args.now c.args.self.now.tries c.count.new.self (g.K.Host.book c.args.self.now.keeper)) counts
     (ap (λ o. o.1) whole) (c.verdict_line-answer.ensures ∙ ap verdict_line (c.told_verdict.ensures ∙ ap (λ a. told_verdict a c.in-Ok.verdict) c.ask-ask.ensures.ask) ∙ ap (λ o. o.0) whole)
     (c.args.now, counts)
+
+pub invariant_of-self-in-Err-clause-history : goal.invariant_of-self-in-Err-clause-history
+invariant_of-self-in-Err-clause-history g c = rw (c.in-Err.ensures.memory.1, c.send_away.ensures.same c.in_default.is) c.args.self.now.history

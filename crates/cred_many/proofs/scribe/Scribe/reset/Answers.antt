@@ -23,3 +23,6 @@ returns-in-Ok-clause-adds g c = λ now.
 pub returns-in-Err-clause-adds : goal.returns-in-Err-clause-adds
 returns-in-Err-clause-adds g c = λ now.
     quick_counts _ _ _ now c.args.self.now.tries _ (g.K.Host.book c.args.self.now.keeper) c.refuse.ensures.same_tries (rw c.in-Err.ensures.refused at c.refuse.ensures.adds)
+
+pub invariant_of-self-in-Err-clause-history : goal.invariant_of-self-in-Err-clause-history
+invariant_of-self-in-Err-clause-history g c = rw c.in-Err.ensures.refused c.args.self.now.history
