@@ -16,3 +16,6 @@ returns-in-Ok-clause-turns g c =
 pub returns-in-Ok-clause-adds : goal.returns-in-Ok-clause-adds
 returns-in-Ok-clause-adds g c = rw c.conclude_all.ensures.same (adds_together _ g.J.ServiceId.service _ _ (g.K.Host.book c.args.self.now.keeper) _ c.args.group.changed _ _ _ _ _ _ _ _ _ _ _ c.requires.going c.requires.group c.in-Ok.ensures.whole.0 c.in-Some.ensures (search rules)
     c.conclude_all.ensures.told (search rules))
+
+pub invariant_of-self-in-Err-clause-history : goal.invariant_of-self-in-Err-clause-history
+invariant_of-self-in-Err-clause-history g c = rw c.in-Err.ensures.whole.1 c.args.self.now.history

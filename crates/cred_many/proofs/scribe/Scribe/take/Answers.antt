@@ -61,3 +61,6 @@ returns-in-Quick-clause-adds g c = none_then_one _ _ _ _ _ c.admit.ensures.adds 
 pub returns-in-Forgive-clause-adds : goal.returns-in-Forgive-clause-adds
 returns-in-Forgive-clause-adds g c = none_then_one _ _ _ _ _ c.admit.ensures.adds
     (counted_from _ _ _ c.args.now _ _ _ _ _ c.admit.ensures.same_tries c.admit.ensures.book (rw (c.send_away.ensures.same c.in_default.is) at (c.forgive.ensures.adds c.args.now)))
+
+pub invariant_of-self-in_default-clause-history : goal.invariant_of-self-in_default-clause-history
+invariant_of-self-in_default-clause-history g c = rw (c.send_away.ensures.same c.in_default.is) c.admit.new.self.history
