@@ -83,8 +83,8 @@ class SyncsTest(BookTest):
 
 class HashesTest(BookTest):
     def test_no_hash_in_vain(self) -> None:
-        """A line that is answered without a record of its own computes none: there would be no
-        memory."""
+        """An order that is answered without looking at a password computes no record: there would
+        be no memory. A wrong password costs what a right one does."""
         self.book.add("ann", "first")
         small = limited(resource.RLIMIT_AS, 1_000_000_000)
         costly = ("--setting", "$argon2id$v=19$m=2000000,t=1,p=1")
@@ -92,10 +92,10 @@ class HashesTest(BookTest):
             ("add ann", "first", (4, "exists\n")),
             ("reset zoe", "first", (4, "noaccount\n")),
             ("change zoe", "first\nx\n", (4, "noaccount\n")),
-            ("change ann", "wrong\nx\n", (4, "wrong\n")),
             ("upgrade zoe", "first", (4, "noaccount\n")),
-            ("upgrade ann", "wrong\n", (4, "wrong\n")),
             # And this is what would come of it.
+            ("change ann", "wrong\nx\n", (3, "")),
+            ("upgrade ann", "wrong\n", (3, "")),
             ("reset ann", "first", (3, "")),
             ("add zoe", "first", (3, "")),
         ):
@@ -106,7 +106,8 @@ class HashesTest(BookTest):
 
     def test_hashes_of_a_line(self) -> None:
         """A tagged line takes as many hashes for a name that the book lacks, and for an account
-        without a record, as for a password, wrong or right. No time tells them apart."""
+        without a record, as for a wrong password, and a wrong password as many as a right one: one,
+        and one more for a new record. No time tells them apart."""
         need("valgrind")
         costs = "$argon2id$v=19$m=1024,t=2,p=1"
         self.book.add("ann", "one", f"{costs}${SALT}")
@@ -119,16 +120,19 @@ class HashesTest(BookTest):
             self.assertEqual(done.status, 0, done)
             return count
 
+        other = f"{costs.replace('argon2id', 'argon2i')}${SALT}"
         none = work("show ann")
         one = work("verify ann one") - none
         verbs = ("verify", "login", "upgrade", "remove", "reset")
         for line, hashes in (
             *((f"{verb} {{}} two", {"ann": 1, "bob": 1, "cat": 1}) for verb in verbs),
             ("change {} two one", {"ann": 2, "bob": 2, "cat": 2}),
+            (f"upgrade {{}} two {other}", {"ann": 2, "bob": 2, "cat": 2}),
             ("enrol {} two", {"ann": 0, "bob": 1, "cat": 1}),
             ("login {} one", {"ann": 1}),
             ("upgrade {} one", {"ann": 1}),
             ("change {} one two", {"ann": 2}),
+            (f"upgrade {{}} one {other}", {"ann": 2}),
         ):
             with self.subTest(line=line, hashes=hashes):
                 found = {it: round((work(line.format(it)) - none) / one) for it in hashes}

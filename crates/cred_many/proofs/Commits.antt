@@ -13,7 +13,7 @@ use Rattle.cred_admin.specs.declared.verdict.Verdict.TheVariants.{Told, Expired,
 use Rattle.cred_book.specs.declared.request.Request.TheVariants as request
 use Rattle.cred_book.proofs.{Changes.whole_stays, Rows.row_again}
 use Rattle.cred_tries.specs.Limits.{Limits}
-use Rattle.cred_many.specs.{Scribe.HasEffect, Scribe.HasPlace, Scribe.IsCounted, Scribe.IsOpenTo, Tries.effect_by, Tries.is_try, Tries.is_try_request, Tries.reset_effect, Tries.verdict_effect, declared.tries.Effect.Effect}
+use Rattle.cred_many.specs.{Scribe.HasEffect, Scribe.HasPlace, Scribe.IsCounted, Scribe.IsCountedAt, Scribe.IsNotSentAway, Scribe.IsOpenTo, Tries.effect_by, Tries.is_try, Tries.is_try_request, Tries.reset_effect, Tries.verdict_effect, declared.tries.Effect.Effect}
 use Rattle.cred_many.specs.declared.tries.Effect.TheVariants as effect
 use Rattle.std.specs.FinMap as map
 
@@ -181,21 +181,34 @@ told_effect (Login name pw setting) book new work v is kept commits current =
 told_effect _ book new work v is kept commits current = absurd cc
 
 -- it is counted under the name that is asked about
-pub commit_counted : (ask : Ask) (book new : MarkedBook) (work : Task) (v : Verdict) (old later : Option Limits) (now : ℕ) → hashed_for ask ≡ Some work.0 → is_reset ask ≡ false → HeedsMarks book new work v → is_outdated v ≡ false
-    → HasEffect now old later (name_of work.0) (effect_by (is_try ask) v) → IsCounted old later book ask
-commit_counted ask book new work v old later now is kept commits current has = of ask is (told_effect ask book new work v is kept commits current) has
+pub commit_at : (ask : Ask) (book new : MarkedBook) (work : Task) (v : Verdict) (old later : Option Limits) (now : ℕ) → hashed_for ask ≡ Some work.0 → is_reset ask ≡ false → HeedsMarks book new work v → is_outdated v ≡ false
+    → HasEffect now old later (name_of work.0) (effect_by (is_try ask) v) → IsCountedAt now old later book ask
+commit_at ask book new work v old later now is kept commits current has = of ask is (told_effect ask book new work v is kept commits current) has
   where
-    of : (ask : Ask) → hashed_for ask ≡ Some work.0 → effect_by (is_try ask) v ≡ effect_of book ask → HasEffect now old later (name_of work.0) (effect_by (is_try ask) v) → IsCounted old later book ask
-    of (Whole q) is same has = let name : name_of work.0 ≡ name_of q = ap name_of (let r : work.0 ≡ q = cc in r) in (now, subst (λ e. HasEffect now old later (name_of q) e) same (subst (λ n. HasEffect now old later n (effect_by (is_try (Whole q)) v)) name has))
+    of : (ask : Ask) → hashed_for ask ≡ Some work.0 → effect_by (is_try ask) v ≡ effect_of book ask → HasEffect now old later (name_of work.0) (effect_by (is_try ask) v) → IsCountedAt now old later book ask
+    of (Whole q) is same has = let name : name_of work.0 ≡ name_of q = ap name_of (let r : work.0 ≡ q = cc in r) in subst (λ e. HasEffect now old later (name_of q) e) same (subst (λ n. HasEffect now old later n (effect_by (is_try (Whole q)) v)) name has)
     of (Login name pw setting) is same has =
         let named : name_of work.0 ≡ name = ap name_of (let r : work.0 ≡ request.Upgrade name pw setting = cc in r) in
-        (now, subst (λ e. HasEffect now old later name e) same (subst (λ n. HasEffect now old later n (effect_by (is_try (Login name pw setting)) v)) named has))
+        subst (λ e. HasEffect now old later name e) same (subst (λ n. HasEffect now old later n (effect_by (is_try (Login name pw setting)) v)) named has)
     of (Reset name pw setting) is same has =
         let named : name_of work.0 ≡ name = ap name_of (let r : work.0 ≡ request.Enrol name pw setting = cc in r) in
-        (now, subst (λ e. HasEffect now old later name e) same (subst (λ n. HasEffect now old later n (effect_by (is_try (Reset name pw setting)) v)) named has))
+        subst (λ e. HasEffect now old later name e) same (subst (λ n. HasEffect now old later n (effect_by (is_try (Reset name pw setting)) v)) named has)
     of (Quick a) is same has = absurd cc
     of (Forgive name) is same has = absurd cc
     of (Later name seconds) is same has = absurd cc
+
+pub commit_counted : (ask : Ask) (book new : MarkedBook) (work : Task) (v : Verdict) (old later : Option Limits) (now : ℕ) → hashed_for ask ≡ Some work.0 → is_reset ask ≡ false → HeedsMarks book new work v → is_outdated v ≡ false
+    → HasEffect now old later (name_of work.0) (effect_by (is_try ask) v) → IsCounted old later book ask
+commit_counted ask book new work v old later now is kept commits current has = (now, commit_at ask book new work v old later now is kept commits current has)
+
+-- what is hashed for a line sends no try away
+pub hash_judged : (ask : Ask) (r : Request) → hashed_for ask ≡ Some r → IsNotSentAway ask
+hash_judged (Whole q) r is = tt
+hash_judged (Login name pw setting) r is = tt
+hash_judged (Reset name pw setting) r is = tt
+hash_judged (Quick a) r is = tt
+hash_judged (Forgive name) r is = tt
+hash_judged (Later name seconds) r is = absurd cc
 
 -- a try may be judged where its password is told
 pub has_place : (ask : Ask) (v : Verdict) (limits : Option Limits) (name : List ℕ) (now : ℕ) → (is_try ask ≡ true → IsOpenTo limits name now) → HasPlace (effect_by (is_try ask) v) limits name now
@@ -242,13 +255,17 @@ hash_needs capacity book (Later name seconds) r is = absurd cc
 
 -- ---- a reset
 
-pub reset_counted : (ask : Ask) (book : MarkedBook) (work : Task) (stored : RecordValue) (found : Reply) (later : MarkedBook) (old new : Option Limits) (now : ℕ) → IsJobOf ask work → is_reset ask ≡ true → Some stored ≡ (whole work.0 work.1).1
-    → (found, later) ≡ reset_step book (name_of work.0) stored → HasEffect now old new (name_of work.0) (reset_effect found) → IsCounted old new book ask
-reset_counted (Reset name pw setting) book work stored found later old new now job reset made put has =
+pub reset_at : (ask : Ask) (book : MarkedBook) (work : Task) (stored : RecordValue) (found : Reply) (later : MarkedBook) (old new : Option Limits) (now : ℕ) → IsJobOf ask work → is_reset ask ≡ true → Some stored ≡ (whole work.0 work.1).1
+    → (found, later) ≡ reset_step book (name_of work.0) stored → HasEffect now old new (name_of work.0) (reset_effect found) → IsCountedAt now old new book ask
+reset_at (Reset name pw setting) book work stored found later old new now job reset made put has =
     let same : work.0 ≡ request.Enrol name pw setting = cc (job.0) in
     let named : name_of work.0 ≡ name = ap name_of same in
     let record_is : Some stored ≡ Some (new_record setting pw) = made ∙ ap (λ r. (whole r work.1).1) same ∙ ap (λ copy. (whole (request.Enrol name pw setting) copy).1) (job.1 refl) in
     let stored_is : stored ≡ new_record setting pw = cc in
     let told : found ≡ (reset_step book name (new_record setting pw)).0 = ap (λ o. o.0) (put ∙ ap (λ n. reset_step book n stored) named ∙ ap (reset_step book name) stored_is) in
-    (now, subst (λ r. HasEffect now old new name (reset_effect r)) told (subst (λ n. HasEffect now old new n (reset_effect found)) named has))
-reset_counted _ book work stored found later old new now job reset made put has = absurd cc
+    subst (λ r. HasEffect now old new name (reset_effect r)) told (subst (λ n. HasEffect now old new n (reset_effect found)) named has)
+reset_at _ book work stored found later old new now job reset made put has = absurd cc
+
+pub reset_counted : (ask : Ask) (book : MarkedBook) (work : Task) (stored : RecordValue) (found : Reply) (later : MarkedBook) (old new : Option Limits) (now : ℕ) → IsJobOf ask work → is_reset ask ≡ true → Some stored ≡ (whole work.0 work.1).1
+    → (found, later) ≡ reset_step book (name_of work.0) stored → HasEffect now old new (name_of work.0) (reset_effect found) → IsCounted old new book ask
+reset_counted ask book work stored found later old new now job reset made put has = (now, reset_at ask book work stored found later old new now job reset made put has)

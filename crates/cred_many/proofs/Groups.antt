@@ -1,6 +1,6 @@
 -- Changes of different accounts that are made together.
 use Rattle.std.proofs.Common.{◌≡◌, ℕ, ◌<◌, List, [], ◌∷◌, ◌++◌, length, get_or, Option, Some, None, IfSome, subst, Result, Ok, Err, OnErr, OnOk, Bool, true, false, cond, is_some, refl, sym, ap, ◌∙◌, append_assoc, append-nil, arith, inl}
-use Rattle.std.proofs.{Math.Logic.∥∥₁_map, lemmas.List.length-append, lemmas.List.length-map, lemmas.List.map-append, lemmas.Option.IfSome_then, lemmas.List.Elements.All-get_or, lemmas.List.Elements.All-nil, lemmas.List.Elements.All-push}
+use Rattle.std.proofs.{lemmas.List.length-append, lemmas.List.length-map, lemmas.List.map-append, lemmas.Option.IfSome_then, lemmas.List.Elements.All-get_or, lemmas.List.Elements.All-nil, lemmas.List.Elements.All-push}
 use Rattle.std.specs.{Cmp.Lexicographic.nat_list_cmp_total, List.All, Option.option_or, Ordering.eq_by_cmp, FinMap.get-empty, FinMap.get-insert, FinMap.same_map}
 use Rattle.cred_phc.specs.Values.{RecordValue}
 use Rattle.cred_book.specs.{Accounts.Accounts, Commits.judgement, Commits.judgement_at, Commits.judgement_if, Names.name_cmp, Works.Task, Works.makes_change, Works.name_of, Works.same, Works.whole, declared.reply.Reply.Reply}
@@ -13,12 +13,14 @@ use Rattle.cred_admin.specs.declared.verdict.Verdict.{Verdict}
 use Rattle.cred_admin.specs.declared.verdict.Verdict.TheVariants.{Told}
 use Rattle.cred_admin.proofs.Heeding.{book_is}
 use Rattle.cred_many.specs.{Asks.Entry, Asks.hashed_for, Asks.is_reset, declared.fault.ServiceFault.ServiceFault, declared.open.Open.Open}
-use Rattle.cred_many.specs.{Scribe.AreClosed, Scribe.AreReplaced, Scribe.History, Scribe.IsConcluded, Scribe.IsGroup, Scribe.entries_of, Served.answers, Served.book_after, Served.done, Served.line_at, Served.most_together, Served.told_reply, Service.IsLine, Service.Service, Transcript.Written}
+use Rattle.cred_many.specs.{Scribe.AddsSome, Scribe.AreClosed, Scribe.AreReplaced, Scribe.HasAnswered, Scribe.History, Scribe.IsConcluded, Scribe.IsGroup, Scribe.entries_of, Served.answers, Served.book_after, Served.done, Served.line_at, Served.most_together, Served.told_reply, Service.IsLine, Service.Service, Transcript.Written}
 use Rattle.cred_tries.specs.{Answers.IsSettled, Limits.Limits}
 use Rattle.cred_many.proofs.Limiting.{settled}
-use Rattle.cred_many.specs.Scribe.{AreCounted, is_clear}
+use Rattle.cred_many.specs.Scribe.{AreCounted, IsNotSentAway, is_clear, passed_of}
+use Rattle.cred_many.proofs.Adding.{goes_far}
+use Rattle.std.specs.Prelude.{map}
 use Rattle.cred_many.proofs.{Clear.are_counted_push, Clear.change_counted, Telling.counts_all, Telling.length-now_of, Telling.now_of}
-use Rattle.cred_many.proofs.{Commits.done_whole, Commits.tried_current, Seen.answers-append, Seen.book_after-append, Serving.served_on}
+use Rattle.cred_many.proofs.{Commits.done_whole, Commits.hash_judged, Commits.tried_current, Seen.answers-append, Seen.book_after-append, Serving.served_on}
 use Rattle.std.specs.FinMap as fin
 
 -- ---- a change that is judged, at an account with no mark
@@ -73,6 +75,7 @@ none_together capacity s limits book = record {
   plain = λ q there. let never : false ≡ true = sym (ap is_some (get-empty name_cmp q)) ∙ there in absurd cc;
   text_is = refl;
   counted = λ settled. tt;
+  judged = All-nil (λ (e : Entry). IsNotSentAway e.ask);
 }
 
 module _ (capacity : ℕ) (s : Service) (limits : Option Limits) (book : MarkedBook) (changed : Accounts) (list : List Entry) (text : List ℕ) (e : Entry) (work : Task) (found : Reply) (stored : Option RecordValue)
@@ -138,6 +141,7 @@ module _ (capacity : ℕ) (s : Service) (limits : Option Limits) (book : MarkedB
     plain = plain_more;
     text_is = text_more;
     counted = counted_more;
+    judged = All-push (λ (e : Entry). IsNotSentAway e.ask) list e g.judged (hash_judged e.ask work.0 job);
   }
 
 -- a record that is replaced changes no mark where none was
@@ -151,10 +155,10 @@ marks_kept marks changed plain =
     by_there q false there = refl
 
 -- all lines of a group are answered, once the records stand
-pub answered_together : (capacity : ℕ) (s : Service) (old now : Written) (book later : MarkedBook) (changed : Accounts) (es lines : List Entry) (left rest : List Open) (came : ℕ) (limits : Option Limits) (text written : List ℕ) (failed : Bool) (was f : Option ServiceFault)
+pub adds_together : (capacity : ℕ) (s : Service) (old now : Written) (book later : MarkedBook) (changed : Accounts) (es lines : List Entry) (left rest : List Open) (came : ℕ) (limits : Option Limits) (text written : List ℕ) (failed : Bool) (was f : Option ServiceFault)
     → was ≡ None → IsGroup capacity s limits book changed es text → later ≡ with_replaced book changed → AreClosed lines left rest → lines ≡ es → IsConcluded written old now failed f → written ≡ text
-    → ∥ History capacity s old book was left came limits ∥₁ → ∥ History capacity s now later f rest came limits ∥₁
-answered_together capacity s old now book later changed es lines left rest came limits text written failed was f none g whole closed same told is served = ∥∥₁_map served (λ h. on (rw none at h))
+    → AddsSome IsNotSentAway (passed_of limits) (HasAnswered capacity s old book was left came limits) (HasAnswered capacity s now later f rest came limits)
+adds_together capacity s old now book later changed es lines left rest came limits text written failed was f none g whole closed same told is list times served = ∣ (es, g.judged, on (rw none at served)) ∣₁
   where
     accounts_are : later.accounts ≡ (book_after capacity book es).accounts
     accounts_are = same_map nat_list_cmp_total (fin.slice_cmp-IsAntisymmetric fin.nat_cmp-IsAntisymmetric) _ _
@@ -163,12 +167,19 @@ answered_together capacity s old now book later changed es lines left rest came 
     is_after : later ≡ book_after capacity book es
     is_after = book_is later _ _ accounts_are (ap (λ (b : MarkedBook). b.marks) whole ∙ marks_kept book.marks changed g.plain ∙ sym g.marks)
 
-    on : History capacity s old book None left came limits → History capacity s now later f rest came limits
+    on : HasAnswered capacity s old book None left came limits list times → HasAnswered capacity s now later f rest came limits (list ++ es) (times ++ map (λ _. passed_of limits) es)
     on h =
-        served_on capacity s old now book later es (now_of capacity s.tries limits s.opening es) left rest came limits limits failed f h
+        served_on capacity s old now book later es (now_of capacity s.tries limits s.opening es) left rest came limits limits failed f list times h
         (IfSome_then s.input g.came (λ bytes all i d within. record { line = get_or es i d; came = All-get_or (IsLine s bytes) es i d within all; tag = refl; ask = inl refl })) g.few (rw same at closed)
         is_after (rw (is, g.text_is) at told) (length-now_of capacity s.tries limits s.opening es)
-        (counts_all capacity s.tries limits s.opening h.list es h.times h.timed h.counted (subst (λ b. AreCounted capacity limits b es) h.book_is (g.counted (settled s.tries limits h.times _ h.counted))))
+        (counts_all capacity s.tries limits s.opening list es times h.timed h.counted (subst (λ b. AreCounted capacity limits b es) h.book_is (g.counted (settled s.tries limits times _ h.counted))))
+
+pub answered_together : (capacity : ℕ) (s : Service) (old now : Written) (book later : MarkedBook) (changed : Accounts) (es lines : List Entry) (left rest : List Open) (came : ℕ) (limits : Option Limits) (text written : List ℕ) (failed : Bool) (was f : Option ServiceFault)
+    → was ≡ None → IsGroup capacity s limits book changed es text → later ≡ with_replaced book changed → AreClosed lines left rest → lines ≡ es → IsConcluded written old now failed f → written ≡ text
+    → ∥ History capacity s old book was left came limits ∥₁ → ∥ History capacity s now later f rest came limits ∥₁
+answered_together capacity s old now book later changed es lines left rest came limits text written failed was f none g whole closed same told is served =
+    goes_far (HasAnswered capacity s old book was left came limits) (HasAnswered capacity s now later f rest came limits) IsNotSentAway (passed_of limits)
+    (adds_together capacity s old now book later changed es lines left rest came limits text written failed was f none g whole closed same told is) served
 
 -- a line is taken into a group, or not
 pub pushed_together : {E : Type 0} (capacity : ℕ) (s : Service) (limits : Option Limits) (book : MarkedBook) (changed now : Accounts) (works more : List (Entry × Task)) (text longer : List ℕ) (w : Entry × Task) (found : Reply) (stored : Option RecordValue) (name : List ℕ) (r : Result (Unit {0}) E)

@@ -1,6 +1,6 @@
 -- A history that goes on: what is written, what may stand in it, why nothing more is answered, and what is told of it.
 use Rattle.std.proofs.Common.{◌≡◌, ◌≢◌, ◌⊎◌, inl, inr, true, ℕ, suc, ◌+◌, ◌-◌, ◌<◌, ◌≤◌, List, [], ◌∷◌, ◌++◌, Bool, Option, Some, None, IfSome, get_or, subst, refl, sym, ap, ◌∙◌, append_assoc, append-nil, arith, take, drop, slice_get, length, take-append-drop}
-use Rattle.std.proofs.{Math.Logic.∥∥₁_map, Math.Seq.take-append-add, lemmas.Bool.cases_lt, lemmas.Option.IfSome_then, lemmas.Option.get_or_from_slice_get, lemmas.Option.slice_get_within, lemmas.List.Elements.All-nil, lemmas.List.Elements.All-push, lemmas.List.Elements.All-same}
+use Rattle.std.proofs.{Math.Seq.take-append-add, lemmas.Bool.cases_lt, lemmas.Option.IfSome_then, lemmas.Option.get_or_from_slice_get, lemmas.Option.slice_get_within, lemmas.List.Elements.All-nil, lemmas.List.Elements.All-push, lemmas.List.Elements.All-same}
 use Rattle.std.proofs.{lemmas.List.drop-map, lemmas.List.get_or-append-add, lemmas.List.get_or_append_left, lemmas.List.length-append, lemmas.List.map-append, lemmas.List.map-id, lemmas.List.take-append-le, lemmas.List.take-map, lemmas.List.take_all, lemmas.List.FromFn.map-range_with_len_more}
 use Rattle.std.proofs.lemmas.List.Sorted.{IsPermutation-append_left, IsPermutation-append_right, IsPermutation-cons, IsPermutation-refl, IsPermutation-remove, IsPermutation-sym, IsPermutation-trans}
 use Rattle.std.specs.{List.All, List.range_with_len, List.remove, List.Sorted.IsPermutation, Option.option_or}
@@ -9,11 +9,13 @@ use Rattle.cred_admin.specs.Marked.{MarkedBook}
 use Rattle.cred_cli.specs.{History.Refused, Script.lines_of, Texts.line_of}
 use Rattle.cred_cli.proofs.Readings.{if_known}
 use Rattle.cred_many.specs.{Asks.Entry, Asks.entry, Asks.refused, Served.AreFor, Served.HasCause, Served.IsFor, Served.IsGivenUp, Served.IsWritten, Served.Moment, Served.NeedsMemory, Served.Stands, Served.StandsAtEnd, Served.answers, Served.book_after, Served.done, Served.entry_numbers, Served.line_at, Served.most_together, Served.record_at}
-use Rattle.cred_many.specs.{declared.ask.Ask.Ask, declared.fault.ServiceFault.ServiceFault, declared.open.Open.Open, Scribe.AreClosed, Scribe.History, Scribe.IsAnswered, Scribe.IsBusy, Scribe.IsConcluded, Scribe.IsReady, Scribe.Notes, Scribe.SightHolds, Scribe.numbers, Scribe.unseen, Transcript.TakesMore, Transcript.Written}
+use Rattle.cred_many.specs.{declared.ask.Ask.Ask, declared.fault.ServiceFault.ServiceFault, declared.open.Open.Open, Scribe.AddsNone, Scribe.AddsOne, Scribe.AreClosed, Scribe.HasAnswered, Scribe.History, Scribe.IsAnswered, Scribe.IsBusy, Scribe.IsConcluded, Scribe.IsReady, Scribe.Notes, Scribe.SightHolds, Scribe.numbers, Scribe.unseen, Transcript.TakesMore, Transcript.Written}
 use Rattle.cred_many.specs.Service.{IsLine, Service, asked, asked_from, cut_line}
 use Rattle.cred_many.proofs.{Unended.length-unended, Seen.answers-append, Seen.book_after-append, Seen.looked_numbers, Seen.watched_looked, Seen.watched_on, Seen.watched_rest, Seen.worn, Transcripts.takes_both, Transcripts.takes_none}
 use Rattle.cred_tries.specs.Limits.{Limits}
-use Rattle.cred_many.specs.{Scribe.IsCounted, Scribe.IsSentAway, Scribe.KeepsCount, Scribe.passed_of, Served.later_line, Served.name_asked, Served.told_at, Tries.is_try, declared.ask.Ask.TheVariants.Later}
+use Rattle.cred_many.specs.{Scribe.IsCounted, Scribe.IsCountedAt, Scribe.IsQuick, Scribe.IsSentAway, Scribe.KeepsCount, Scribe.passed_of, Served.later_line, Served.name_asked, Served.told_at, Tries.is_try, declared.ask.Ask.TheVariants.Later}
+use Rattle.cred_many.specs.Answered.{KeepsLimit, State, answered_in}
+use Rattle.cred_many.proofs.{Adding.goes_on, Adding.stays_so}
 use Rattle.cred_many.proofs.{Limiting.limit_kept, Telling.counts_one, Telling.has_limit, Telling.nothing_counted, Telling.told_more}
 use Rattle.cred_cli.specs.declared.refusal.Refusal.{Refusal}
 use Rattle.cred_book.specs.declared.error.BookError.TheVariants as error
@@ -109,114 +111,156 @@ once_opened ns left came once =
 pub served_first : (capacity : ℕ) (s : Service) (now : Written) (book : MarkedBook) (left : List Open) (limits : Option Limits) → left ≡ [] → book ≡ s.opening → now ≡ s.before → KeepsCount s.tries limits [] (told_at capacity s.opening [] [])
     → History capacity s now book None left 0 limits
 unfolding answers book_after
-served_first capacity s now book left limits none is same counted = rw none (record {
-  list = [];
-  times = [];
-  each = if_known s.input _ (λ bytes known i d within. absurd (omega (arith, within)));
-  once = IsPermutation-refl [];
-  seen = All-nil (SightHolds capacity s.opening []);
-  book_is = is;
-  text = record { bytes = 0; front = rw same (takes_none s.before); whole = λ _. refl; most = omega arith };
-  timed = refl;
-  counted = counted;
-})
+served_first capacity s now book left limits none is same counted = (
+  [],
+  [],
+  rw none (record {
+    each = if_known s.input _ (λ bytes known i d within. absurd (omega (arith, within)));
+    once = IsPermutation-refl [];
+    seen = All-nil (SightHolds capacity s.opening []);
+    book_is = is;
+    text = record { bytes = 0; front = rw same (takes_none s.before); whole = λ _. refl; most = omega arith };
+    timed = refl;
+    counted = counted;
+  }),
+)
 
 module _ (capacity : ℕ) (s : Service) (old now : Written) (book later : MarkedBook) (es : List Entry) (us : List ℕ) (left rest : List Open) (came : ℕ) (limits later_limits : Option Limits) (failed : Bool) (f : Option ServiceFault) where
   -- by a few lines, whether their answers were written whole or the writer failed
-  pub served_on : (h : History capacity s old book None left came limits)
-      → IfSome s.input (λ bytes. (i : ℕ) (d : Entry) → i < length es → IsFor capacity s bytes (h.list ++ take i es) (get_or es i d))
+  pub served_on : (list : List Entry) (times : List ℕ) (h : HasAnswered capacity s old book None left came limits list times)
+      → IfSome s.input (λ bytes. (i : ℕ) (d : Entry) → i < length es → IsFor capacity s bytes (list ++ take i es) (get_or es i d))
       → length es ≤ most_together → AreClosed es left rest → later ≡ book_after capacity book es → IsConcluded (answers capacity book es) old now failed f
-      → length us ≡ length es → KeepsCount s.tries later_limits (h.times ++ us) (told_at capacity s.opening (h.list ++ es) (h.times ++ us))
-      → History capacity s now later f rest came later_limits
-  served_on h owed few closed later_is told timed counted = record {
-    list = h.list ++ es;
-    times = h.times ++ us;
+      → length us ≡ length es → KeepsCount s.tries later_limits (times ++ us) (told_at capacity s.opening (list ++ es) (times ++ us))
+      → HasAnswered capacity s now later f rest came later_limits (list ++ es) (times ++ us)
+  served_on list times h owed few closed later_is told timed counted = record {
     each = each s.input h.each owed;
-    once = once_closed h.list es left rest _ closed h.once;
-    seen = watched_rest capacity s.opening (h.list ++ es) es left rest closed (watched_on capacity s.opening h.list es left h.seen);
-    book_is = later_is ∙ ap (λ b. book_after capacity b es) h.book_is ∙ sym (book_after-append capacity s.opening h.list es);
-    text = written_on capacity s old h.list h.text es few now failed f (rw h.book_is at told);
-    timed = length-append h.times us ∙ ap (λ n. n + length us) h.timed ∙ ap (λ n. length h.list + n) timed ∙ sym (length-append h.list es);
+    once = once_closed list es left rest _ closed h.once;
+    seen = watched_rest capacity s.opening (list ++ es) es left rest closed (watched_on capacity s.opening list es left h.seen);
+    book_is = later_is ∙ ap (λ b. book_after capacity b es) h.book_is ∙ sym (book_after-append capacity s.opening list es);
+    text = written_on capacity s old list h.text es few now failed f (rw h.book_is at told);
+    timed = length-append times us ∙ ap (λ n. n + length us) h.timed ∙ ap (λ n. length list + n) timed ∙ sym (length-append list es);
     counted = counted;
   }
     where
-      each : (input : Option (List ℕ)) → IfSome input (λ bytes. AreFor capacity s bytes h.list)
-          → IfSome input (λ bytes. (i : ℕ) (d : Entry) → i < length es → IsFor capacity s bytes (h.list ++ take i es) (get_or es i d))
-          → IfSome input (λ bytes. AreFor capacity s bytes (h.list ++ es))
+      each : (input : Option (List ℕ)) → IfSome input (λ bytes. AreFor capacity s bytes list)
+          → IfSome input (λ bytes. (i : ℕ) (d : Entry) → i < length es → IsFor capacity s bytes (list ++ take i es) (get_or es i d))
+          → IfSome input (λ bytes. AreFor capacity s bytes (list ++ es))
       each None all more = tt
-      each (Some bytes) all more = owed_more capacity s bytes h.list es all more
+      each (Some bytes) all more = owed_more capacity s bytes list es all more
 
 -- ---- a step
 
 module _ (capacity : ℕ) (s : Service) (old now : Written) (book later : MarkedBook) (line : Entry) (left rest : List Open) (place came : ℕ) (limits later_limits : Option Limits) (answer : List ℕ) (failed : Bool) (was f : Option ServiceFault)
     (ready : IsReady was left place line.number) (came_is : IfSome s.input (λ bytes. IsLine s bytes line))
-    (closed : rest ≡ remove left place) (told : IsConcluded (line.tag ++ 32 ∷ answer) old now failed f) (served : ∥ History capacity s old book was left came limits ∥₁) where
+    (closed : rest ≡ remove left place) (told : IsConcluded (line.tag ++ 32 ∷ answer) old now failed f) where
+  abbrev Before : List Entry → List ℕ → Type 0
+  Before = HasAnswered capacity s old book was left came limits
+
+  abbrev After : List Entry → List ℕ → Type 0
+  After = HasAnswered capacity s now later f rest came later_limits
+
   not_counted : (why : Refusal) → later_limits ≡ limits → IsCounted limits later_limits book (refused why)
   not_counted why idle = subst (λ l. IsCounted limits l book (refused why)) (sym idle) (nothing_counted limits [])
 
   -- the line is answered as what it asks for, or as it is given up
-  answered_as : (ask : Ask) → later ≡ (done capacity book ask).1 → answer ≡ (done capacity book ask).0 → ((h : History capacity s old book None left came limits) → (ask ≡ line.ask) ⊎ IsGivenUp capacity s h.list line.ask ask)
-      → IsCounted limits later_limits book ask → ∥ History capacity s now later f rest came later_limits ∥₁
+  goes_as : (ask : Ask) → later ≡ (done capacity book ask).1 → answer ≡ (done capacity book ask).0
+      → ((list : List Entry) (times : List ℕ) → HasAnswered capacity s old book None left came limits list times → (ask ≡ line.ask) ⊎ IsGivenUp capacity s list line.ask ask)
+      → IsCounted limits later_limits book ask
+      → (list : List Entry) (times : List ℕ) → Before list times → After (list ++ entry line.number line.tag ask ∷ []) (times ++ passed_of later_limits ∷ [])
   unfolding answers book_after
-  answered_as ask later_is answer_is owed counts = ∥∥₁_map served (λ h. on (rw ready.going at h))
+  goes_as ask later_is answer_is owed counts list times before = on (rw ready.going at before)
     where
-      on : History capacity s old book None left came limits → History capacity s now later f rest came later_limits
+      on : HasAnswered capacity s old book None left came limits list times → After (list ++ entry line.number line.tag ask ∷ []) (times ++ passed_of later_limits ∷ [])
       on h =
-          let e = entry line.number line.tag ask in
-          let text : line.tag ++ 32 ∷ answer ≡ answers capacity book (e ∷ []) = ap (λ text. line.tag ++ 32 ∷ text) answer_is ∙ sym (append-nil (line_at capacity book e)) in
-          served_on capacity s old now book later (e ∷ []) (passed_of later_limits ∷ []) left rest came limits later_limits failed f h
-          (IfSome_then s.input came_is (λ bytes is i d within. one bytes is h i (omega (arith, within)) d)) (omega arith) (place, ready.there, closed) later_is (rw text at told)
-          refl (counted_one h)
+          let text : line.tag ++ 32 ∷ answer ≡ answers capacity book (entry line.number line.tag ask ∷ []) = ap (λ text. line.tag ++ 32 ∷ text) answer_is ∙ sym (append-nil (line_at capacity book (entry line.number line.tag ask))) in
+          served_on capacity s old now book later (entry line.number line.tag ask ∷ []) (passed_of later_limits ∷ []) left rest came limits later_limits failed f list times h
+          (IfSome_then s.input came_is (λ bytes is i d within. one bytes is i (omega (arith, within)) d)) (omega arith) (place, ready.there, closed) later_is (rw text at told)
+          refl counted_one
         where
-          counted_one : (h : History capacity s old book None left came limits)
-              → KeepsCount s.tries later_limits (h.times ++ passed_of later_limits ∷ []) (told_at capacity s.opening (h.list ++ entry line.number line.tag ask ∷ []) (h.times ++ passed_of later_limits ∷ []))
-          counted_one h =
-              subst (KeepsCount s.tries later_limits (h.times ++ passed_of later_limits ∷ [])) (sym (told_more capacity s.opening h.list h.times (entry line.number line.tag ask) (passed_of later_limits) h.timed))
-              (counts_one s.tries h.times (told_at capacity s.opening h.list h.times) limits later_limits (book_after capacity s.opening h.list) ask h.counted (subst (λ b. IsCounted limits later_limits b ask) h.book_is counts))
+          counted_one : KeepsCount s.tries later_limits (times ++ passed_of later_limits ∷ []) (told_at capacity s.opening (list ++ entry line.number line.tag ask ∷ []) (times ++ passed_of later_limits ∷ []))
+          counted_one =
+              subst (KeepsCount s.tries later_limits (times ++ passed_of later_limits ∷ [])) (sym (told_more capacity s.opening list times (entry line.number line.tag ask) (passed_of later_limits) h.timed))
+              (counts_one s.tries times (told_at capacity s.opening list times) limits later_limits (book_after capacity s.opening list) ask h.counted (subst (λ b. IsCounted limits later_limits b ask) h.book_is counts))
 
-          one : (bytes : List ℕ) → IsLine s bytes line → (h : History capacity s old book None left came limits) → (i : ℕ) → i ≡ 0 → (d : Entry)
-              → IsFor capacity s bytes (h.list ++ take i (entry line.number line.tag ask ∷ [])) (get_or (entry line.number line.tag ask ∷ []) i d)
-          one bytes here h i first d = rw (first, append-nil h.list) (record { line = line; came = here; tag = refl; ask = owed h })
+          one : (bytes : List ℕ) → IsLine s bytes line → (i : ℕ) → i ≡ 0 → (d : Entry)
+              → IsFor capacity s bytes (list ++ take i (entry line.number line.tag ask ∷ [])) (get_or (entry line.number line.tag ask ∷ []) i d)
+          one bytes here i first d = rw (first, append-nil list) (record { line = line; came = here; tag = refl; ask = owed list times h })
 
-  pub answered : later ≡ (done capacity book line.ask).1 → answer ≡ (done capacity book line.ask).0 → IsCounted limits later_limits book line.ask → ∥ History capacity s now later f rest came later_limits ∥₁
-  answered later_is answer_is counts = answered_as line.ask later_is answer_is (λ h. inl refl) counts
+  adds_as : (IsSo : Ask → Type 0) (ask : Ask) → IsSo ask → later ≡ (done capacity book ask).1 → answer ≡ (done capacity book ask).0
+      → ((list : List Entry) (times : List ℕ) → HasAnswered capacity s old book None left came limits list times → (ask ≡ line.ask) ⊎ IsGivenUp capacity s list line.ask ask)
+      → IsCounted limits later_limits book ask → AddsOne IsSo (passed_of later_limits) Before After
+  adds_as IsSo ask so later_is answer_is owed counts list times before =
+      ∣ inr (entry line.number line.tag ask, so, goes_as ask later_is answer_is owed counts list times before) ∣₁
 
-  -- the line is given up for want of memory
-  pub starved : later ≡ book → answer ≡ line_of (Refused (refusal.Book error.Memory)) → NeedsMemory capacity book line.ask → later_limits ≡ limits → ∥ History capacity s now later f rest came later_limits ∥₁
-  starved same is needs idle = answered_as (refused (refusal.Book error.Memory)) same is (λ h. inr (inl (refl, subst (λ b. NeedsMemory capacity b line.ask) h.book_is needs))) (not_counted (refusal.Book error.Memory) idle)
+  -- the line is answered
+  pub adds_answer : (IsSo : Ask → Type 0) → IsSo line.ask → later ≡ (done capacity book line.ask).1 → answer ≡ (done capacity book line.ask).0 → IsCounted limits later_limits book line.ask → AddsOne IsSo (passed_of later_limits) Before After
+  adds_answer IsSo so later_is answer_is counts = adds_as IsSo line.ask so later_is answer_is (λ list times h. inl refl) counts
+
+  -- it is given up for want of memory
+  pub adds_starved : later ≡ book → answer ≡ line_of (Refused (refusal.Book error.Memory)) → NeedsMemory capacity book line.ask → later_limits ≡ limits → AddsOne IsQuick (passed_of later_limits) Before After
+  adds_starved same is needs idle = adds_as IsQuick (refused (refusal.Book error.Memory)) tt same is
+      (λ list times h. inr (inl (refl, subst (λ b. NeedsMemory capacity b line.ask) h.book_is needs))) (not_counted (refusal.Book error.Memory) idle)
 
   -- or since others were always faster
-  pub given_up : later ≡ book → answer ≡ line_of (Refused refusal.Busy) → IsBusy left place line.ask → later_limits ≡ limits → ∥ History capacity s now later f rest came later_limits ∥₁
-  given_up same is busy idle = answered_as (refused refusal.Busy) same is (λ h. inr (inr (inl (refl, worn capacity s.opening h.list left place line.ask h.seen busy)))) (not_counted refusal.Busy idle)
+  pub adds_busy : later ≡ book → answer ≡ line_of (Refused refusal.Busy) → IsBusy left place line.ask → later_limits ≡ limits → AddsOne IsQuick (passed_of later_limits) Before After
+  adds_busy same is busy idle = adds_as IsQuick (refused refusal.Busy) tt same is
+      (λ list times h. inr (inr (inl (refl, worn capacity s.opening list left place line.ask h.seen busy)))) (not_counted refusal.Busy idle)
 
   -- or since its try is too early
-  pub sent_away : (clock seconds : ℕ) → later ≡ book → answer ≡ later_line seconds → is_try line.ask ≡ true → IsSentAway clock limits later_limits (name_asked line.ask) seconds → ∥ History capacity s now later f rest came later_limits ∥₁
-  sent_away clock seconds same is tries early = answered_as (Later (name_asked line.ask) seconds) same is
-      (λ h. inr (inr (inr ((seconds, refl), tries, has_limit s.tries limits later_limits h.times (told_at capacity s.opening h.list h.times) (name_asked line.ask) clock seconds h.counted early)))) (clock, early)
+  pub adds_sent : (clock seconds : ℕ) → later ≡ book → answer ≡ later_line seconds → is_try line.ask ≡ true → IsSentAway clock limits later_limits (name_asked line.ask) seconds
+      → AddsOne (IsCountedAt clock limits later_limits book) (passed_of later_limits) Before After
+  adds_sent clock seconds same is tries early = adds_as (IsCountedAt clock limits later_limits book) (Later (name_asked line.ask) seconds) early same is
+      (λ list times h. inr (inr (inr ((seconds, refl), tries, has_limit s.tries limits later_limits times (told_at capacity s.opening list times) (name_asked line.ask) clock seconds h.counted early)))) (clock, early)
+
+  -- ---- so a history goes on
+
+  module _ (served : ∥ History capacity s old book was left came limits ∥₁) where
+    pub answered : later ≡ (done capacity book line.ask).1 → answer ≡ (done capacity book line.ask).0 → IsCounted limits later_limits book line.ask → ∥ History capacity s now later f rest came later_limits ∥₁
+    answered later_is answer_is counts = goes_on Before After (λ ask. Unit {0}) (passed_of later_limits) (adds_answer (λ ask. Unit {0}) tt later_is answer_is counts) served
+
+    pub starved : later ≡ book → answer ≡ line_of (Refused (refusal.Book error.Memory)) → NeedsMemory capacity book line.ask → later_limits ≡ limits → ∥ History capacity s now later f rest came later_limits ∥₁
+    starved same is needs idle = goes_on Before After IsQuick (passed_of later_limits) (adds_starved same is needs idle) served
+
+    pub given_up : later ≡ book → answer ≡ line_of (Refused refusal.Busy) → IsBusy left place line.ask → later_limits ≡ limits → ∥ History capacity s now later f rest came later_limits ∥₁
+    given_up same is busy idle = goes_on Before After IsQuick (passed_of later_limits) (adds_busy same is busy idle) served
+
+    pub sent_away : (clock seconds : ℕ) → later ≡ book → answer ≡ later_line seconds → is_try line.ask ≡ true → IsSentAway clock limits later_limits (name_asked line.ask) seconds → ∥ History capacity s now later f rest came later_limits ∥₁
+    sent_away clock seconds same is tries early = goes_on Before After (IsCountedAt clock limits later_limits book) (passed_of later_limits) (adds_sent clock seconds same is tries early) served
 
 module _ (capacity : ℕ) (s : Service) (now : Written) (book : MarkedBook) (left : List Open) (came : ℕ) (limits : Option Limits) (was : Option ServiceFault) where
   -- the lines stay
-  on_same : (h : History capacity s now book was left came limits) (why : Option ServiceFault) (rest : List Open) (next : ℕ) → IsPermutation (entry_numbers h.list ++ numbers rest) (range_with_len 0 next)
-      → All (SightHolds capacity s.opening h.list) rest → IsWritten capacity s now h.list why → History capacity s now book why rest next limits
-  on_same h why rest next once seen text = record { list = h.list; times = h.times; each = h.each; once = once; seen = seen; book_is = h.book_is; text = text; timed = h.timed; counted = h.counted }
+  on_same : (list : List Entry) (times : List ℕ) (h : HasAnswered capacity s now book was left came limits list times) (why : Option ServiceFault) (rest : List Open) (next : ℕ) → IsPermutation (entry_numbers list ++ numbers rest) (range_with_len 0 next)
+      → All (SightHolds capacity s.opening list) rest → IsWritten capacity s now list why → HasAnswered capacity s now book why rest next limits list times
+  on_same list times h why rest next once seen text = record { each = h.each; once = once; seen = seen; book_is = h.book_is; text = text; timed = h.timed; counted = h.counted }
 
   -- nothing was done, and perhaps nothing more is answered
+  pub none_still : (f : Option ServiceFault) → was ≡ None → AddsNone (HasAnswered capacity s now book was left came limits) (HasAnswered capacity s now book f left came limits)
+  none_still f none list times h = on_same list times h f left came h.once h.seen (written_still capacity s now list (rw none at h.text) f)
+
   pub still : (f : Option ServiceFault) → was ≡ None → ∥ History capacity s now book was left came limits ∥₁ → ∥ History capacity s now book f left came limits ∥₁
-  still f none served = ∥∥₁_map served (λ h. on_same h f left came h.once h.seen (written_still capacity s now h.list (rw none at h.text) f))
+  still f none served = stays_so (HasAnswered capacity s now book was left came limits) (HasAnswered capacity s now book f left came limits) (none_still f none) served
 
   -- a line comes
+  pub none_opened : (rest : List Open) (n next : ℕ) → rest ≡ left ++ unseen n ∷ [] → n ≡ came → next ≡ came + 1
+      → AddsNone (HasAnswered capacity s now book was left came limits) (HasAnswered capacity s now book was rest next limits)
+  none_opened rest n next more is next_is list times h = on_same list times h was rest next
+      (rw (more, next_is, is, map-append (λ (o : Open). o.number) left (unseen came ∷ [])) (once_opened (entry_numbers list) (numbers left) came h.once))
+      (All-same (SightHolds capacity s.opening list) rest _ more (All-push (SightHolds capacity s.opening list) left (unseen n) h.seen tt)) h.text
+
   pub opened : (rest : List Open) (n next : ℕ) → rest ≡ left ++ unseen n ∷ [] → n ≡ came → next ≡ came + 1
       → ∥ History capacity s now book was left came limits ∥₁ → ∥ History capacity s now book was rest next limits ∥₁
-  opened rest n next more is next_is served = ∥∥₁_map served (λ h. on_same h was rest next
-      (rw (more, next_is, is, map-append (λ (o : Open). o.number) left (unseen came ∷ [])) (once_opened (entry_numbers h.list) (numbers left) came h.once))
-      (All-same (SightHolds capacity s.opening h.list) rest _ more (All-push (SightHolds capacity s.opening h.list) left (unseen n) h.seen tt)) h.text)
+  opened rest n next more is next_is served = stays_so (HasAnswered capacity s now book was left came limits) (HasAnswered capacity s now book was rest next limits) (none_opened rest n next more is next_is) served
 
   -- a record is copied
+  pub none_looked : (rest : List Open) (place : ℕ) (name : List ℕ) (stored : Option RecordValue) (count : ℕ) → Notes left place name stored rest count → stored ≡ record_at book name
+      → AddsNone (HasAnswered capacity s now book was left came limits) (HasAnswered capacity s now book was rest came limits)
+  none_looked rest place name stored count l is list times h = on_same list times h was rest came
+      (rw (looked_numbers left rest place name stored count l) h.once)
+      (watched_looked capacity s.opening list left rest place name stored count l (is ∙ ap (λ b. record_at b name) h.book_is) h.seen) h.text
+
   pub looked : (rest : List Open) (place : ℕ) (name : List ℕ) (stored : Option RecordValue) (count : ℕ) → Notes left place name stored rest count → stored ≡ record_at book name
       → ∥ History capacity s now book was left came limits ∥₁ → ∥ History capacity s now book was rest came limits ∥₁
-  looked rest place name stored count l is served = ∥∥₁_map served (λ h. on_same h was rest came
-      (rw (looked_numbers left rest place name stored count l) h.once)
-      (watched_looked capacity s.opening h.list left rest place name stored count l (is ∙ ap (λ b. record_at b name) h.book_is) h.seen) h.text)
+  looked rest place name stored count l is served = stays_so (HasAnswered capacity s now book was left came limits) (HasAnswered capacity s now book was rest came limits) (none_looked rest place name stored count l is) served
 
 -- ---- why nothing more is answered
 
@@ -240,7 +284,7 @@ module _ (capacity : ℕ) (s : Service) (now : Written) (book : MarkedBook) (lef
   moment_of f = record { book = book; written = now; source_failed = source; writer_failed = writer; keeper_failed = keeper; fault = f; pending = numbers left; came = came; passed = passed_of limits }
 
   pub stands : (why : Option ServiceFault) → History capacity s now book why left came limits → HasCause s.input (moment_of why) why → Stands capacity s (moment_of why)
-  stands why h cause = record { list = h.list; times = h.times; each = h.each; once = h.once; book = h.book_is; text = h.text; timed = h.timed; limited = limit_kept s.tries limits h.times (told_at capacity s.opening h.list h.times) h.counted; cause = cause }
+  stands why (list, times, h) cause = record { list = list; times = times; each = h.each; once = h.once; book = h.book_is; text = h.text; timed = h.timed; limited = limit_kept s.tries limits times (told_at capacity s.opening list times) h.counted; cause = cause }
 
   -- what ends the reading has its cause once it is told
   is_told : (why : Option ServiceFault) → HasCause s.input (moment_of None) why → HasCause s.input (moment_of why) why
@@ -251,8 +295,12 @@ module _ (capacity : ℕ) (s : Service) (now : Written) (book : MarkedBook) (lef
   pub ended : (told why : Option ServiceFault) → (told ≡ None → numbers left ≡ []) → History capacity s now book told left came limits → HasCause s.input (moment_of told) told → HasCause s.input (moment_of told) why
       → StandsAtEnd capacity s (λ pending. record { book = book; written = now; source_failed = source; writer_failed = writer; keeper_failed = keeper; fault = option_or told why; pending = pending; came = came; passed = passed_of limits })
   ended (Some f) why idle h was cause = record { pending = numbers left; stands = stands (Some f) h was; none_pending = λ none. absurd cc }
-  ended None why idle h was cause = record {
+  ended None why idle (list, times, h) was cause = record {
     pending = numbers left;
-    stands = stands why (on_same capacity s now book left came limits None h why left came h.once h.seen (written_still capacity s now h.list h.text why)) (is_told why cause);
+    stands = stands why (list, times, on_same capacity s now book left came limits None list times h why left came h.once h.seen (written_still capacity s now list h.text why)) (is_told why cause);
     none_pending = λ _. idle refl;
   }
+
+-- the answers keep the limit by the moments at which they were given
+pub limit_of : (capacity : ℕ) (s : Service) (m : State) (list : List Entry) (times : List ℕ) → answered_in capacity s m list times → KeepsLimit capacity s m list times
+limit_of capacity s m list times h = limit_kept s.tries m.limits times (told_at capacity s.opening list times) h.counted

@@ -1,16 +1,17 @@
 -- What is told of tries by the answers to lines, and by those to more of them.
 use Rattle.std.proofs.Common.{◌≡◌, ℕ, IfSome, option_map, suc, ◌+◌, is_some, append-nil, append_assoc, Bool, true, false, List, [], ◌∷◌, ◌++◌, Option, Some, None, length, refl, sym, ap, ◌∙◌, arith, subst}
 use Rattle.std.proofs.lemmas.List.{length-append}
+use Rattle.std.specs.Prelude.{map}
 use Rattle.cred_admin.specs.Marked.{MarkedBook}
 use Rattle.cred_tries.specs.{Answers.with_told, Histories.Event, Limits.IsLimit, Limits.Limits, Limits.new_limits}
 use Rattle.std.specs.FinMap.{contains_key}
 use Rattle.cred_many.specs.{Asks.Entry, Served.book_after, Served.done, Served.forgiven_line, Served.name_asked, Served.told_at, Served.told_by, Served.told_on, declared.ask.Ask.Ask}
 use Rattle.cred_many.specs.declared.ask.QuickAsk.{QuickAsk}
 use Rattle.cred_many.specs.declared.ask.Ask.TheVariants.{Quick, Whole, Login, Reset, Forgive, Later}
-use Rattle.cred_many.specs.{Scribe.AreCounted, Scribe.HasEffect, Scribe.IsCounted, Scribe.IsSentAway, Scribe.KeepsCount, Scribe.passed_of, Tries.forgiving_effect}
+use Rattle.cred_many.specs.{Scribe.AreCounted, Scribe.HasEffect, Scribe.IsCounted, Scribe.IsCountedAt, Scribe.IsSentAway, Scribe.KeepsCount, Scribe.passed_of, Tries.forgiving_effect}
 use Rattle.cred_many.specs.declared.tries.Effect.TheVariants as effect
 use Rattle.cred_many.proofs.Seen.{book_after-append}
-use Rattle.cred_many.proofs.Limiting.{counted_none, keeps_away, keeps_effect}
+use Rattle.cred_many.proofs.Limiting.{counted_none, keeps_away, keeps_effect, nothing_held}
 
 module _ (capacity : ℕ) (name : List ℕ) where
   on_append : (book : MarkedBook) (es more : List Entry) (ts us : List ℕ) (before : List Event) → length ts ≡ length es
@@ -46,8 +47,7 @@ module _ (tries : Option ℕ) (times : List ℕ) (told : List ℕ → List Event
 -- the answers to several lines, by which nothing changes in the limiter
 module _ (capacity : ℕ) (tries : Option ℕ) (limits : Option Limits) (opening : MarkedBook) where
   abbrev pub now_of : List Entry → List ℕ
-  now_of [] = []
-  now_of (e ∷ es) = passed_of limits ∷ now_of es
+  now_of es = map (λ _. passed_of limits) es
 
   pub length-now_of : (es : List Entry) → length (now_of es) ≡ length es
   length-now_of [] = refl
@@ -83,13 +83,19 @@ pub quick_counted : (limits : Option Limits) (book : MarkedBook) (quick : QuickA
 quick_counted limits book quick ask is = subst (λ a. IsCounted limits limits book a) is (nothing_counted limits [])
 
 -- what is forgiven is counted so
+pub forgiving_at : (now : ℕ) (b : Bool) (old new : Option Limits) (book : MarkedBook) (name : List ℕ) (ask : Ask) → Forgive name ≡ ask → contains_key book.accounts name ≡ b → HasEffect now old new name (forgiving_effect b) → IsCountedAt now old new book ask
+forgiving_at now b old new book name ask is there has =
+    subst (λ a. IsCountedAt now old new book a) is (subst (λ b. HasEffect now old new name (forgiving_effect b)) (sym there) has)
+
 pub forgiving_counted : (now : ℕ) (b : Bool) (old new : Option Limits) (book : MarkedBook) (name : List ℕ) (ask : Ask) → Forgive name ≡ ask → contains_key book.accounts name ≡ b → HasEffect now old new name (forgiving_effect b) → IsCounted old new book ask
-forgiving_counted now b old new book name ask is there has =
-    subst (λ a. IsCounted old new book a) is (now, subst (λ b. HasEffect now old new name (forgiving_effect b)) (sym there) has)
+forgiving_counted now b old new book name ask is there has = (now, forgiving_at now b old new book name ask is there has)
 
 -- nothing is forgiven at a name that isn't there
+pub nobody_at : (now : ℕ) (limits : Option Limits) (book : MarkedBook) (name : List ℕ) (ask : Ask) → Forgive name ≡ ask → contains_key book.accounts name ≡ false → IsCountedAt now limits limits book ask
+nobody_at now limits book name ask is there = forgiving_at now false limits limits book name ask is there (nothing_held now limits name)
+
 pub nobody_forgiven : (limits : Option Limits) (book : MarkedBook) (name : List ℕ) (ask : Ask) → Forgive name ≡ ask → contains_key book.accounts name ≡ false → IsCounted limits limits book ask
-nobody_forgiven limits book name ask is there = let nothing = nothing_counted limits name in forgiving_counted nothing.0 false limits limits book name ask is there nothing.1
+nobody_forgiven limits book name ask is there = (0, nobody_at 0 limits book name ask is there)
 
 -- its answer is of the book alone, which stays
 pub forgiving_line : (capacity : ℕ) (b : Bool) (book : MarkedBook) (name : List ℕ) (ask : Ask) → Forgive name ≡ ask → contains_key book.accounts name ≡ b → forgiven_line b ≡ (done capacity book ask).0

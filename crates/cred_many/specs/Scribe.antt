@@ -1,6 +1,7 @@
 -- What stands behind it in a scribe: what each open line has seen, lines that are answered, and
 -- those whose changes are made together. Of it public clauses cite `moment`, `numbers`, `unseen`,
--- `IsPending`, `HasTurn` and `IsAnswered` alone.
+-- `IsPending`, `HasTurn` and `IsAnswered`, and of what a call adds `AddsOne`, `AddsSome`,
+-- `answered_by`, `IsCountedAt` and `IsNotSentAway`.
 use Rattle.std.specs.{List.range_with_len, List.remove, List.Sorted.IsPermutation, Option.option_or, Str.bytes_eq}
 use Rattle.std.specs.Prelude.{◌≡◌, ◌⊎◌, ℕ, ◌<◌, ◌≤◌, ◌+◌, List, [], ◌∷◌, ◌++◌, Bool, ◌&&◌, true, false, All, if◌then◌else◌, IfSome, Option, Some, None, is_none, length, map, set, slice_get}
 use Rattle.cred_phc.specs.Values.{RecordValue}
@@ -13,7 +14,7 @@ use Rattle.cred_many.specs.Served.{AreFor, IsWritten, Moment, answers, book_afte
 use Rattle.cred_many.specs.Transcript.{TakesFront, TakesMore, Written, written_of}
 use Rattle.cred_many.specs.{declared.fault.ServiceFault.TheVariants.Write, declared.scribe.job.Message.Message, declared.scribe.job.Message.TheVariants.Hashed, declared.scribe.job.Message.TheVariants.NoMemory, declared.open.Open.Open, declared.open.Sight.Sight, declared.output.Output.Output}
 use Rattle.cred_many.specs.Served.{effect_of, told_at}
-use Rattle.cred_many.specs.declared.ask.Ask.TheVariants.{Forgive, Later}
+use Rattle.cred_many.specs.declared.ask.Ask.TheVariants.{Quick, Forgive, Later}
 use Rattle.cred_many.specs.declared.tries.Effect.{Effect}
 use Rattle.cred_many.specs.declared.tries.Effect.TheVariants as effect
 use Rattle.cred_tries.specs.{Answers.HasCounted, Answers.IsIdle, Answers.IsSettled, Histories.Event, Limits.IsFree, Limits.Limits, Limits.after_try, Limits.forgive_outcome, Limits.sending, Limits.seen}
@@ -157,12 +158,16 @@ abbrev pub is_clear : Option Limits → List ℕ → Bool
 is_clear None name = true
 is_clear (Some l) name = is_none (fin.get l.counts name)
 
--- the answer to this line at this book is counted
+-- the answer to this line at this book is counted at this reading of the clock
+abbrev pub IsCountedAt : ℕ → Option Limits → Option Limits → MarkedBook → Ask → Type 0
+IsCountedAt now old new book (Later name seconds) = IsSentAway now old new name seconds
+IsCountedAt now old new book (Forgive name) =
+    HasEffect now old new name (effect_of book (Forgive name))
+IsCountedAt now old new book ask = HasEffect now old new (name_asked ask) (effect_of book ask)
+
+-- it is counted at some reading
 abbrev pub IsCounted : Option Limits → Option Limits → MarkedBook → Ask → Type 0
-IsCounted old new book (Later name seconds) = (now : ℕ) × IsSentAway now old new name seconds
-IsCounted old new book (Forgive name) =
-    (now : ℕ) × HasEffect now old new name (effect_of book (Forgive name))
-IsCounted old new book ask = (now : ℕ) × HasEffect now old new (name_asked ask) (effect_of book ask)
+IsCounted old new book ask = (now : ℕ) × IsCountedAt now old new book ask
 
 -- so are the answers to these, and nothing changes by it
 abbrev pub AreCounted : ℕ → Option Limits → MarkedBook → List Entry → Type 0
@@ -179,6 +184,16 @@ abbrev pub KeepsCount : Option ℕ → Option Limits → List ℕ → (List ℕ 
 KeepsCount None None times told = Unit {0}
 KeepsCount (Some limit) (Some l) times told = HasCounted limit l times told
 KeepsCount _ _ times told = ⊥
+
+-- what is answered needs no hash, and tells of no try
+abbrev pub IsQuick : Ask → Type 0
+IsQuick (Quick ask) = Unit {0}
+IsQuick _ = ⊥
+
+-- no try is sent away
+abbrev pub IsNotSentAway : Ask → Type 0
+IsNotSentAway (Later name seconds) = ⊥
+IsNotSentAway _ = Unit {0}
 
 -- ---- changes that are made together
 
@@ -203,6 +218,7 @@ pub record IsGroup (capacity : ℕ) (s : Service) (limits : Option Limits) (book
       → book.marks name ≡ unmarked
   pub text_is : text ≡ answers capacity book list
   pub counted : IfSome limits IsSettled → AreCounted capacity limits book list
+  pub judged : All (λ e. IsNotSentAway e.ask) list
 
 -- ---- the whole
 
@@ -222,12 +238,11 @@ moment book failed contents keeper output came limits source_failed = record {
   passed = passed_of limits;
 }
 
--- one history, of which each open line saw what it notes, and the limiter counts what it tells
-pub record History (capacity : ℕ) (s : Service) (now : Written) (book : MarkedBook)
+-- A scribe that has these has answered these lines at these moments. Each open line saw of them what
+-- it notes, and the limiter counts what they tell.
+pub record HasAnswered (capacity : ℕ) (s : Service) (now : Written) (book : MarkedBook)
     (why : Option ServiceFault) (open_lines : List Open) (came : ℕ) (limits : Option Limits)
-    : Type 0 where
-  pub list : List Entry
-  pub times : List ℕ
+    (list : List Entry) (times : List ℕ) : Type 0 where
   pub each : IfSome s.input (λ bytes. AreFor capacity s bytes list)
   pub once : IsPermutation (entry_numbers list ++ numbers open_lines) (range_with_len 0 came)
   pub seen : All (SightHolds capacity s.opening list) open_lines
@@ -235,3 +250,36 @@ pub record History (capacity : ℕ) (s : Service) (now : Written) (book : Marked
   pub text : IsWritten capacity s now list why
   pub timed : length times ≡ length list
   pub counted : KeepsCount s.tries limits times (told_at capacity s.opening list times)
+
+-- it has answered some lines at some moments
+abbrev pub History : ℕ → Service → Written → MarkedBook → Option ServiceFault → List Open → ℕ
+    → Option Limits → Type 0
+History capacity s now book why open_lines came limits = (list : List Entry) × (times : List ℕ)
+    × HasAnswered capacity s now book why open_lines came limits list times
+
+-- ---- what a call adds
+
+-- whether a scribe has answered these lines at these moments
+abbrev pub answered_by : {K W : Type 0} → ℕ → Service → (K → MarkedBook)
+    → (W → Option (List ℕ)) → K → Output W → ℕ → Option Limits → List Entry → List ℕ → Type 0
+answered_by capacity s book contents keeper output came limits =
+    HasAnswered capacity s (written_of contents output.writer) (book keeper) output.fault
+    output.pending came limits
+
+-- lines that were answered keep their moments, and no line more is answered
+abbrev pub AddsNone : (List Entry → List ℕ → Type 0) → (List Entry → List ℕ → Type 0) → Type 0
+AddsNone old new = (list : List Entry) (times : List ℕ) → old list times → new list times
+
+-- They keep their moments, and at most one line more is answered: one that is so, at this moment.
+abbrev pub AddsOne : (Ask → Type 0) → ℕ → (List Entry → List ℕ → Type 0)
+    → (List Entry → List ℕ → Type 0) → Type 0
+AddsOne IsSo t old new = (list : List Entry) (times : List ℕ) → old list times
+    → ∥ new list times
+    ⊎ ((e : Entry) × IsSo e.ask × new (list ++ e ∷ []) (times ++ t ∷ [])) ∥₁
+
+-- They keep their moments, and the lines that are answered besides are so, each at this moment.
+abbrev pub AddsSome : (Ask → Type 0) → ℕ → (List Entry → List ℕ → Type 0)
+    → (List Entry → List ℕ → Type 0) → Type 0
+AddsSome IsSo t old new = (list : List Entry) (times : List ℕ) → old list times
+    → ∥ ((more : List Entry) × All (λ e. IsSo e.ask) more
+    × new (list ++ more) (times ++ map (λ _. t) more)) ∥₁

@@ -8,6 +8,7 @@ ghost use Rattle.cred_admin.specs.Marked.{MarkedBook, with_mark};
 ghost use Rattle.cred_admin.specs.declared.edits.Edit.TheVariants.{Lock};
 ghost use Rattle.cred_many.specs.{Asks.Entry, Locks.EndsLock, Locks.IsApart, Locks.IsLocked, Locks.IsNo, Locks.IsTryAt, Locks.PutsRecord, Served.answers, Served.book_after, Served.record_at, declared.ask.Ask.TheVariants.Quick, declared.ask.QuickAsk.TheVariants.Edit as Change};
 ghost use Rattle.cred_many.specs.{Served.done, Telling.AreAlikeAt, Telling.AreAlikeFor, Telling.KeepsTagsFor, Telling.names_in, Telling.with_passwords, declared.ask.Ask.Ask, declared.open.Open.Open};
+ghost use Rattle.cred_many.specs.{Answered.AreCalls, Answered.KeepsLimit, Answered.StandsBehind, Answered.State, Answered.answered_in, Service.Service};
 ghost use Rattle.cred_many.specs.{Scribe.IsPending, Scribe.numbers, Turns.Call, Turns.Follow, Turns.OpenOthers, Turns.open_after, Turns.works_of};
 
 /// An answer tells of the accounts alone that its line names, and the line leaves every other as it
@@ -60,6 +61,16 @@ pub fn a_mark_concerns_its_account_alone()
         (lines : List Entry) → All (λ e. IsApart name e.ask) lines
         → book_after capacity (with_mark book name mark) lines
         ≡ with_mark (book_after capacity book lines) name mark }
+{}
+
+/// Answers keep their moments: what a scribe answered at a moment it has answered at that moment
+/// after each later call. By these very moments its answers keep the limit of failed tries.
+pub fn answers_keep_their_moments()
+    ensures keeps { (capacity : ℕ) (s : Service) (states : ℕ → State) → AreCalls capacity s states
+        → (list : List Entry) (times : List ℕ) → answered_in capacity s (states 0) list times
+        → (calls : ℕ) → StandsBehind capacity s list times (states calls) }
+    ensures limit { (capacity : ℕ) (s : Service) (m : State) (list : List Entry) (times : List ℕ)
+        → answered_in capacity s m list times → KeepsLimit capacity s m list times }
 {}
 
 /// A line is hashed at most nine times. Once it is opened, by whatever calls on the scribe, the

@@ -33,7 +33,7 @@ pub use ending::Served;
 pub use fault::ServiceFault;
 pub use laws::{
     a_line_is_answered_after_nine_hashes, a_lock_holds, a_mark_concerns_its_account_alone,
-    a_password_counts_by_its_tags, an_answer_tells_of_its_accounts,
+    a_password_counts_by_its_tags, an_answer_tells_of_its_accounts, answers_keep_their_moments,
 };
 pub use line::Line;
 pub use scribe::{Ending, Hashed, Job, Scribe, Starved};

@@ -4,14 +4,16 @@ ghost use Rattle.std.specs.{FinMap.contains_key, List.remove};
 ghost use Rattle.std.specs.Prelude.{◌≡◌, ◌↔◌, ℕ, ◌+◌, ◌++◌, [], ◌∷◌, Bool, false, IfSome, IsTrue, is_some, length, None, option_map, Some, true, unwrap_or};
 ghost use Rattle.cred_cli.specs.Script.{lines_of};
 ghost use Rattle.cred_book.specs.Works.{is_for_current, name_of};
-ghost use Rattle.cred_many.specs.{Asks.hashed_for, Asks.is_reset, Scribe.HasTurn, Scribe.History, Scribe.IsAnswered, Scribe.IsBusy, Scribe.IsLooked, Scribe.IsReady, Scribe.moment, Scribe.numbers, Scribe.unseen, declared.ask.Ask.TheVariants.Forgive, declared.ask.Ask.TheVariants.Quick};
+ghost use Rattle.cred_many.specs.Scribe.{AddsNone, AddsOne, IsCountedAt, IsQuick, answered_by, passed_of};
+ghost use Rattle.cred_many.specs.{Asks.hashed_for, Asks.is_reset, Scribe.History, Scribe.IsAnswered, Scribe.IsLooked, Scribe.IsReady, Scribe.moment, Scribe.numbers, Scribe.unseen, declared.ask.Ask.TheVariants.Forgive, declared.ask.Ask.TheVariants.Quick};
 ghost use Rattle.cred_tries.specs.Answers.{IsReadBy};
-ghost use Rattle.cred_many.specs.{Served.HasCause, Served.NeedsMemory, Served.Stands, Served.StandsAtEnd, Served.left_of, Served.record_at, Transcript.written_of, Turns.KeepsTurns, Turns.UsesTurn};
+ghost use Rattle.cred_many.specs.{Served.HasCause, Served.Stands, Served.StandsAtEnd, Served.left_of, Served.record_at, Transcript.written_of, Turns.KeepsTurns};
 
 mod commits;
 mod groups;
 mod job;
 mod reading;
+mod refusals;
 
 use crate::answer::do_ask;
 use crate::ask::{Ask, QuickAsk};
@@ -24,8 +26,8 @@ use crate::service_id::ServiceId;
 use crate::source::Source;
 use crate::tries::Tries;
 use cred_admin::{EditReply, Host, edit_line};
-use cred_book::{BookError, Name, Request, Ticket};
-use cred_cli::{Refusal, Watched};
+use cred_book::{Name, Request, Ticket};
+use cred_cli::Watched;
 use cred_tries::TryLimit;
 pub(crate) use job::Message;
 pub use job::{Hashed, Job, Starved};
@@ -116,6 +118,8 @@ impl<J: ServiceId, K: Host, W: Write> Scribe<J, K, W> {
             → IfSome J.service.input (λ all. result.lines ≡ length (lines_of all)) }
         ensures read { self.output.fault ≡ None → numbers self.output.pending ≡ []
             → IfSome result.source (λ _. result.fault ≡ Some ServiceFault.Read) }
+        ensures kept { (result.keeper ≡ self.keeper) × (result.writer ≡ self.output.writer)
+            × (result.passed ≡ passed_of self.tries) }
     {
         self.lose_pending();
         match ending.end() {
@@ -143,6 +147,9 @@ impl<J: ServiceId, K: Host, W: Write> Scribe<J, K, W> {
         ensures same { numbers self.old.output.pending ≡ []
             → self.new.output.fault ≡ self.old.output.fault }
         ensures came { self.new.came ≡ self.old.came }
+        ensures kept { (self.new.keeper ≡ self.old.keeper)
+            × (self.new.output.writer ≡ self.old.output.writer)
+            × (self.new.tries ≡ self.old.tries) }
     {
         if self.output.fault.is_none() && !self.output.pending.is_empty() {
             self.output.fault = Some(ServiceFault::Lost);
@@ -160,6 +167,8 @@ impl<J: ServiceId, K: Host, W: Write> Scribe<J, K, W> {
         ensures why { result.fault ≡ None → why ≡ None }
         ensures told { self.output.fault ≡ None → result.fault ≡ why }
         ensures source { result.source ≡ source }
+        ensures kept { (result.keeper ≡ self.keeper) × (result.writer ≡ self.output.writer)
+            × (result.passed ≡ passed_of self.tries) }
     {
         let Scribe {
             keeper,
@@ -197,6 +206,12 @@ impl<J: ServiceId, K: Host, W: Write> Scribe<J, K, W> {
         ensures line { IfSome result (λ job. job.0 ≡ line) }
         ensures going { self.new.output.fault ≡ None → self.old.output.fault ≡ None }
         ensures clock { IsReadBy now self.old.tries self.new.tries }
+        ensures adds { AddsOne (IsCountedAt now self.old.tries self.new.tries (K.book self.old.keeper))
+            (passed_of self.new.tries)
+            (answered_by K.capacity J.service K.book W.contents self.old.keeper
+            self.old.output self.old.came self.old.tries)
+            (answered_by K.capacity J.service K.book W.contents self.new.keeper
+            self.new.output self.new.came self.new.tries) }
     {
         if self.output.fault.is_some() {
             return None;
@@ -239,6 +254,12 @@ impl<J: ServiceId, K: Host, W: Write> Scribe<J, K, W> {
         ensures next { line.now.number ≡ self.old.came → result ≡ None
             → is_some self.new.output.fault ≡ true }
         ensures same_tries { self.new.tries ≡ self.old.tries }
+        ensures book { K.book self.new.keeper ≡ K.book self.old.keeper }
+        ensures adds { AddsNone
+            (answered_by K.capacity J.service K.book W.contents self.old.keeper
+            self.old.output self.old.came self.old.tries)
+            (answered_by K.capacity J.service K.book W.contents self.new.keeper
+            self.new.output self.new.came self.new.tries) }
     {
         let number = line.number();
         let place = self.output.pending.len();
@@ -272,6 +293,11 @@ impl<J: ServiceId, K: Host, W: Write> Scribe<J, K, W> {
         ensures line { IfSome result (λ job. job.0 ≡ line) }
         ensures same_came { self.new.came ≡ self.old.came }
         ensures same_tries { self.new.tries ≡ self.old.tries }
+        ensures adds { AddsOne IsQuick (passed_of self.new.tries)
+            (answered_by K.capacity J.service K.book W.contents self.old.keeper
+            self.old.output self.old.came self.old.tries)
+            (answered_by K.capacity J.service K.book W.contents self.new.keeper
+            self.new.output self.new.came self.new.tries) }
     {
         let ticket = ticket_of(&self.keeper, request);
         let changes = self
@@ -293,6 +319,11 @@ impl<J: ServiceId, K: Host, W: Write> Scribe<J, K, W> {
             → self.new.output.pending ≡ remove self.old.output.pending place }
         ensures same_came { self.new.came ≡ self.old.came }
         ensures same_tries { self.new.tries ≡ self.old.tries }
+        ensures adds { AddsOne IsQuick (passed_of self.new.tries)
+            (answered_by K.capacity J.service K.book W.contents self.old.keeper
+            self.old.output self.old.came self.old.tries)
+            (answered_by K.capacity J.service K.book W.contents self.new.keeper
+            self.new.output self.new.came self.new.tries) }
     {
         match do_ask(alloc, &mut self.keeper, ask) {
             Ok(text) => self.output.answer(place, &line, text.bytes()),
@@ -308,6 +339,12 @@ impl<J: ServiceId, K: Host, W: Write> Scribe<J, K, W> {
         ensures closed { self.new.output.pending ≡ remove self.old.output.pending place }
         ensures same_came { self.new.came ≡ self.old.came }
         ensures clock { (now : ℕ) → IsReadBy now self.old.tries self.new.tries }
+        ensures adds { (now : ℕ) → AddsOne (IsCountedAt now self.old.tries self.new.tries (K.book self.old.keeper))
+            (passed_of self.new.tries)
+            (answered_by K.capacity J.service K.book W.contents self.old.keeper
+            self.old.output self.old.came self.old.tries)
+            (answered_by K.capacity J.service K.book W.contents self.new.keeper
+            self.new.output self.new.came self.new.tries) }
     {
         if self.has_account(name) {
             self.tries.forgive(name);
@@ -322,64 +359,6 @@ impl<J: ServiceId, K: Host, W: Write> Scribe<J, K, W> {
         ensures { result ≡ contains_key (K.book self.now.keeper).accounts name.now }
     {
         self.keeper.accounts().contains(name)
-    }
-
-    /// Answers a line without memory for its hash.
-    pub fn no_memory(&mut self, starved: Starved<J>)
-        ensures turn { HasTurn starved.0.number self.old.output self.new.output }
-        ensures turns { self.new.output.fault ≡ None → UsesTurn starved.0.number
-            self.old.output.pending self.new.output.pending }
-        ensures clock { self.new.tries ≡ self.old.tries }
-        ensures going { self.new.output.fault ≡ None → self.old.output.fault ≡ None }
-    {
-        self.starve(starved.into_line());
-    }
-
-    /// Refuses a line for want of memory, unless no more lines are answered.
-    fn starve(&mut self, line: Line<J>)
-        requires { NeedsMemory K.capacity (K.book self.old.keeper) line.ask }
-        ensures book { K.book self.new.keeper ≡ K.book self.old.keeper }
-        ensures same_tries { self.new.tries ≡ self.old.tries }
-        ensures turn { HasTurn line.number self.old.output self.new.output }
-        ensures turns { self.new.output.fault ≡ None → UsesTurn line.number
-            self.old.output.pending self.new.output.pending }
-        ensures going { self.new.output.fault ≡ None → self.old.output.fault ≡ None }
-    {
-        if self.output.fault.is_some() {
-            return;
-        }
-        if let Some(place) = self.output.pending.place_of(line.number()) {
-            self.refuse(place, line);
-        }
-    }
-
-    /// Refuses a line for want of memory, or ends all if the keeper has failed.
-    fn refuse(&mut self, place: usize, line: Line<J>)
-        requires ready { IsReady self.old.output.fault self.old.output.pending place line.number }
-        requires needs { NeedsMemory K.capacity (K.book self.old.keeper) line.ask }
-        ensures book { K.book self.new.keeper ≡ K.book self.old.keeper }
-        ensures same_tries { self.new.tries ≡ self.old.tries }
-        ensures closed { self.new.output.fault ≡ None
-            → self.new.output.pending ≡ remove self.old.output.pending place }
-        ensures same_came { self.new.came ≡ self.old.came }
-    {
-        if self.keeper.has_failed() {
-            self.output.fault = Some(ServiceFault::Keeper);
-            return;
-        }
-        let answer = Refusal::Book(BookError::Memory).line();
-        self.output.answer(place, &line, answer);
-    }
-
-    /// Answers `busy`, since other lines were always faster.
-    fn give_up_as_busy(&mut self, place: usize, line: Line<J>)
-        requires ready { IsReady self.old.output.fault self.old.output.pending place line.number }
-        requires busy { IsBusy self.old.output.pending place line.ask }
-        ensures closed { self.new.output.pending ≡ remove self.old.output.pending place }
-        ensures same_came { self.new.came ≡ self.old.came }
-        ensures same_tries { self.new.tries ≡ self.old.tries }
-    {
-        self.output.answer(place, &line, Refusal::Busy.line());
     }
 }
 

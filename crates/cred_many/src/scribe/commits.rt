@@ -3,6 +3,7 @@
 ghost use Rattle.std.specs.List.{remove};
 ghost use Rattle.std.specs.Prelude.{◌≡◌, ℕ, IfSome, None, true, false};
 ghost use Rattle.cred_book.specs.Works.{name_of};
+ghost use Rattle.cred_many.specs.Scribe.{AddsOne, IsCountedAt, answered_by, passed_of};
 ghost use Rattle.cred_many.specs.{Asks.IsJobOf, Asks.hashed_for, Asks.is_reset, Scribe.HasSeen, Scribe.HasTurn, Scribe.IsReady, Served.told_reply, Served.told_verdict, Turns.HasMoved, Turns.UsesTurn};
 ghost use Rattle.cred_tries.specs.Answers.{IsReadBy};
 ghost use Rattle.cred_many.specs.Tries.{effect_by, is_try, reply_effect};
@@ -31,6 +32,12 @@ impl<J: ServiceId, K: Host, W: Write> Scribe<J, K, W> {
             self.old.output.pending self.new.output.pending }
         ensures clock { IsReadBy now self.old.tries self.new.tries }
         ensures going { self.new.output.fault ≡ None → self.old.output.fault ≡ None }
+        ensures adds { AddsOne (IsCountedAt now self.old.tries self.new.tries (K.book self.old.keeper))
+            (passed_of self.new.tries)
+            (answered_by K.capacity J.service K.book W.contents self.old.keeper
+            self.old.output self.old.came self.old.tries)
+            (answered_by K.capacity J.service K.book W.contents self.new.keeper
+            self.new.output self.new.came self.new.tries) }
     {
         if self.output.fault.is_some() {
             return None;
@@ -67,6 +74,12 @@ impl<J: ServiceId, K: Host, W: Write> Scribe<J, K, W> {
         ensures turns { IfSome result (λ _. UsesTurn line.number self.old.output.pending
             self.new.output.pending) }
         ensures clock { IsReadBy now self.old.tries self.new.tries }
+        ensures adds { AddsOne (IsCountedAt now self.old.tries self.new.tries (K.book self.old.keeper))
+            (passed_of self.new.tries)
+            (answered_by K.capacity J.service K.book W.contents self.old.keeper
+            self.old.output self.old.came self.old.tries)
+            (answered_by K.capacity J.service K.book W.contents self.new.keeper
+            self.new.output self.new.came self.new.tries) }
     {
         let ask = line.ask();
         if let Some(seconds) = self.tries.send_away(&ask, now) {
@@ -102,6 +115,12 @@ impl<J: ServiceId, K: Host, W: Write> Scribe<J, K, W> {
         ensures closed { self.new.output.fault ≡ None
             → self.new.output.pending ≡ remove self.old.output.pending place }
         ensures clock { (now : ℕ) → IsReadBy now self.old.tries self.new.tries }
+        ensures adds { (now : ℕ) → AddsOne (IsCountedAt now self.old.tries self.new.tries (K.book self.old.keeper))
+            (passed_of self.new.tries)
+            (answered_by K.capacity J.service K.book W.contents self.old.keeper
+            self.old.output self.old.came self.old.tries)
+            (answered_by K.capacity J.service K.book W.contents self.new.keeper
+            self.new.output self.new.came self.new.tries) }
     {
         let Some(stored) = worked.after() else {
             unreachable!()

@@ -1,6 +1,7 @@
 //! Changes of different accounts that are made together, and answered at once.
 
 ghost use Rattle.std.specs.Prelude.{◌≡◌, ◌++◌, ◌∷◌, [], IfErr, None, OnErr, OnOk};
+ghost use Rattle.cred_many.specs.Scribe.{AddsSome, IsNotSentAway, answered_by, passed_of};
 ghost use Rattle.cred_many.specs.{Scribe.IsGroup, Scribe.entries_of, Turns.HaveTurns, Turns.UseTurns};
 
 use super::commits::told_reply;
@@ -20,6 +21,11 @@ impl<J: ServiceId, K: Host, W: Write> Scribe<J, K, W> {
             self.old.output.pending self.new.output.pending }
         ensures clock { self.new.tries ≡ self.old.tries }
         ensures going { self.new.output.fault ≡ None → self.old.output.fault ≡ None }
+        ensures adds { AddsSome IsNotSentAway (passed_of self.new.tries)
+            (answered_by K.capacity J.service K.book W.contents self.old.keeper
+            self.old.output self.old.came self.old.tries)
+            (answered_by K.capacity J.service K.book W.contents self.new.keeper
+            self.new.output self.new.came self.new.tries) }
     {
         let mut group = Group::new(alloc);
         let mut others = Vec::new(alloc);
@@ -80,6 +86,11 @@ impl<J: ServiceId, K: Host, W: Write> Scribe<J, K, W> {
         ensures turns { self.new.output.fault ≡ None → UseTurns (entries_of group.works.items)
             self.old.output.pending self.new.output.pending }
         ensures same_tries { self.new.tries ≡ self.old.tries }
+        ensures adds { AddsSome IsNotSentAway (passed_of self.new.tries)
+            (answered_by K.capacity J.service K.book W.contents self.old.keeper
+            self.old.output self.old.came self.old.tries)
+            (answered_by K.capacity J.service K.book W.contents self.new.keeper
+            self.new.output self.new.came self.new.tries) }
     {
         let Group {
             works,
@@ -105,6 +116,11 @@ impl<J: ServiceId, K: Host, W: Write> Scribe<J, K, W> {
         ensures turns { self.new.output.fault ≡ None → UseTurns (entries_of works.items)
             self.old.output.pending self.new.output.pending }
         ensures same_tries { self.new.tries ≡ self.old.tries }
+        ensures adds { AddsSome IsNotSentAway (passed_of self.new.tries)
+            (answered_by K.capacity J.service K.book W.contents self.old.keeper
+            self.old.output self.old.came self.old.tries)
+            (answered_by K.capacity J.service K.book W.contents self.new.keeper
+            self.new.output self.new.came self.new.tries) }
     {
         for hashed in works {
             let (line, _) = hashed.into_parts();

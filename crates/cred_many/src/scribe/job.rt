@@ -2,14 +2,14 @@
 
 ghost use Rattle.std.specs.Prelude.{◌≡◌, ◌<◌, ◌≤◌};
 ghost use Rattle.cred_cli.specs.Costs.{memory_alone};
-ghost use Rattle.cred_many.specs.{Asks.IsJobOf, Costs.Covers, Costs.job_memory, Scribe.IsOf};
+ghost use Rattle.cred_many.specs.{Asks.IsJobOf, Costs.Covers, Costs.job_memory, Costs.made_memory, Scribe.IsOf};
 
 use crate::budget::{Budget, Limit, Taken};
 use crate::costs::{Costs, NO_SALT};
 use crate::line::Line;
 use crate::service_id::ServiceId;
 use cred_book::{Request, Ticket, Worked};
-use cred_phc::{Password, Scratch, TagError, tag_in};
+use cred_phc::{Password, Scheme, Scratch, Setting, TagError, tag_in};
 use cred_pool::NoGate;
 use std::alloc::Global;
 use std::marker::Model;
@@ -108,8 +108,8 @@ impl<J: ServiceId> Job<J> {
     }
 
     /// Hashes a job on this thread alone, in the thread's memory, within the reserved share. A name
-    /// that doesn't exist, and an account without a record, get a hash too.
-    #[tactic(auto, using(crate::proofs::Shares::covered, crate::proofs::Shares::covered_in_vain))]
+    /// that doesn't exist, and an account without a record, get their hashes too.
+    #[tactic(auto, using(crate::proofs::Shares::covered, crate::proofs::Shares::covered_in_vain, crate::proofs::Shares::covered_made))]
     pub(crate) fn work<L: Limit>(
         self,
         scratch: &mut Scratch,
@@ -148,7 +148,8 @@ impl<J: ServiceId> Job<J> {
     }
 }
 
-/// Hashes the password that would be compared with a record, with the costs of new ones.
+/// Makes the hashes that a wrong password takes at an account whose record has the costs of new
+/// ones, so that the time doesn't tell which names exist.
 fn hash_in_vain<L: Limit>(
     scratch: &mut Scratch,
     alloc: Global,
@@ -156,13 +157,17 @@ fn hash_in_vain<L: Limit>(
     request: &Request,
     taken: &Taken<L>,
 ) -> Result<(), TagError>
-    requires { memory_alone costs.now ≤ taken.now.kib }
+    requires compared { memory_alone costs.now ≤ taken.now.kib }
+    requires made { made_memory request.now ≤ taken.now.kib }
 {
     let Some(pw) = compared(request) else {
         return Ok(());
     };
-    let setting = costs.setting(&NO_SALT);
-    tag_in(scratch, alloc, &NoGate, &setting, NEW_TAG, pw.bytes())?;
+    let compared = costs.setting(&NO_SALT);
+    tag_in(scratch, alloc, &NoGate, &compared, NEW_TAG, pw.bytes())?;
+    if let Some((setting, new_pw)) = made(request, &costs.scheme()) {
+        tag_in(scratch, alloc, &NoGate, &setting, NEW_TAG, new_pw.bytes())?;
+    }
     Ok(())
 }
 
@@ -174,6 +179,22 @@ fn compared(request: &Request) -> Option<Password> {
         | Request::Change { pw, .. }
         | Request::Upgrade { pw, .. }
         | Request::Remove { pw, .. } => Some(pw),
+    }
+}
+
+/// The setting and the password of the record that takes the place of one with these costs, if any.
+fn made(request: &Request, costs: &Scheme) -> Option<(Setting, Password)> {
+    match *request {
+        Request::Change {
+            new_pw,
+            setting,
+            ..
+        } => Some((setting, new_pw)),
+        Request::Upgrade { pw, setting, .. } if setting.scheme() != *costs => Some((setting, pw)),
+        Request::Enrol { .. }
+        | Request::Verify { .. }
+        | Request::Upgrade { .. }
+        | Request::Remove { .. } => None,
     }
 }
 

@@ -1,6 +1,7 @@
 use Rattle.std.proofs.Common.{◌≡◌, ◌++◌, ◌∷◌, [], rules, inr, arith}
 use Rattle.cred_many.specs.Scribe.{unseen}
 use Rattle.cred_many.proofs.{Serving.line_missing, Serving.opened, Serving.still, Turns.opened_ready}
+use Rattle.cred_many.proofs.Serving.{none_opened, none_still}
 use Rattle.cred_many.proofs.scribe.Scribe.admit.Goals as goal
 
 pub invariant_of-self : goal.invariant_of-self
@@ -21,3 +22,17 @@ pub returns-clause-ready : goal.returns-clause-ready
 returns-clause-ready g c =
     let more : c.push.new.self ≡ c.args.self.now.output.pending ++ unseen c.args.line.now.number ∷ [] = search rules in
     opened_ready _ _ _ _ _ c.requires more (search rules)
+
+pub returns-then-number-self-clause-adds : goal.returns-then-number-self-clause-adds
+returns-then-number-self-clause-adds g c = λ list times h. h
+
+pub returns-then-number-self-2-clause-adds : goal.returns-then-number-self-2-clause-adds
+returns-then-number-self-2-clause-adds g c = none_still _ _ _ _ _ _ _ _ _ c.requires
+
+pub returns-then-is_err-clause-adds : goal.returns-then-is_err-clause-adds
+returns-then-is_err-clause-adds g c =
+    let same : c.push.new.self ≡ c.args.self.now.output.pending = search rules in
+    rw same (none_still _ _ _ _ _ _ _ _ _ c.requires)
+
+pub returns-clause-adds : goal.returns-clause-adds
+returns-clause-adds g c = none_opened _ _ _ _ _ _ _ _ _ c.number-number.result _ (search rules) (search rules) (search rules)

@@ -1,6 +1,7 @@
 use Rattle.std.proofs.Common.{◌≡◌, Some, slice_get, refl, rules, inl}
 use Rattle.cred_many.specs.Scribe.{IsPending, numbers}
 use Rattle.cred_many.proofs.{Serving.still, Turns.absent_turn, Turns.answered_turn, Turns.either_turn, Turns.ready_turn, Turns.some_pending}
+use Rattle.cred_many.proofs.{Adding.none_one, Adding.same_one, Serving.none_still}
 use Rattle.cred_many.proofs.scribe.Scribe.commit.Goals as goal
 
 pub returns-in_err-place-clause-turns : goal.returns-in_err-place-clause-turns
@@ -36,3 +37,15 @@ returns-clause-turns g c =
 
 pub returns-then-is_reset-clause-clock : goal.returns-then-is_reset-clause-clock
 returns-then-is_reset-clause-clock g c = c.reset.ensures.clock c.args.now
+
+pub returns-then-is_some-clause-adds : goal.returns-then-is_some-clause-adds
+returns-then-is_some-clause-adds g c = same_one _ _ _
+
+pub returns-in_err-place-clause-adds : goal.returns-in_err-place-clause-adds
+returns-in_err-place-clause-adds g c = same_one _ _ _
+
+pub returns-then-is_reset-clause-adds : goal.returns-then-is_reset-clause-adds
+returns-then-is_reset-clause-adds g c = c.reset.ensures.adds c.args.now
+
+pub returns-then-not-has_seen-clause-adds : goal.returns-then-not-has_seen-clause-adds
+returns-then-not-has_seen-clause-adds g c = none_one _ _ _ _ (none_still _ _ _ _ _ _ _ _ _ (search rules))

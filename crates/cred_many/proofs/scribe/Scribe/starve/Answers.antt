@@ -1,6 +1,7 @@
 use Rattle.std.proofs.Common.{◌≡◌, Some, slice_get, refl, rules}
 use Rattle.cred_many.specs.Scribe.{IsPending, numbers}
 use Rattle.cred_many.proofs.Turns.{absent_turn, answered_turn, ready_turn}
+use Rattle.cred_many.proofs.Adding.{same_one}
 use Rattle.cred_many.proofs.scribe.Scribe.starve.Goals as goal
 
 pub returns-in-Some-clause-turn : goal.returns-in-Some-clause-turn
@@ -17,3 +18,9 @@ pub returns-in_default-clause-turns : goal.returns-in_default-clause-turns
 returns-in_default-clause-turns g c =
     let absent : IsPending c.args.line.number (numbers c.args.self.now.output.pending) → ⊥ = search rules in
     λ going. absent_turn _ _ _ absent refl
+
+pub returns-then-is_some-clause-adds : goal.returns-then-is_some-clause-adds
+returns-then-is_some-clause-adds g c = same_one _ _ _
+
+pub returns-in_default-clause-adds : goal.returns-in_default-clause-adds
+returns-in_default-clause-adds g c = same_one _ _ _
