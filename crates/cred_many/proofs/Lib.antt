@@ -5,6 +5,7 @@ pub mod Clear
 pub mod Concerns
 pub mod Locked
 pub mod Commits
+pub mod Inboxes
 pub mod Limiting
 pub mod Lines
 pub mod Listed

@@ -1,6 +1,7 @@
 -- The definitions that the contracts of a service cite.
 pub mod Asks
 pub mod Costs
+pub mod Inbox
 pub mod Locks
 pub mod Names
 pub mod Reading
