@@ -30,6 +30,8 @@ module _ {J : Type 0} where
   pub is_report : (line : Entry) (m : Message J) → IsOf line m → IsReport m
   is_report line (Hashed h) is = λ p. (tt, refl)
   is_report line (NoMemory h) is = λ p. (tt, refl)
+  is_report line (Came _) is = elim is [ ]
+  is_report line Ended is = elim is [ ]
 
   -- ---- the views
 

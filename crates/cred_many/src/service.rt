@@ -1,8 +1,8 @@
 //! The service: one thread reads, others hash, and this one has the book.
 
-ghost use Rattle.std.specs.Prelude.{◌≡◌, [], false, IfOk, IfSome, true};
+ghost use Rattle.std.specs.Prelude.{◌≡◌, [], false, IfOk, IfSome, length, true};
 ghost use Rattle.crossbeam_channel.specs.{Claims.view, Ends.receives_on, Ends.sends_on};
-ghost use Rattle.cred_many.specs.Service.{service};
+ghost use Rattle.cred_many.specs.{Reading.HasHanded, Reading.IsOfReading, Service.service};
 
 use crate::budget::{Budget, Idle, Limit, parts};
 use crate::costs::Costs;
@@ -86,7 +86,9 @@ where
         requires { (S.remaining source ≡ J.service.input) × (S.given source ≡ 0)
             × (S.ended source ≡ false) × (S.failed source ≡ false)
             × (decoder.start ≡ []) × (decoder.number ≡ 0) × (sender.handed ≡ 0) }
-        ensures { result.book.end ≡ sender.book.end }
+        ensures { IsOfReading result.ending
+            × HasHanded result.ending (length (view result.book.pass).sent.lines)
+            × (result.book.end ≡ sender.book.end) }
     { read_all(&there, source, decoder, sender) };
     let reader = match thread::spawn_with(tools.rt, promise, reading) {
         Ok(reader) => reader,

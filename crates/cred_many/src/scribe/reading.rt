@@ -80,15 +80,13 @@ impl<J: ServiceId, S: Source> Ending<J, S> {
 pub(crate) struct Reading<J: ServiceId, S: Source> {
     ending: Ending<J, S>,
     book: ReaderEnd<J>,
-
-    ghost of_reading: { IsOfReading ending },
-    ghost counted: { HasHanded ending (length (view book.pass).sent.lines) },
 }
 
 /// The thread that reads.
 pub(crate) type Reader<J, S> = PromisedHandle<Reading<J, S>, OfReading<J>>;
 
-/// The promise of the thread that reads: it returns the end of the channel that it had.
+/// The promise of the thread that reads: it tells how a reading ended. If it was whole, it sent as
+/// many lines as it handed out, by the end of the channel that it had, which it returns.
 #[derive(Drop)]
 pub(crate) struct OfReading<J: ServiceId>(Snapshot<LineSender<J>>);
 
@@ -102,13 +100,17 @@ impl<J: ServiceId> OfReading<J> {
 }
 
 impl<J: ServiceId, S: Source> Promise<Reading<J, S>> for OfReading<J> {
-    ghost use Rattle.std.specs.Prelude.{◌≡◌};
+    ghost use Rattle.std.specs.Prelude.{◌≡◌, length};
+    ghost use Rattle.crossbeam_channel.specs.Claims.{view};
+    ghost use Rattle.cred_many.specs.Reading.{HasHanded, IsOfReading};
 
-    ghost kept_by = { λ promise reading. reading.book.end ≡ promise.0.value.book.end };
+    ghost kept_by = { λ promise reading. IsOfReading reading.ending
+        × HasHanded reading.ending (length (view reading.book.pass).sent.lines)
+        × (reading.book.end ≡ promise.0.value.book.end) };
 }
 
 /// Reads to the end of the source, and announces it.
-pub(crate) fn read_all<J: ServiceId, T: Wait, S: Source + Drop, G: Rng>(
+pub(crate) fn read_all<J: ServiceId, T: Wait, S: Source + Drop, G: Rng + Drop>(
     rt: &T,
     source: S,
     decoder: LineDecoder<J, G>,
@@ -120,7 +122,9 @@ pub(crate) fn read_all<J: ServiceId, T: Wait, S: Source + Drop, G: Rng>(
     requires start { decoder.start ≡ [] }
     requires number { decoder.number ≡ 0 }
     requires handed { sender.handed ≡ 0 }
-    ensures { result.book.end ≡ sender.book.end }
+    ensures reading { IsOfReading result.ending }
+    ensures handed { HasHanded result.ending (length (view result.book.pass).sent.lines) }
+    ensures channel { result.book.end ≡ sender.book.end }
 {
     let mut decoder = decoder;
     let mut sender = sender;
