@@ -6,6 +6,7 @@ pub mod Clear
 pub mod Concerns
 pub mod Locked
 pub mod Commits
+pub mod Inboxes
 pub mod Limiting
 pub mod Lines
 pub mod Listed

@@ -2,6 +2,7 @@
 pub mod Answered
 pub mod Asks
 pub mod Costs
+pub mod Inbox
 pub mod Locks
 pub mod Names
 pub mod Reading

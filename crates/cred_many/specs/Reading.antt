@@ -57,6 +57,11 @@ IsEnd input failed (Untaken gone) = Unit {0}
 IsEnd input failed Threads = Unit {0}
 IsEnd input failed Memory = Unit {0}
 
+-- a whole reading handed out so many lines
+abbrev pub HasHanded : {S : Type 0} → End S → ℕ → Type 0
+HasHanded (Whole lines) handed = lines ≡ handed
+HasHanded _ handed = Unit {0}
+
 -- it isn't told of a reading that it didn't begin
 abbrev pub IsOfReading : {S : Type 0} → End S → Type 0
 IsOfReading Threads = ⊥

@@ -5,12 +5,13 @@ ghost use Rattle.cred_many.specs.{Costs.compared_memory, Costs.job_memory, Costs
 
 use crate::budget::{Budget, Idle, Limit};
 use crate::costs::Costs;
+use crate::inbox::WorkerEnd;
 use crate::scribe::{Job, Message};
 use crate::service_id::ServiceId;
 use cred_book::{Request, Ticket};
 use cred_cli::memory_alone;
 use cred_phc::{Record, Scratch};
-use crossbeam_channel::{Receiver, Sender};
+use crossbeam_channel::Receiver;
 use std::alloc::Global;
 use std::sync::Wait;
 
@@ -25,15 +26,17 @@ pub(crate) struct Hashing<L: Limit> {
 impl<L: Limit> Hashing<L> {
     /// Hashes jobs as long as they come. Memory is kept from hash to hash, up to the need of new
     /// records.
+    #[tactic(auto, using(crate::proofs::Inboxes::is_report))]
     pub(crate) fn work<J: ServiceId, T: Wait>(
         &self,
         rt: &T,
         jobs: Receiver<Job<J>>,
-        book: Sender<Message<J>>,
+        book: WorkerEnd<J>,
         idle: Idle<L>,
     ) {
         let most = u32::try_from(self.costs.memory()).unwrap_or(u32::MAX);
         let mut scratch = Scratch::new(self.alloc, most);
+        let mut book = book;
         let mut idle = idle;
         for _ in rt.forever() {
             let Ok(job) = jobs.recv(rt) else {
@@ -41,7 +44,7 @@ impl<L: Limit> Hashing<L> {
             };
             let (message, back) = self.hashed(rt, &mut scratch, job, idle);
             idle = back;
-            if book.send(rt, message).is_err() {
+            if book.report(rt, message).is_err() {
                 return;
             }
         }

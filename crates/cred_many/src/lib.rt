@@ -14,6 +14,7 @@ mod fault;
 mod grammar;
 mod group;
 mod hashing;
+mod inbox;
 mod laws;
 mod line;
 mod listing;

@@ -1,34 +1,32 @@
 //! The work of the thread with the book on the messages of the others.
 
-ghost use Rattle.std.specs.Prelude.{◌≡◌, None};
+ghost use Rattle.std.specs.Prelude.{◌≡◌, None, true};
+ghost use Rattle.crossbeam_channel.specs.Claims.{view};
 ghost use Rattle.cred_many.specs.{Scribe.entries_of, Turns.IsTakenIn, Turns.UseTurns};
 
 use crate::group::MOST_TOGETHER;
+use crate::inbox::Inbox;
 use crate::open::MOST_OPEN;
 use crate::scribe::{Hashed, Job, Message, Scribe};
 use crate::service_id::ServiceId;
 use crate::stopwatch::Stopwatch;
 use cred_admin::Host;
-use crossbeam_channel::{Receiver, Sender};
+use crossbeam_channel::Sender;
 use std::alloc::Global;
 use std::io::Write;
 use std::mem;
 use std::sync::Wait;
 use std::time::Clock;
 
-/// The ends of the channels that the thread with the book keeps, and the work that is
-/// left.
+/// The ends of the channels to the other threads, and the work that is left.
 #[derive(Drop)]
 pub(crate) struct MessageLoop<J: ServiceId> {
     alloc: Global,
     stopwatch: Stopwatch,
-    inbox: Receiver<Message<J>>,
     jobs: Sender<Job<J>>,
     room: Sender<()>,
     /// Changes, which are made together.
     changes: Vec<Hashed<J>>,
-    /// Whether no more lines come.
-    ended: bool,
 }
 
 impl<J: ServiceId> MessageLoop<J> {
@@ -36,40 +34,44 @@ impl<J: ServiceId> MessageLoop<J> {
     pub(crate) fn new(
         alloc: Global,
         stopwatch: Stopwatch,
-        inbox: Receiver<Message<J>>,
         jobs: Sender<Job<J>>,
         room: Sender<()>,
     ) -> MessageLoop<J> {
         MessageLoop {
             alloc,
             stopwatch,
-            inbox,
             jobs,
             room,
             changes: Vec::new(alloc),
-            ended: false,
         }
     }
 
     /// Handles the messages of the other threads, until all lines are answered or a fault ends it.
-    /// Returns whether the last line has come.
+    /// Returns whether all lines were received and answered.
     pub(crate) fn run<T: Wait + Clock, K: Host, W: Write + Drop>(
         &mut self,
         rt: &T,
         scribe: &mut Scribe<J, K, W>,
-    ) -> bool {
+        inbox: &mut Inbox<J>,
+    ) -> bool
+        ensures ended { result ≡ true → (view inbox.new.pass).got.ended ≡ true }
+        ensures channel { inbox.new.end ≡ inbox.old.end }
+    {
         for _ in rt.forever() {
-            let Ok(message) = self.inbox.recv(rt) else {
-                break;
+            let Ok(message) = inbox.recv(rt) else {
+                return false;
             };
             self.take_in(rt, scribe, message);
-            self.gather(rt, scribe);
+            self.gather(rt, scribe, inbox);
             self.commit(rt, scribe);
-            if scribe.is_over() || (self.ended && scribe.is_idle()) {
-                break;
+            if scribe.is_over() {
+                return false;
+            }
+            if inbox.has_ended() && scribe.is_idle() {
+                return true;
             }
         }
-        !scribe.is_over()
+        unreachable!()
     }
 
     /// While changes wait, handles the messages that have arrived, so that their changes are made
@@ -78,12 +80,15 @@ impl<J: ServiceId> MessageLoop<J> {
         &mut self,
         rt: &T,
         scribe: &mut Scribe<J, K, W>,
-    ) {
+        inbox: &mut Inbox<J>,
+    )
+        ensures channel { inbox.new.end ≡ inbox.old.end }
+    {
         for _ in 0..MOST_OPEN {
             if self.changes.is_empty() || self.changes.len() >= MOST_TOGETHER {
                 return;
             }
-            let Ok(message) = self.inbox.try_recv(rt) else {
+            let Ok(message) = inbox.try_recv(rt) else {
                 return;
             };
             self.take_in(rt, scribe, message);
@@ -103,7 +108,7 @@ impl<J: ServiceId> MessageLoop<J> {
     {
         let now = self.stopwatch.read(rt);
         match message {
-            Message::Ended => self.ended = true,
+            Message::Ended => {}
             Message::Came(line) => self.pass_on(rt, scribe.take(self.alloc, line, now)),
             Message::Hashed(hashed) => {
                 if !hashed.worked().reply().makes_change() {

@@ -32,7 +32,7 @@ use cred_tries::TryLimit;
 pub(crate) use job::Message;
 pub use job::{Hashed, Job, Starved};
 pub use reading::Ending;
-pub(crate) use reading::{OfReading, await_end, read_lines};
+pub(crate) use reading::{OfReading, Reading, await_end, read_all};
 use std::alloc::Global;
 use std::io::Write;
 use std::marker::PhantomData;

@@ -1,11 +1,13 @@
 //! Handing out lines from the thread that reads.
 
-ghost use Rattle.std.specs.Prelude.{◌≡◌, ◌+◌, ◌^◌, ◌<◌, OnOk};
+ghost use Rattle.std.specs.Prelude.{◌≡◌, ◌+◌, ◌^◌, ◌<◌, OnOk, false, length};
+ghost use Rattle.crossbeam_channel.specs.Claims.{view};
+ghost use Rattle.cred_many.specs.Inbox.{no_progress};
 
+use crate::inbox::ReaderEnd;
 use crate::line::Line;
-use crate::scribe::Message;
 use crate::service_id::ServiceId;
-use crossbeam_channel::{Receiver, Sender};
+use crossbeam_channel::Receiver;
 use std::marker::Model;
 use std::sync::Wait;
 
@@ -41,14 +43,19 @@ pub(crate) struct Gone(());
 pub(crate) struct LineSender<J: ServiceId> {
     /// A token for each line that may be opened now.
     room: Receiver<()>,
-    book: Sender<Message<J>>,
+    book: ReaderEnd<J>,
     handed: LineCount,
+
+    ghost counted: { length (view book.pass).sent.lines ≡ handed },
+    ghost going: { (view book.pass).sent.ended ≡ false },
 }
 
 impl<J: ServiceId> LineSender<J> {
     /// The sender before the first line.
-    pub(crate) fn new(room: Receiver<()>, book: Sender<Message<J>>) -> LineSender<J>
-        ensures { result.handed ≡ 0 }
+    pub(crate) fn new(room: Receiver<()>, book: ReaderEnd<J>) -> LineSender<J>
+        requires { (view book.pass).sent ≡ no_progress }
+        ensures handed { result.handed ≡ 0 }
+        ensures channel { result.book.end ≡ book.end }
     {
         let handed = LineCount { lines: 0 };
         LineSender { room, book, handed }
@@ -61,21 +68,34 @@ impl<J: ServiceId> LineSender<J> {
         &self.handed
     }
 
-    /// Hands out the next line, once there is room for it, and counts it.
+    /// Hands out the next line, once there is room for it, and counts it. A line that counts was
+    /// sent.
     pub(crate) fn hand_out<T: Wait>(&mut self, rt: &T, line: Line<J>) -> Result<(), Gone>
         requires next { line.number ≡ self.old.handed }
         requires few { self.old.handed + 1 < 2 ^ 64 }
-        ensures { OnOk result (self.new.handed ≡ self.old.handed + 1) }
+        ensures handed { OnOk result (self.new.handed ≡ self.old.handed + 1) }
+        ensures channel { self.new.book.end ≡ self.old.book.end }
     {
-        if self.room.recv(rt).is_err() || self.book.send(rt, Message::Came(line)).is_err() {
+        let LineSender { room, book, handed } = self;
+        if room.recv(rt).is_err() || book.send_line(rt, line).is_err() {
             return Err(Gone(()));
         }
-        self.handed.lines += 1;
+        handed.lines += 1;
         Ok(())
     }
 
-    /// Announces that no more lines come.
-    pub(crate) fn end<T: Wait>(self, rt: &T) {
-        let _ = self.book.send(rt, Message::Ended);
+    /// Announces that no more lines come, and returns the end of the channel.
+    pub(crate) fn end<T: Wait>(self, rt: &T) -> ReaderEnd<J>
+        ensures lines { length (view result.pass).sent.lines ≡ self.handed }
+        ensures channel { result.end ≡ self.book.end }
+    {
+        let LineSender {
+            room: _room,
+            book,
+            handed: _handed,
+        } = self;
+        let mut book = book;
+        book.send_end(rt);
+        book
     }
 }

@@ -1,15 +1,17 @@
 //! The service: one thread reads, others hash, and this one has the book.
 
-ghost use Rattle.std.specs.Prelude.{◌≡◌, [], false, IfOk};
-ghost use Rattle.cred_many.specs.{Reading.IsOfReading, Service.service};
+ghost use Rattle.std.specs.Prelude.{◌≡◌, [], false, IfOk, IfSome, length, true};
+ghost use Rattle.crossbeam_channel.specs.{Claims.view, Ends.receives_on, Ends.sends_on};
+ghost use Rattle.cred_many.specs.{Reading.HasHanded, Reading.IsOfReading, Service.service};
 
 use crate::budget::{Budget, Idle, Limit, parts};
 use crate::costs::Costs;
 use crate::decoder::LineDecoder;
 use crate::hashing::Hashing;
+use crate::inbox::{Inbox, WorkerEnd, make_inbox};
 use crate::message_loop::MessageLoop;
 use crate::open::MOST_OPEN;
-use crate::scribe::{Ending, Job, Message, OfReading, Scribe, await_end, read_lines};
+use crate::scribe::{Ending, Job, OfReading, Reading, Scribe, await_end, read_all};
 use crate::sender::LineSender;
 use crate::service_id::ServiceId;
 use crate::source::{LineReader, Source};
@@ -79,28 +81,24 @@ where
         return Ending::without_memory();
     };
     let there = *tools.rt;
-    let reading = move || -> Ending<J, S>
+    let promise = OfReading::of(&sender);
+    let reading = move || -> Reading<J, S>
         requires { (S.remaining source ≡ J.service.input) × (S.given source ≡ 0)
             × (S.ended source ≡ false) × (S.failed source ≡ false)
             × (decoder.start ≡ []) × (decoder.number ≡ 0) × (sender.handed ≡ 0) }
-        ensures { IsOfReading result }
-    {
-        let mut decoder = decoder;
-        let mut sender = sender;
-        let ending = read_lines(&there, source, &mut decoder, &mut sender);
-        sender.end(&there);
-        ending
-    };
-    let reader = match thread::spawn_with(tools.rt, OfReading, reading) {
+        ensures { IsOfReading result.ending
+            × HasHanded result.ending (length (view result.book.pass).sent.lines)
+            × (result.book.end ≡ sender.book.end) }
+    { read_all(&there, source, decoder, sender) };
+    let reader = match thread::spawn_with(tools.rt, promise, reading) {
         Ok(reader) => reader,
         Err(refused) => return Ending::not_begun(refused),
     };
     let blank = Blank::new(u64::from(tools.workers));
-    if hash_in_threads::<Brand, J, T, K, W>(tools, config, scribe, channels, blank) {
-        await_end(tools.rt, reader)
-    } else {
+    match hash_in_threads::<Brand, J, T, K, W>(tools, config, scribe, channels, blank) {
+        Some(inbox) => await_end(tools.rt, reader, inbox),
         // The reader isn't waited for: after a fault it may never end.
-        Ending::not_awaited(reader)
+        None => Ending::not_awaited(reader),
     }
 }
 
@@ -135,8 +133,8 @@ struct Channels<J: ServiceId> {
     room: Sender<()>,
     jobs: Sender<Job<J>>,
     waiting: Receiver<Job<J>>,
-    book: Sender<Message<J>>,
-    inbox: Receiver<Message<J>>,
+    book: WorkerEnd<J>,
+    inbox: Inbox<J>,
 }
 
 /// The channels, with room for all open lines: so that nobody waits to send but the
@@ -145,7 +143,9 @@ fn make_channels<J: ServiceId, T: Wait>(
     rt: &T,
     alloc: Global,
 ) -> Result<(Channels<J>, LineSender<J>), AllocError>
-    ensures { IfOk result (λ made. made.1.handed ≡ 0) }
+    ensures handed { IfOk result (λ made. made.1.handed ≡ 0) }
+    ensures channel { IfOk result
+        (λ made. receives_on made.0.inbox.end ≡ sends_on made.1.book.end) }
 {
     let (room, rooms) = bounded(alloc, MOST_OPEN)?;
     for _ in 0..MOST_OPEN {
@@ -154,8 +154,8 @@ fn make_channels<J: ServiceId, T: Wait>(
         }
     }
     let (jobs, waiting) = bounded(alloc, MOST_OPEN)?;
-    let (book, inbox) = bounded(alloc, MOST_OPEN + 1)?;
-    let sender = LineSender::new(rooms, book.clone()?);
+    let (reader, book, inbox) = make_inbox(alloc, MOST_OPEN + 1)?;
+    let sender = LineSender::new(rooms, reader);
     let channels = Channels {
         room,
         jobs,
@@ -167,14 +167,14 @@ fn make_channels<J: ServiceId, T: Wait>(
 }
 
 /// Hashes in other threads, each with a share of the ledger, and handles their messages in this
-/// one. Returns whether the last line has come.
+/// one. Returns its end of the channel if all lines were received and answered.
 fn hash_in_threads<L, J, T, K, W>(
     tools: &Tools<'_, T>,
     config: &ServiceConfig,
     scribe: &mut Scribe<J, K, W>,
     channels: Channels<J>,
     blank: Blank,
-) -> bool
+) -> Option<Inbox<J>>
 where
     L: Limit + Send + Sync,
     J: ServiceId + Send + Sync + 'static,
@@ -185,10 +185,13 @@ where
     requires parts { (blank.parts ≡ L.parts) × (blank.parts ≡ tools.now.workers) }
     requires total { config.now.memory ≡ L.total }
     requires named { config.now.memory ≡ J.service.memory }
+    ensures ended { IfSome result (λ inbox. (view inbox.pass).got.ended ≡ true) }
+    ensures channel { IfSome result
+        (λ inbox. receives_on inbox.end ≡ receives_on channels.inbox.end) }
 {
     let (taken, share) = blank.open::<L>();
     let Ok(parts) = parts(tools.alloc, share, tools.workers) else {
-        return false;
+        return None;
     };
     let hashing = Hashing {
         alloc: tools.alloc,
@@ -204,16 +207,22 @@ fn attend_beside<L, J, T, K, W>(
     scribe: &mut Scribe<J, K, W>,
     channels: Channels<J>,
     parts: Vec<Idle<L>>,
-) -> bool
+) -> Option<Inbox<J>>
 where
     L: Limit + Send + Sync,
     J: ServiceId + Send + Sync + 'static,
     T: Threads + Wait + Clock + Sync + Copy + Send + 'static,
     K: Host,
     W: Write + Drop,
+    ensures ended { IfSome result (λ inbox. (view inbox.pass).got.ended ≡ true) }
+    ensures channel { IfSome result
+        (λ inbox. receives_on inbox.end ≡ receives_on channels.inbox.end) }
 {
     let rt = tools.rt;
-    thread::scope(thread::scope_env(), rt, move |scope| {
+    thread::scope(thread::scope_env(), rt, move |scope| -> Option<Inbox<J>>
+        ensures { IfSome result (λ inbox. ((view inbox.pass).got.ended ≡ true)
+            × (receives_on inbox.end ≡ receives_on channels.inbox.end)) }
+    {
         let Channels {
             room,
             jobs,
@@ -221,12 +230,14 @@ where
             book,
             inbox,
         } = channels;
+        let mut book = book;
+        let mut inbox = inbox;
         let mut started = false;
         for idle in parts {
             let Ok(jobs) = waiting.clone() else {
                 break;
             };
-            let Ok(book) = book.clone() else {
+            let Ok(book) = book.another() else {
                 break;
             };
             if scope
@@ -242,9 +253,13 @@ where
         drop(waiting);
         drop(book);
         if !started {
-            return false;
+            return None;
         }
-        let mut messages = MessageLoop::new(tools.alloc, Stopwatch::new(rt), inbox, jobs, room);
-        messages.run(rt, scribe)
+        let mut messages = MessageLoop::new(tools.alloc, Stopwatch::new(rt), jobs, room);
+        if messages.run(rt, scribe, &mut inbox) {
+            Some(inbox)
+        } else {
+            None
+        }
     })
 }

@@ -1,16 +1,19 @@
 //! The thread that reads.
 
-ghost use Rattle.std.specs.Prelude.{◌≡◌, ◌+◌, ◌^◌, ◌<◌, [], ◌∷◌, OnOk, false, length};
+ghost use Rattle.std.specs.Prelude.{◌≡◌, ◌+◌, ◌^◌, ◌<◌, [], ◌∷◌, OnOk, false, length, true};
+ghost use Rattle.crossbeam_channel.specs.{Claims.view, Ends.receives_on, Ends.sends_on};
 ghost use Rattle.cred_cli.specs.Script.{line_ends};
-ghost use Rattle.cred_many.specs.Reading.{IsEnd, IsOfReading, MovesOver, NothingIsLeft, ComesNext, place};
+ghost use Rattle.cred_many.specs.Reading.{HasHanded, IsEnd, IsOfReading, MovesOver, NothingIsLeft, ComesNext, place};
 
 use crate::decoder::LineDecoder;
 use crate::ending::{End, MOST_LINES};
+use crate::inbox::{Inbox, ReaderEnd};
 use crate::sender::{Gone, LineSender};
 use crate::service_id::ServiceId;
 use crate::source::Source;
 use rand_core::Rng;
 use std::marker::{Model, PhantomData};
+use std::snapshot::Snapshot;
 use std::sync::Wait;
 use std::thread::{Promise, PromisedHandle, SpawnError, Threads};
 
@@ -72,27 +75,79 @@ impl<J: ServiceId, S: Source> Ending<J, S> {
     }
 }
 
-/// The thread that reads.
-pub(crate) type Reader<J, S> = PromisedHandle<Ending<J, S>, OfReading>;
-
-/// The promise of the thread that reads: it tells how a reading ended.
+/// A reading that ended, with its end of the channel to the thread that has the book.
 #[derive(Drop)]
-pub(crate) struct OfReading;
-
-impl<J: ServiceId, S: Source> Promise<Ending<J, S>> for OfReading {
-    ghost use Rattle.cred_many.specs.Reading.{IsOfReading};
-
-    ghost kept_by = { λ _ ending. IsOfReading ending };
+pub(crate) struct Reading<J: ServiceId, S: Source> {
+    ending: Ending<J, S>,
+    book: ReaderEnd<J>,
 }
 
-/// Waits for the end of the reading.
+/// The thread that reads.
+pub(crate) type Reader<J, S> = PromisedHandle<Reading<J, S>, OfReading<J>>;
+
+/// The promise of the thread that reads: it tells how a reading ended. If it was whole, it sent as
+/// many lines as it handed out, by the end of the channel that it had, which it returns.
+#[derive(Drop)]
+pub(crate) struct OfReading<J: ServiceId>(Snapshot<LineSender<J>>);
+
+impl<J: ServiceId> OfReading<J> {
+    /// The promise of a thread with this sender.
+    pub(crate) fn of(sender: &LineSender<J>) -> OfReading<J>
+        ensures { result.0.value ≡ sender.now }
+    {
+        OfReading(Snapshot::of(sender))
+    }
+}
+
+impl<J: ServiceId, S: Source> Promise<Reading<J, S>> for OfReading<J> {
+    ghost use Rattle.std.specs.Prelude.{◌≡◌, length};
+    ghost use Rattle.crossbeam_channel.specs.Claims.{view};
+    ghost use Rattle.cred_many.specs.Reading.{HasHanded, IsOfReading};
+
+    ghost kept_by = { λ promise reading. IsOfReading reading.ending
+        × HasHanded reading.ending (length (view reading.book.pass).sent.lines)
+        × (reading.book.end ≡ promise.0.value.book.end) };
+}
+
+/// Reads to the end of the source, and announces it.
+pub(crate) fn read_all<J: ServiceId, T: Wait, S: Source + Drop, G: Rng + Drop>(
+    rt: &T,
+    source: S,
+    decoder: LineDecoder<J, G>,
+    sender: LineSender<J>,
+) -> Reading<J, S>
+    requires input { S.remaining source ≡ J.service.input }
+    requires given { S.given source ≡ 0 }
+    requires going { (S.ended source ≡ false) × (S.failed source ≡ false) }
+    requires start { decoder.start ≡ [] }
+    requires number { decoder.number ≡ 0 }
+    requires handed { sender.handed ≡ 0 }
+    ensures reading { IsOfReading result.ending }
+    ensures handed { HasHanded result.ending (length (view result.book.pass).sent.lines) }
+    ensures channel { result.book.end ≡ sender.book.end }
+{
+    let mut decoder = decoder;
+    let mut sender = sender;
+    let ending = read_lines(rt, source, &mut decoder, &mut sender);
+    let book = sender.end(rt);
+    Reading { ending, book }
+}
+
+/// Waits for the end of the reading. If it was whole, this thread has received as many lines as
+/// were handed out.
 pub(crate) fn await_end<J: ServiceId, S: Source, T: Threads>(
     rt: &T,
     reader: Reader<J, S>,
+    inbox: Inbox<J>,
 ) -> Ending<J, S>
-    ensures { IsOfReading result }
+    requires channel { receives_on inbox.end ≡ sends_on reader.promise.0.value.book.end }
+    requires ended { (view inbox.pass).got.ended ≡ true }
+    ensures reading { IsOfReading result }
+    ensures received { HasHanded result (length (view inbox.pass).got.lines) }
 {
-    reader.join(rt)
+    let Reading { ending, book } = reader.join(rt);
+    inbox.compare(book);
+    ending
 }
 
 /// Hands out each line that comes, to the end of the input or until nobody takes them, and says how
@@ -109,7 +164,9 @@ pub(crate) fn read_lines<J: ServiceId, T: Wait, S: Source + Drop, G: Rng>(
     requires start { decoder.old.start ≡ [] }
     requires number { decoder.old.number ≡ 0 }
     requires handed { sender.old.handed ≡ 0 }
-    ensures { IsOfReading result }
+    ensures reading { IsOfReading result }
+    ensures handed { HasHanded result sender.new.handed }
+    ensures channel { sender.new.book.end ≡ sender.old.book.end }
 {
     let mut source = source;
     let mut buffer = [0; CHUNK];
@@ -138,7 +195,9 @@ fn read_last<J: ServiceId, T: Wait, S: Source, G: Rng>(
     requires end { NothingIsLeft J.service.input (place decoder.now.start decoder.now.number) }
     requires number { decoder.now.number ≡ sender.old.handed }
     requires few { sender.old.handed + 1 < 2 ^ 64 }
-    ensures { IsOfReading result }
+    ensures reading { IsOfReading result }
+    ensures handed { HasHanded result sender.new.handed }
+    ensures channel { sender.new.book.end ≡ sender.old.book.end }
 {
     if let Some(line) = decoder.last() {
         if let Err(gone) = sender.hand_out(rt, line) {
@@ -164,6 +223,7 @@ fn take_bytes<J: ServiceId, T: Wait, G: Rng>(
     ensures number { OnOk result (decoder.new.number ≡ sender.new.handed) }
     ensures handed { OnOk result
         (sender.new.handed ≡ sender.old.handed + line_ends bytes.now) }
+    ensures channel { sender.new.book.end ≡ sender.old.book.end }
 {
     for byte in bytes {
         take_byte(rt, decoder, sender, *byte)?;
@@ -186,6 +246,7 @@ fn take_byte<J: ServiceId, T: Wait, G: Rng>(
     ensures number { OnOk result (decoder.new.number ≡ sender.new.handed) }
     ensures handed { OnOk result
         (sender.new.handed ≡ sender.old.handed + line_ends (byte ∷ [])) }
+    ensures channel { sender.new.book.end ≡ sender.old.book.end }
 {
     match decoder.take(byte) {
         Some(line) => sender.hand_out(rt, line),

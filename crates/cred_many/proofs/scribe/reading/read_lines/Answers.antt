@@ -10,6 +10,7 @@ loop-call-init g c = record {
   handed = c.requires.handed ∙ sym c.requires.given;
   number = c.requires.number ∙ sym c.requires.handed;
   going = c.requires.going;
+  channel = refl;
   size = search rules;
 }
 
@@ -39,5 +40,6 @@ loop-call-preserved g c = record {
   handed = counted _ _ _ _ _ c.loop-call.invariant.handed c.in-Ok-take_bytes.ensures.handed c.in-Ok.ensures.given;
   number = c.in-Ok-take_bytes.ensures.number;
   going = (c.in-Ok.ensures.ended ∙ (search rules), c.in-Ok.ensures.failed);
+  channel = c.in-Ok-take_bytes.ensures.channel ∙ c.loop-call.invariant.channel;
   size = omega (arith, c.loop-call.invariant.size, c.read.auto.buf);
 }

@@ -10,5 +10,6 @@ invariant-loop-call g l = record {
   handed : l.sender.handed ≡ g.S.Source.given l.source;
   number : l.decoder.number ≡ l.sender.handed;
   going : (g.S.Source.ended l.source ≡ false) × (g.S.Source.failed l.source ≡ false);
+  channel : l.sender.book.end ≡ l.fn.sender.book.end;
   size : length l.buffer ≡ 4096;
 }

@@ -1,4 +1,4 @@
-use Rattle.std.proofs.{Common.◌+◌, Common.◌++◌, Common.[], Common.◌∷◌, Common.ap, Common.arith, Common.drop, Common.get_or, Common.length, lemmas.List.drop_all, lemmas.List.drop_more}
+use Rattle.std.proofs.{Common.◌+◌, Common.◌∙◌, Common.refl, Common.◌++◌, Common.[], Common.◌∷◌, Common.ap, Common.arith, Common.drop, Common.get_or, Common.length, lemmas.List.drop_all, lemmas.List.drop_more}
 use Rattle.cred_cli.specs.Script.{line_ends}
 use Rattle.cred_cli.proofs.Lines.{line_ends-append}
 use Rattle.cred_many.proofs.Lines.{line_ends-short}
@@ -10,6 +10,7 @@ loop-byte-init g c = record {
   on = λ final moves. moves;
   number = c.requires.number;
   handed = omega arith;
+  channel = refl;
   few = omega arith;
 }
 
@@ -36,6 +37,7 @@ loop-byte-preserved g c =
       on = λ final moves. c.loop-byte.invariant.on final (rw cut (λ all rest known at. moves all rest known (c.in_ok-take_byte.ensures.on all (others ++ rest) known at)));
       number = c.in_ok-take_byte.ensures.number;
       handed = omega (arith, ends, apart, c.loop-byte.invariant.handed, c.in_ok-take_byte.ensures.handed);
+      channel = c.in_ok-take_byte.ensures.channel ∙ c.loop-byte.invariant.channel;
       few = omega (arith, long, one, c.loop-byte.invariant.few, c.in_ok-take_byte.ensures.handed);
     }
 

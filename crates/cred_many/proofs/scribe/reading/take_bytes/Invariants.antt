@@ -11,5 +11,6 @@ invariant-loop-byte g l = record {
       → MovesOver g.J.ServiceId.service.input (place l.fn.decoder.start l.fn.decoder.number) l.bytes final;
   number : l.decoder.number ≡ l.sender.handed;
   handed : l.sender.handed + line_ends (drop l.byte-index l.bytes) ≡ l.fn.sender.handed + line_ends l.bytes;
+  channel : l.sender.book.end ≡ l.fn.sender.book.end;
   few : l.sender.handed + length (drop l.byte-index l.bytes) ≤ l.fn.sender.handed + length l.bytes;
 }
