@@ -80,7 +80,7 @@ pub(crate) static COMMANDS: [CommandText; 21] = [
         name: CommandName::Serve,
         about: "Answers lines of many clients for as long as they come",
         long: "Answers lines of many clients for as long as they come, each TAG OPERATION ..,\n\
-            in any order. Each change is on the disk before its line is answered.\n\
+            in any order. Each change is on the disk before its line gets an answer.\n\
             docs/SERVING.md has the operations and their answers.",
         usage: "credkeep <FILE> serve --tagged [OPTIONS]",
         arguments: &[
@@ -98,7 +98,7 @@ pub(crate) static COMMANDS: [CommandText; 21] = [
         about: "Gives an account its first password",
         long: "Gives an account its first password, one line of standard input. An account\n\
             that doesn't exist is added first.\n\
-            Answers enrolled; or exists with status 4.",
+            The answer is enrolled; or exists with status 4.",
         usage: "credkeep <FILE> add [OPTIONS] <NAME>",
         arguments: &[
             Argument::Name,
@@ -109,10 +109,10 @@ pub(crate) static COMMANDS: [CommandText; 21] = [
     },
     CommandText {
         name: CommandName::Check,
-        about: "Says whether a password is right",
-        long: "Says whether a password, one line of standard input, is right.\n\
-            Answers yes; or no, expired (right, but it must be changed), absent (no record)\n\
-            or noaccount with status 4. A locked account has no right password.",
+        about: "Prints whether a password is right",
+        long: "Prints whether a password, one line of standard input, is right.\n\
+            The answer is yes; or no, expired (right, but it must be changed), absent (no\n\
+            record) or noaccount with status 4. A locked account has no right password.",
         usage: "credkeep <FILE> check [OPTIONS] <NAME>",
         arguments: &[Argument::Name, Argument::Echo],
     },
@@ -120,7 +120,7 @@ pub(crate) static COMMANDS: [CommandText; 21] = [
         name: CommandName::Change,
         about: "Replaces a password by a new one",
         long: "Replaces a password, the first line of standard input, by a new one, the second.\n\
-            Answers replaced; or wrong, same (it must be changed to another one), absent or\n\
+            The answer is replaced; or wrong, same (the new password must differ), absent or\n\
             noaccount with status 4.",
         usage: "credkeep <FILE> change [OPTIONS] <NAME>",
         arguments: &[
@@ -135,7 +135,8 @@ pub(crate) static COMMANDS: [CommandText; 21] = [
         about: "Gives an account a new password, without the old one",
         long: "Gives an account a new password, one line of standard input, without the old\n\
             one. A lock stays.\n\
-            Answers replaced, or enrolled if it had no record; or noaccount with status 4.",
+            The answer is replaced, or enrolled if there was no record; or noaccount with\n\
+            status 4.",
         usage: "credkeep <FILE> reset [OPTIONS] <NAME>",
         arguments: &[
             Argument::Name,
@@ -149,7 +150,8 @@ pub(crate) static COMMANDS: [CommandText; 21] = [
         about: "Rehashes a password by another scheme or costs",
         long: "Rehashes a password, one line of standard input, if its record has another\n\
             scheme or other costs than --setting.\n\
-            Answers upgraded or kept; or wrong, expired, absent or noaccount with status 4.",
+            The answer is upgraded or kept; or wrong, expired, absent or noaccount with\n\
+            status 4.",
         usage: "credkeep <FILE> upgrade [OPTIONS] <NAME>",
         arguments: &[Argument::Name, Argument::Setting, Argument::Echo],
     },
@@ -158,25 +160,25 @@ pub(crate) static COMMANDS: [CommandText; 21] = [
         about: "Removes the record of an account, with its password",
         long: "Removes the record of an account if the password, one line of standard input, is\n\
             right. The name stays.\n\
-            Answers removed; or wrong, expired, absent or noaccount with status 4.",
+            The answer is removed; or wrong, expired, absent or noaccount with status 4.",
         usage: "credkeep <FILE> remove [OPTIONS] <NAME>",
         arguments: &[Argument::Name, Argument::Echo],
     },
     CommandText {
         name: CommandName::Disable,
         about: "Removes the record of an account, without its password",
-        long: "Removes the record of an account without its password. The name stays, and no\n\
-            password is right for it.\n\
-            Answers disabled; or absent or noaccount with status 4. With --show it answers\n\
+        long: "Removes the record of an account without asking for its password. The name\n\
+            stays, and no password is right for it.\n\
+            The answer is disabled; or absent or noaccount with status 4. With --show it is\n\
             the line NAME:RECORD instead, which import --update puts back.",
         usage: "credkeep <FILE> disable [OPTIONS] <NAME>",
         arguments: &[Argument::Name, Argument::Show],
     },
     CommandText {
         name: CommandName::Delete,
-        about: "Deletes an account, name and record",
-        long: "Deletes an account, name and record, without its password.\n\
-            Answers deleted; or noaccount with status 4.",
+        about: "Deletes an account with its record",
+        long: "Deletes an account with its record, without asking for its password.\n\
+            The answer is deleted; or noaccount with status 4.",
         usage: "credkeep <FILE> delete <NAME>",
         arguments: &[Argument::Name],
     },
@@ -184,7 +186,7 @@ pub(crate) static COMMANDS: [CommandText; 21] = [
         name: CommandName::Rename,
         about: "Gives an account another name",
         long: "Gives an account another name, which no account has yet.\n\
-            Answers renamed; or exists or noaccount with status 4.",
+            The answer is renamed; or exists or noaccount with status 4.",
         usage: "credkeep <FILE> rename <NAME> <NEW>",
         arguments: &[Argument::Name, Argument::NewName],
     },
@@ -193,7 +195,7 @@ pub(crate) static COMMANDS: [CommandText; 21] = [
         about: "Locks an account: each password is wrong",
         long: "Locks an account: each password is wrong from now on. The record stays, and\n\
             reset doesn't end the lock.\n\
-            Answers locked; or noaccount with status 4.",
+            The answer is locked; or noaccount with status 4.",
         usage: "credkeep <FILE> lock <NAME>",
         arguments: &[Argument::Name],
     },
@@ -201,16 +203,16 @@ pub(crate) static COMMANDS: [CommandText; 21] = [
         name: CommandName::Unlock,
         about: "Unlocks an account",
         long: "Unlocks an account: its password is right again.\n\
-            Answers unlocked; or none (it isn't locked) or noaccount with status 4.",
+            The answer is unlocked; or none (it isn't locked) or noaccount with status 4.",
         usage: "credkeep <FILE> unlock <NAME>",
         arguments: &[Argument::Name],
     },
     CommandText {
         name: CommandName::Expire,
-        about: "Demands another password of an account",
-        long: "Demands another password of an account: a right one is answered expired until\n\
-            change or reset gives the account another.\n\
-            Answers expired; or absent (no record) or noaccount with status 4.",
+        about: "Requires another password for an account",
+        long: "Requires another password for an account: the present one gets expired until\n\
+            change or reset sets another.\n\
+            The answer is expired; or absent (no record) or noaccount with status 4.",
         usage: "credkeep <FILE> expire <NAME>",
         arguments: &[Argument::Name],
     },
@@ -218,7 +220,7 @@ pub(crate) static COMMANDS: [CommandText; 21] = [
         name: CommandName::Show,
         about: "Shows the costs of a record, or the record",
         long: "Shows the scheme and the costs of an account's record, or the whole record.\n\
-            Answers absent or noaccount with status 4 if there is none.",
+            The answer is absent or noaccount with status 4 if there is none.",
         usage: "credkeep <FILE> show [OPTIONS] <NAME>",
         arguments: &[Argument::Name, Argument::Record, Argument::Json],
     },
@@ -233,8 +235,8 @@ pub(crate) static COMMANDS: [CommandText; 21] = [
         name: CommandName::Export,
         about: "Writes the accounts, a line NAME:RECORD each",
         long: "Writes the accounts, a line NAME:RECORD each, or NAME: if there is no record. A\n\
-            record is behind ! if its account is locked, and behind ~ if it must be changed:\n\
-            import --keep-locked reads both.",
+            record comes after ! if its account is locked, and after ~ if its password must\n\
+            be changed: import --keep-locked reads both.",
         usage: "credkeep <FILE> export",
         arguments: &[],
     },
@@ -243,10 +245,10 @@ pub(crate) static COMMANDS: [CommandText; 21] = [
         about: "Adds the accounts of lines NAME:RECORD",
         long: "Adds the accounts of lines NAME:RECORD from standard input. Lines in the form of\n\
             htpasswd's, Dovecot's or Django's are read too, if their records are of Argon2\n\
-            or scrypt. If a line is bad, each bad line is named and nothing is added. Empty\n\
-            lines and lines that begin with # are skipped.\n\
-            Answers how many accounts were added and updated, how many lines were left since\n\
-            their accounts exist, and how many were bad.",
+            or scrypt. If a line is bad, the command reports each bad line and adds\n\
+            nothing. It skips empty lines and lines that begin with #.\n\
+            The answer has the numbers of accounts added and updated, of lines left out\n\
+            since their accounts exist, and of bad lines.",
         usage: "credkeep <FILE> import [OPTIONS]",
         arguments: &[
             Argument::SkipExisting,
@@ -262,28 +264,28 @@ pub(crate) static COMMANDS: [CommandText; 21] = [
     },
     CommandText {
         name: CommandName::Backup,
-        about: "Copies the book into another file, also while it is served",
-        long: "Copies the book into another file, also while it is served. The copy is whole\n\
-            and has no log.\n\
-            Answers how many accounts it has, and how many changes were in the log.",
+        about: "Copies the book into another file, even while a server has it",
+        long: "Copies the book into another file, even while a server has it. The copy is\n\
+            whole and has no log.\n\
+            The answer has the numbers of its accounts, and of changes in the log.",
         usage: "credkeep <FILE> backup <TO>",
         arguments: &[Argument::To],
     },
     CommandText {
         name: CommandName::Restore,
-        about: "Puts a copy in the book's place",
-        long: "Puts a copy in the place of the book, which no process may have open, and\n\
-            removes the old log.\n\
-            Answers how many accounts it has.",
+        about: "Replaces the book by a copy",
+        long: "Replaces the book, which no process may have open, by a copy, and removes the\n\
+            old log.\n\
+            The answer has the number of its accounts.",
         usage: "credkeep [--wait <SECONDS>] <FILE> restore <FROM>",
         arguments: &[Argument::From],
     },
     CommandText {
         name: CommandName::Verify,
-        about: "Reads all of the book, also while it is served",
-        long: "Reads all of the book and its log, also while it is served.\n\
-            Answers how many accounts it has, and how many changes are in the log; or says\n\
-            what is damaged.",
+        about: "Reads the whole book, even while a server has it",
+        long: "Reads the whole book and its log, even while a server has it.\n\
+            The answer has the numbers of accounts, and of changes in the log; or it names\n\
+            the damage.",
         usage: "credkeep <FILE> verify [OPTIONS]",
         arguments: &[Argument::Json],
     },
