@@ -23,8 +23,8 @@ pub(crate) struct Progress<J: ServiceId> {
     ended: bool,
 }
 
-/// What the holder of one end knows: whether it sends lines, and which it sent; whether it receives,
-/// and which lines it received. No value of it is made.
+/// What the holder of one end knows: whether it sends lines, and which it sent; whether it
+/// receives, and which lines it received. No value of it is made.
 pub(crate) struct Known<J: ServiceId> {
     sends: bool,
     takes: bool,

@@ -20,8 +20,8 @@ use cred_cli::reply_line;
 use std::io::Write;
 
 impl<J: ServiceId, K: Host, W: Write> Scribe<J, K, W> {
-    /// Commits a whole operation, and answers it, if the record still equals the copy. Otherwise the
-    /// record is copied again. The account's marks count that stand now, and so do the tries that
+    /// Commits a whole operation, and answers it, if the record still equals the copy. Otherwise
+    /// the record is copied again. The account's marks count that stand now, and so do the tries that
     /// failed before this reading of the clock, in seconds: one that is too early is sent away, be
     /// its password right or wrong.
     pub fn commit(&mut self, hashed: Hashed<J>, now: u64) -> Option<Job<J>>
@@ -32,7 +32,8 @@ impl<J: ServiceId, K: Host, W: Write> Scribe<J, K, W> {
             self.old.output.pending self.new.output.pending }
         ensures clock { IsReadBy now self.old.tries self.new.tries }
         ensures going { self.new.output.fault ≡ None → self.old.output.fault ≡ None }
-        ensures adds { AddsOne (IsCountedAt now self.old.tries self.new.tries (K.book self.old.keeper))
+        ensures adds { AddsOne
+            (IsCountedAt now self.old.tries self.new.tries (K.book self.old.keeper))
             (passed_of self.new.tries)
             (answered_by K.capacity J.service K.book W.contents self.old.keeper
             self.old.output self.old.came self.old.tries)
@@ -74,7 +75,8 @@ impl<J: ServiceId, K: Host, W: Write> Scribe<J, K, W> {
         ensures turns { IfSome result (λ _. UsesTurn line.number self.old.output.pending
             self.new.output.pending) }
         ensures clock { IsReadBy now self.old.tries self.new.tries }
-        ensures adds { AddsOne (IsCountedAt now self.old.tries self.new.tries (K.book self.old.keeper))
+        ensures adds { AddsOne
+            (IsCountedAt now self.old.tries self.new.tries (K.book self.old.keeper))
             (passed_of self.new.tries)
             (answered_by K.capacity J.service K.book W.contents self.old.keeper
             self.old.output self.old.came self.old.tries)
@@ -115,7 +117,8 @@ impl<J: ServiceId, K: Host, W: Write> Scribe<J, K, W> {
         ensures closed { self.new.output.fault ≡ None
             → self.new.output.pending ≡ remove self.old.output.pending place }
         ensures clock { (now : ℕ) → IsReadBy now self.old.tries self.new.tries }
-        ensures adds { (now : ℕ) → AddsOne (IsCountedAt now self.old.tries self.new.tries (K.book self.old.keeper))
+        ensures adds { (now : ℕ) → AddsOne
+            (IsCountedAt now self.old.tries self.new.tries (K.book self.old.keeper))
             (passed_of self.new.tries)
             (answered_by K.capacity J.service K.book W.contents self.old.keeper
             self.old.output self.old.came self.old.tries)
