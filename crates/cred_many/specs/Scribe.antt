@@ -238,8 +238,8 @@ moment book failed contents keeper output came limits source_failed = record {
   passed = passed_of limits;
 }
 
--- A scribe that has these has answered these lines at these moments. Each open line saw of them what
--- it notes, and the limiter counts what they tell.
+-- A scribe that has these has answered these lines at these moments. Each open line saw of them
+-- what it notes, and the limiter counts what they tell.
 pub record HasAnswered (capacity : ℕ) (s : Service) (now : Written) (book : MarkedBook)
     (why : Option ServiceFault) (open_lines : List Open) (came : ℕ) (limits : Option Limits)
     (list : List Entry) (times : List ℕ) : Type 0 where

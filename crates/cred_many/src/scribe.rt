@@ -206,7 +206,8 @@ impl<J: ServiceId, K: Host, W: Write> Scribe<J, K, W> {
         ensures line { IfSome result (λ job. job.0 ≡ line) }
         ensures going { self.new.output.fault ≡ None → self.old.output.fault ≡ None }
         ensures clock { IsReadBy now self.old.tries self.new.tries }
-        ensures adds { AddsOne (IsCountedAt now self.old.tries self.new.tries (K.book self.old.keeper))
+        ensures adds { AddsOne
+            (IsCountedAt now self.old.tries self.new.tries (K.book self.old.keeper))
             (passed_of self.new.tries)
             (answered_by K.capacity J.service K.book W.contents self.old.keeper
             self.old.output self.old.came self.old.tries)
@@ -339,7 +340,8 @@ impl<J: ServiceId, K: Host, W: Write> Scribe<J, K, W> {
         ensures closed { self.new.output.pending ≡ remove self.old.output.pending place }
         ensures same_came { self.new.came ≡ self.old.came }
         ensures clock { (now : ℕ) → IsReadBy now self.old.tries self.new.tries }
-        ensures adds { (now : ℕ) → AddsOne (IsCountedAt now self.old.tries self.new.tries (K.book self.old.keeper))
+        ensures adds { (now : ℕ) → AddsOne
+            (IsCountedAt now self.old.tries self.new.tries (K.book self.old.keeper))
             (passed_of self.new.tries)
             (answered_by K.capacity J.service K.book W.contents self.old.keeper
             self.old.output self.old.came self.old.tries)

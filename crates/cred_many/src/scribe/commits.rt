@@ -32,7 +32,8 @@ impl<J: ServiceId, K: Host, W: Write> Scribe<J, K, W> {
             self.old.output.pending self.new.output.pending }
         ensures clock { IsReadBy now self.old.tries self.new.tries }
         ensures going { self.new.output.fault ≡ None → self.old.output.fault ≡ None }
-        ensures adds { AddsOne (IsCountedAt now self.old.tries self.new.tries (K.book self.old.keeper))
+        ensures adds { AddsOne
+            (IsCountedAt now self.old.tries self.new.tries (K.book self.old.keeper))
             (passed_of self.new.tries)
             (answered_by K.capacity J.service K.book W.contents self.old.keeper
             self.old.output self.old.came self.old.tries)
@@ -74,7 +75,8 @@ impl<J: ServiceId, K: Host, W: Write> Scribe<J, K, W> {
         ensures turns { IfSome result (λ _. UsesTurn line.number self.old.output.pending
             self.new.output.pending) }
         ensures clock { IsReadBy now self.old.tries self.new.tries }
-        ensures adds { AddsOne (IsCountedAt now self.old.tries self.new.tries (K.book self.old.keeper))
+        ensures adds { AddsOne
+            (IsCountedAt now self.old.tries self.new.tries (K.book self.old.keeper))
             (passed_of self.new.tries)
             (answered_by K.capacity J.service K.book W.contents self.old.keeper
             self.old.output self.old.came self.old.tries)
@@ -115,7 +117,8 @@ impl<J: ServiceId, K: Host, W: Write> Scribe<J, K, W> {
         ensures closed { self.new.output.fault ≡ None
             → self.new.output.pending ≡ remove self.old.output.pending place }
         ensures clock { (now : ℕ) → IsReadBy now self.old.tries self.new.tries }
-        ensures adds { (now : ℕ) → AddsOne (IsCountedAt now self.old.tries self.new.tries (K.book self.old.keeper))
+        ensures adds { (now : ℕ) → AddsOne
+            (IsCountedAt now self.old.tries self.new.tries (K.book self.old.keeper))
             (passed_of self.new.tries)
             (answered_by K.capacity J.service K.book W.contents self.old.keeper
             self.old.output self.old.came self.old.tries)
