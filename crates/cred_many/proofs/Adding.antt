@@ -46,9 +46,6 @@ module _ (Before After : List Entry → List ℕ → Type 0) where
     pub none_one : AddsNone Before After → AddsOne IsSo t Before After
     none_one stays list times h = ∣ inl (stays list times h) ∣₁
 
-    pub none_some : AddsNone Before After → AddsSome IsSo t Before After
-    none_some stays list times h = ∣ ([], All-nil (λ (e : Entry). IsSo e.ask), subst (After (list ++ [])) (sym (append-nil times)) (subst (λ l. After l times) (sym (append-nil list)) (stays list times h))) ∣₁
-
     pub one_some : AddsOne IsSo t Before After → AddsSome IsSo t Before After
     one_some adds list times h = ∥∥₁_map (adds list times h) either
       where
@@ -75,9 +72,6 @@ some_at Before After IsSo t u same adds = subst (λ at. AddsSome IsSo at Before 
 -- ---- two calls, one after another
 
 module _ (First Then Last : List Entry → List ℕ → Type 0) where
-  pub none_none : AddsNone First Then → AddsNone Then Last → AddsNone First Last
-  none_none stays on list times h = on list times (stays list times h)
-
   module _ (IsSo : Ask → Type 0) (t : ℕ) where
     pub none_then_one : AddsNone First Then → AddsOne IsSo t Then Last → AddsOne IsSo t First Last
     none_then_one stays adds list times h = adds list times (stays list times h)
