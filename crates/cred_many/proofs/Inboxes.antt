@@ -68,9 +68,15 @@ module _ {J : Type 0} where
 
   pub begins : InOrder {J = J} [] (known true true no_progress no_progress ∷ [])
   unfolding Leads
-  begins = (0, 0, no_progress, no_progress, refl,
+  begins = (
+    0,
+    0,
+    no_progress,
+    no_progress,
+    refl,
     all_snoc (Fits 0 0 no_progress no_progress) [] (known true true no_progress no_progress) ((λ _. (refl, refl)), λ _. (refl, refl))
-        (λ j u e. absurd (some-ne-none u (sym e))))
+        (λ j u e. absurd (some-ne-none u (sym e))),
+  )
 
   pub sends : (n pass : ℕ) (k : Known J) (m : Message J) → k.sends ≡ true → MayFollow k.sent m
       → Pushes InOrder n pass k m (λ w. w ≡ known k.sends k.takes (after k.sent m) k.got)
@@ -140,7 +146,7 @@ module _ {J : Type 0} where
         h.4,
         all_snoc (Fits (length vs) h.1 h.2 h.3) vs r ((λ _. (refl, (mine.0 a).1)), λ p. absurd (true≢false (sym p)))
             (all_set (Fits (length vs) h.1 h.2 h.3) views pass l ((λ p. absurd (true≢false (sym p))), λ _. mine.1 b)
-                (λ j u other e. ((λ p. absurd (other (((h.5 j u e).0 p).0 ∙ sym (mine.0 a).0))), (h.5 j u e).1))),
+            (λ j u other e. ((λ p. absurd (other (((h.5 j u e).0 p).0 ∙ sym (mine.0 a).0))), (h.5 j u e).1))),
       )
 
   pub spares : (pass : ℕ) (k : Known J) → Forks InOrder pass k k no_part
@@ -165,7 +171,7 @@ module _ {J : Type 0} where
       let theirs = (h.5 other u was).1 b in
       let Now : ℕ → Known J → Type 0 = λ j y. j ≢ other → Fits h.0 pass h.2 h.3 j y in
       let now : All Now vs = all_set Now views pass both (λ _. ((λ _. mine.0 a), λ _. (refl, theirs.1)))
-          (λ j y _ e apart. ((h.5 j y e).0, λ p. absurd (apart (((h.5 j y e).1 p).0 ∙ sym theirs.0)))) in
+      (λ j y _ e apart. ((h.5 j y e).0, λ p. absurd (apart (((h.5 j y e).1 p).0 ∙ sym theirs.0)))) in
       (h.0, pass, h.2, h.3, h.4, all_set (Fits h.0 pass h.2 h.3) vs other no_part ((λ p. absurd (true≢false (sym p))), λ p. absurd (true≢false (sym p))) (λ j y apart e. now j y e apart))
 
   pub learns : (pass : ℕ) (k : Known J) → k.sends ≡ true → k.takes ≡ true → k.got.ended ≡ true

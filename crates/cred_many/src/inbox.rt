@@ -182,8 +182,9 @@ pub(crate) fn make_inbox<J: ServiceId>(
     ensures got { IfOk result (λ ends. (view ends.2.pass).got ≡ no_progress) }
     ensures channel { IfOk result (λ ends. receives_on ends.2.end ≡ sends_on ends.0.end) }
 {
-    let (end, receiving, first): (Sending<J>, Receiving<J>, Knowledge<J>) =
-        bounded_with(alloc, room)?;
+    let (end, receiving, first): (Sending<J>, Receiving<J>, Knowledge<J>) = bounded_with(
+        alloc, room,
+    )?;
     let mut mine = first;
     let theirs = end.another::<Parts>(&mut mine);
     let spare = end.another::<Spare>(&mut mine);

@@ -219,47 +219,51 @@ where
         (λ inbox. receives_on inbox.end ≡ receives_on channels.inbox.end) }
 {
     let rt = tools.rt;
-    thread::scope(thread::scope_env(), rt, move |scope| -> Option<Inbox<J>>
-        ensures { IfSome result (λ inbox. ((view inbox.pass).got.ended ≡ true)
-            × (receives_on inbox.end ≡ receives_on channels.inbox.end)) }
-    {
-        let Channels {
-            room,
-            jobs,
-            waiting,
-            book,
-            inbox,
-        } = channels;
-        let mut book = book;
-        let mut inbox = inbox;
-        let mut started = false;
-        for idle in parts {
-            let Ok(jobs) = waiting.clone() else {
-                break;
-            };
-            let Ok(book) = book.another() else {
-                break;
-            };
-            if scope
-                .spawn(move || hashing.work(rt, jobs, book, idle))
-                .is_err()
-            {
-                break;
+    thread::scope(
+        thread::scope_env(),
+        rt,
+        move |scope| -> Option<Inbox<J>>
+            ensures { IfSome result (λ inbox. ((view inbox.pass).got.ended ≡ true)
+                × (receives_on inbox.end ≡ receives_on channels.inbox.end)) }
+        {
+            let Channels {
+                room,
+                jobs,
+                waiting,
+                book,
+                inbox,
+            } = channels;
+            let mut book = book;
+            let mut inbox = inbox;
+            let mut started = false;
+            for idle in parts {
+                let Ok(jobs) = waiting.clone() else {
+                    break;
+                };
+                let Ok(book) = book.another() else {
+                    break;
+                };
+                if scope
+                    .spawn(move || hashing.work(rt, jobs, book, idle))
+                    .is_err()
+                {
+                    break;
+                }
+                started = true;
             }
-            started = true;
-        }
-        // From now on only the other threads hold these ends, so that each call on the opposite
-        // end fails once the threads have ended.
-        drop(waiting);
-        drop(book);
-        if !started {
-            return None;
-        }
-        let mut messages = MessageLoop::new(tools.alloc, Stopwatch::new(rt), jobs, room);
-        if messages.run(rt, scribe, &mut inbox) {
-            Some(inbox)
-        } else {
-            None
-        }
-    })
+            // From now on only the other threads hold these ends, so that each call on the opposite
+            // end fails once the threads have ended.
+            drop(waiting);
+            drop(book);
+            if !started {
+                return None;
+            }
+            let mut messages = MessageLoop::new(tools.alloc, Stopwatch::new(rt), jobs, room);
+            if messages.run(rt, scribe, &mut inbox) {
+                Some(inbox)
+            } else {
+                None
+            }
+        },
+    )
 }
