@@ -8,7 +8,8 @@ const ABOUT: &str = "Keeps the password records of accounts in a database file";
 
 const AFTER_HELP: &str = "\
 A password is the bytes of one line of standard input, without its line end. At
-a terminal use credkeep-ask, which has the same words and hides what is typed.
+a terminal use credkeep-ask, which takes the same commands and hides what you
+type.
 
 Examples:
   credkeep users.db init
@@ -29,18 +30,18 @@ Examples:
   sqlite3 users.db 'SELECT name FROM account'
 
 Exit statuses:
-  0  done; `check` said yes
-  1  a word of the command line was refused
+  0  the command succeeded; or `check` printed yes
+  1  an argument was refused
   2  reading or writing failed
   3  out of memory
-  4  no: another password, no such account, no record, or one already
+  4  no: a wrong password, no such account, no record, or it exists already
   5  the database failed, is busy, is missing, or holds no book
-  6  what was read was refused: no password, a line too many, a password that is
-     empty or has over 256 bytes, a line of an import, an account too many
+  6  the input was refused: no password, too many lines, a password that is empty
+     or has over 256 bytes, a bad line of an import, or no room for an account
 
-If the database failed in a change, that change is named, and may be kept or
-not. Every change that was answered before is kept. docs/ERRORS.md says what to
-do about each text.";
+If the database fails during a change, the message names that change, which may
+or may not be stored. Every change that was answered before is stored.
+docs/ERRORS.md says what to do about each message.";
 
 const FILE_HELP: &str = "The database file";
 
@@ -48,8 +49,8 @@ const NAME_HELP: &str = "The account: 1 to 32 of a-z, 0-9, '.', '_', '-'";
 
 const NEW_NAME_HELP: &str = "The account's new name";
 
-const SETTING_HELP: &str = "The scheme, the costs and perhaps the salt of the new record; a\n\
-    salt that isn't given is random\n\
+const SETTING_HELP: &str = "The scheme, the costs and, optionally, the salt of the new record;\n\
+    without a salt, a random one is used\n\
     [default: $argon2id$v=19$m=65536,t=3,p=4]";
 
 const TAGGED_HELP: &str = "Answers tagged lines: verify, login, enrol, change, reset and others;\n\

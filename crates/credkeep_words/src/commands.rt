@@ -98,7 +98,7 @@ pub(crate) static COMMANDS: [CommandText; 21] = [
         about: "Gives an account its first password",
         long: "Gives an account its first password, one line of standard input. An account\n\
             that doesn't exist is added first.\n\
-            The answer is enrolled; or exists with status 4.",
+            Prints enrolled; or exists with status 4.",
         usage: "credkeep <FILE> add [OPTIONS] <NAME>",
         arguments: &[
             Argument::Name,
@@ -111,7 +111,7 @@ pub(crate) static COMMANDS: [CommandText; 21] = [
         name: CommandName::Check,
         about: "Prints whether a password is right",
         long: "Prints whether a password, one line of standard input, is right.\n\
-            The answer is yes; or no, expired (right, but it must be changed), absent (no\n\
+            Prints yes; or no, expired (right, but it must be changed), absent (no\n\
             record) or noaccount with status 4. A locked account has no right password.",
         usage: "credkeep <FILE> check [OPTIONS] <NAME>",
         arguments: &[Argument::Name, Argument::Echo],
@@ -120,7 +120,7 @@ pub(crate) static COMMANDS: [CommandText; 21] = [
         name: CommandName::Change,
         about: "Replaces a password by a new one",
         long: "Replaces a password, the first line of standard input, by a new one, the second.\n\
-            The answer is replaced; or wrong, same (the new password must differ), absent or\n\
+            Prints replaced; or wrong, same (the new password must differ), absent or\n\
             noaccount with status 4.",
         usage: "credkeep <FILE> change [OPTIONS] <NAME>",
         arguments: &[
@@ -135,7 +135,7 @@ pub(crate) static COMMANDS: [CommandText; 21] = [
         about: "Gives an account a new password, without the old one",
         long: "Gives an account a new password, one line of standard input, without the old\n\
             one. A lock stays.\n\
-            The answer is replaced, or enrolled if there was no record; or noaccount with\n\
+            Prints replaced, or enrolled if there was no record; or noaccount with\n\
             status 4.",
         usage: "credkeep <FILE> reset [OPTIONS] <NAME>",
         arguments: &[
@@ -150,7 +150,7 @@ pub(crate) static COMMANDS: [CommandText; 21] = [
         about: "Rehashes a password by another scheme or costs",
         long: "Rehashes a password, one line of standard input, if its record has another\n\
             scheme or other costs than --setting.\n\
-            The answer is upgraded or kept; or wrong, expired, absent or noaccount with\n\
+            Prints upgraded or kept; or wrong, expired, absent or noaccount with\n\
             status 4.",
         usage: "credkeep <FILE> upgrade [OPTIONS] <NAME>",
         arguments: &[Argument::Name, Argument::Setting, Argument::Echo],
@@ -160,7 +160,7 @@ pub(crate) static COMMANDS: [CommandText; 21] = [
         about: "Removes the record of an account, with its password",
         long: "Removes the record of an account if the password, one line of standard input, is\n\
             right. The name stays.\n\
-            The answer is removed; or wrong, expired, absent or noaccount with status 4.",
+            Prints removed; or wrong, expired, absent or noaccount with status 4.",
         usage: "credkeep <FILE> remove [OPTIONS] <NAME>",
         arguments: &[Argument::Name, Argument::Echo],
     },
@@ -169,7 +169,7 @@ pub(crate) static COMMANDS: [CommandText; 21] = [
         about: "Removes the record of an account, without its password",
         long: "Removes the record of an account without asking for its password. The name\n\
             stays, and no password is right for it.\n\
-            The answer is disabled; or absent or noaccount with status 4. With --show it is\n\
+            Prints disabled; or absent or noaccount with status 4. With --show it prints\n\
             the line NAME:RECORD instead, which import --update puts back.",
         usage: "credkeep <FILE> disable [OPTIONS] <NAME>",
         arguments: &[Argument::Name, Argument::Show],
@@ -178,7 +178,7 @@ pub(crate) static COMMANDS: [CommandText; 21] = [
         name: CommandName::Delete,
         about: "Deletes an account with its record",
         long: "Deletes an account with its record, without asking for its password.\n\
-            The answer is deleted; or noaccount with status 4.",
+            Prints deleted; or noaccount with status 4.",
         usage: "credkeep <FILE> delete <NAME>",
         arguments: &[Argument::Name],
     },
@@ -186,7 +186,7 @@ pub(crate) static COMMANDS: [CommandText; 21] = [
         name: CommandName::Rename,
         about: "Gives an account another name",
         long: "Gives an account another name, which no account has yet.\n\
-            The answer is renamed; or exists or noaccount with status 4.",
+            Prints renamed; or exists or noaccount with status 4.",
         usage: "credkeep <FILE> rename <NAME> <NEW>",
         arguments: &[Argument::Name, Argument::NewName],
     },
@@ -195,7 +195,7 @@ pub(crate) static COMMANDS: [CommandText; 21] = [
         about: "Locks an account: each password is wrong",
         long: "Locks an account: each password is wrong from now on. The record stays, and\n\
             reset doesn't end the lock.\n\
-            The answer is locked; or noaccount with status 4.",
+            Prints locked; or noaccount with status 4.",
         usage: "credkeep <FILE> lock <NAME>",
         arguments: &[Argument::Name],
     },
@@ -203,7 +203,7 @@ pub(crate) static COMMANDS: [CommandText; 21] = [
         name: CommandName::Unlock,
         about: "Unlocks an account",
         long: "Unlocks an account: its password is right again.\n\
-            The answer is unlocked; or none (it isn't locked) or noaccount with status 4.",
+            Prints unlocked; or none (it isn't locked) or noaccount with status 4.",
         usage: "credkeep <FILE> unlock <NAME>",
         arguments: &[Argument::Name],
     },
@@ -212,7 +212,7 @@ pub(crate) static COMMANDS: [CommandText; 21] = [
         about: "Requires another password for an account",
         long: "Requires another password for an account: the present one gets expired until\n\
             change or reset sets another.\n\
-            The answer is expired; or absent (no record) or noaccount with status 4.",
+            Prints expired; or absent (no record) or noaccount with status 4.",
         usage: "credkeep <FILE> expire <NAME>",
         arguments: &[Argument::Name],
     },
@@ -220,7 +220,7 @@ pub(crate) static COMMANDS: [CommandText; 21] = [
         name: CommandName::Show,
         about: "Shows the costs of a record, or the record",
         long: "Shows the scheme and the costs of an account's record, or the whole record.\n\
-            The answer is absent or noaccount with status 4 if there is none.",
+            Prints absent or noaccount with status 4 if there is none.",
         usage: "credkeep <FILE> show [OPTIONS] <NAME>",
         arguments: &[Argument::Name, Argument::Record, Argument::Json],
     },
@@ -247,7 +247,7 @@ pub(crate) static COMMANDS: [CommandText; 21] = [
             htpasswd's, Dovecot's or Django's are read too, if their records are of Argon2\n\
             or scrypt. If a line is bad, the command reports each bad line and adds\n\
             nothing. It skips empty lines and lines that begin with #.\n\
-            The answer has the numbers of accounts added and updated, of lines left out\n\
+            Prints the numbers of accounts added and updated, of lines left out\n\
             since their accounts exist, and of bad lines.",
         usage: "credkeep <FILE> import [OPTIONS]",
         arguments: &[
@@ -267,7 +267,7 @@ pub(crate) static COMMANDS: [CommandText; 21] = [
         about: "Copies the book into another file, even while a server has it",
         long: "Copies the book into another file, even while a server has it. The copy is\n\
             whole and has no log.\n\
-            The answer has the numbers of its accounts, and of changes in the log.",
+            Prints the numbers of its accounts, and of changes in the log.",
         usage: "credkeep <FILE> backup <TO>",
         arguments: &[Argument::To],
     },
@@ -276,7 +276,7 @@ pub(crate) static COMMANDS: [CommandText; 21] = [
         about: "Replaces the book by a copy",
         long: "Replaces the book, which no process may have open, by a copy, and removes the\n\
             old log.\n\
-            The answer has the number of its accounts.",
+            Prints the number of its accounts.",
         usage: "credkeep [--wait <SECONDS>] <FILE> restore <FROM>",
         arguments: &[Argument::From],
     },
@@ -284,7 +284,7 @@ pub(crate) static COMMANDS: [CommandText; 21] = [
         name: CommandName::Verify,
         about: "Reads the whole book, even while a server has it",
         long: "Reads the whole book and its log, even while a server has it.\n\
-            The answer has the numbers of accounts, and of changes in the log; or it names\n\
+            Prints the numbers of accounts, and of changes in the log; or it names\n\
             the damage.",
         usage: "credkeep <FILE> verify [OPTIONS]",
         arguments: &[Argument::Json],

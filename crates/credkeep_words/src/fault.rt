@@ -74,9 +74,9 @@ impl fmt::Display for FileFault {
                  removed without its log; restore puts a copy there, and removes the log",
             ),
             FileFault::Locks => f.write_str(
-                "an earlier server's locks of names lie beside it, at its name with -locks, and an \
-                 export would give their records away: start credkeep-server once, which puts them \
-                 into the book",
+                "an earlier server's locks are beside it, in a file of its name with -locks; an export \
+                 would write the locked users' records as usable ones: start credkeep-server once, \
+                 which moves the locks into the book",
             ),
             FileFault::DamagedLog { before, lost } => write!(
                 f,
