@@ -18,6 +18,7 @@ MIRROR = "http://deb.debian.org/debian"
 INCLUDED = "gcc,libc6-dev,make,python3,xz-utils,libpam0g-dev,pamtester"
 # What is typed there: make as an ordinary user, and the rest as root.
 TYPED = f"""set -eu
+export PATH=/usr/local/sbin:/usr/local/bin:/usr/sbin:/usr/bin:/sbin:/bin
 ! command -v rt
 useradd -m builder
 cp /{NAME}.tar.xz* /home/builder

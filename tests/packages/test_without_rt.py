@@ -92,8 +92,8 @@ class WithoutRt(helpers.Case):
         return self.as_user("make", "-C", self.top / folder, *words, status=status, **env)
 
     def test_library(self):
-        """The library is built of c/proved, and hashes as others do, in Python and in PHP. A program
-        in C links it from its folder, as BUILDING says."""
+        """The library is built of c/proved, and hashes as others do, in Python and in PHP. A
+        program in C links it from its folder, as BUILDING says."""
         self.make()
         found = self.as_user("/usr/bin/python3", "-c", CHECKS, PYTHONPATH=str(self.top / "python"))
         self.assertEqual(found.splitlines()[1], f"{self.top}/c/out/librigzumal.so.1")
