@@ -235,7 +235,8 @@ def error_to_str(error: int) -> str:
 
 
 def _first_fault(it: Parameters) -> Optional[int]:
-    """The first of these that is too small, in libargon2's order."""
+    """libargon2's number for the first parameter that is too small, in its order of checks; None if
+    none is."""
     faults = (
         (it.hash_len < 4, -2),
         (it.salt_len < 8, -6),

@@ -1,5 +1,5 @@
-"""The app: its checks for `manage.py check`, and a stock User that compares if the setting says
-so."""
+"""The app: its checks for `manage.py check`, and, with
+RIGZUMAL_USER_COMPARES, a stock User that writes a record only over the one that it read."""
 
 # mypy: allow-subclassing-any
 

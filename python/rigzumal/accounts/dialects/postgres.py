@@ -134,7 +134,7 @@ class Postgres(Dialect):
             session.conn.remove_notice_handler(handler)
         # A wait for the standby that was cancelled answers COMMIT, with a warning.
         if warnings:
-            raise ConnectionError("committed here, and perhaps not at the standby")
+            raise ConnectionError("committed on the primary, but perhaps not on the standby")
         return done
 
     async def add_all(self, session: Session, lines: Sequence[Line]) -> list[str]:

@@ -165,7 +165,8 @@ class Door:
 
 @functools.lru_cache(maxsize=1)
 def ranges_in(path: str, _version: tuple[int, ...]) -> list[tuple[range, str]]:
-    """The ranges of uids in this version of a file of subuid(5), with owners: names or uids."""
+    """The ranges of uids in this version of a subuid(5) file, each with its owner (a name or a
+    uid)."""
     with open(path, encoding="utf-8", errors="replace") as file:
         lines = [found for found in map(RANGE.fullmatch, file) if found]
     ranges = list[tuple[range, str]]()
