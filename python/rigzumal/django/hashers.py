@@ -52,8 +52,8 @@ class _RecordHasher(BasePasswordHasher):
         require_app()
 
     def decode(self, encoded: str) -> dict[str, Any]:
-        """The parts of a record. For a text that is no such record it raises a ValueError that doesn't
-        show the text."""
+        """The parts of a record. For a text that is no such record it raises a ValueError that
+        doesn't show the text."""
         name, _, rest = encoded.partition("$")
         found = self._form.fullmatch(rest)
         if name != self.algorithm or not found:
@@ -150,8 +150,8 @@ class Argon2PasswordHasher(_RecordHasher):
         return "$".join((self.algorithm, "argon2id", "v=19", costs, *letters))
 
     def decode(self, encoded: str) -> dict[str, Any]:
-        """The parts of a record. For a text that is no such record it raises a ValueError that doesn't
-        show the text."""
+        """The parts of a record. For a text that is no such record it raises a ValueError that
+        doesn't show the text."""
         parts = super().decode(encoded)
         parts["version"] = int(parts["version"] or 16)
         parts["salt"] = decoded(parts["salt"]).decode("latin1")
