@@ -38,7 +38,7 @@ MISTAKES = {
     "--socket a /tmp/never-made rw - verify x.db": "the mode of the socket a is octal",
     "--socket a /tmp/never-made 0o4777 - verify x.db": "the mode of the socket a is octal",
     "--socket a /tmp/never-made 4777 - verify x.db": "the mode of the socket a is octal",
-    f"{SOCKET} verfy x.db": "'verfy' is no operation",
+    f"{SOCKET} verfy x.db": "'verfy' isn't an operation",
     f"{SOCKET} 'verify, known' x.db": "' known' is no operation",
     f"{SOCKET} '' x.db": "'' is no operation",
     f"{SOCKET} verify {SOCKET} verify x.db": "two sockets have the name a",
