@@ -36,8 +36,9 @@ Exit statuses:
   3  out of memory
   4  no: a wrong password, no such account, no record, or it exists already
   5  the database failed, is busy, is missing, or holds no book
-  6  the input was refused: no password, too many lines, a password that is empty
-     or has over 256 bytes, a bad line of an import, or no room for an account
+  6  the input was refused: no password, too many lines, a password that is
+     empty or has over 256 bytes, a bad line of an import, or no room for an
+     account
 
 If the database fails during a change, the message names that change, which may
 or may not be stored. Every change that was answered before is stored.
