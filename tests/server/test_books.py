@@ -340,14 +340,16 @@ class OverCredkeep(Case):
             service.client().talk(f"{row}\n" * 12)
             return cpu(service.book_pid()) - before
 
-        ours = cost("verify ada {wrong} -> no")
-        for row in (
-            "verify zoe {wrong} -> noaccount",
-            "verify bob {wrong} -> absent",
-            "change zoe {wrong} {fresh} -> noaccount",
+        verify = cost("verify ada {wrong} -> no")
+        change = cost("change ada {wrong} {fresh} -> wrong")
+        for row, ours in (
+            ("verify zoe {wrong} -> noaccount", verify),
+            ("verify bob {wrong} -> absent", verify),
+            ("change zoe {wrong} {fresh} -> noaccount", change),
+            ("change bob {wrong} {fresh} -> absent", change),
         ):
             self.assertTrue(0.6 * ours < cost(row) < 1.7 * ours, f"{row}: a wrong one is {ours} s")
-        self.assertLess(cost("known zoe -> noaccount"), 0.3 * ours, "known costs a hash")
+        self.assertLess(cost("known zoe -> noaccount"), 0.3 * verify, "known costs a hash")
 
     def test_options_that_cant_be_met(self) -> None:
         """Costs that credkeep doesn't take, and memory for no hash of theirs, end the start, with

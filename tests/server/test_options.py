@@ -42,7 +42,7 @@ MISTAKES = {
     f"{SOCKET} 'verify, known' x.db": "' known' isn't an operation",
     f"{SOCKET} '' x.db": "'' isn't an operation",
     f"{SOCKET} verify {SOCKET} verify x.db": "two sockets have the name a",
-    f"{SOCKET} verify --socket b /tmp/never-made 0660 - verify x.db": "called /tmp/never-made",
+    f"{SOCKET} verify --socket b /tmp/never-made 0660 - verify x.db": "the name /tmp/never-made",
     "--socket a /tmp/never-made 0660 nosuchgroup verify x.db": "there is no group nosuchgroup",
     "--socket a /none/at/s 0660 - verify x.db": "/none/at: No such file or directory",
     f"--socket a /tmp/{'x' * 110} 0660 - verify x.db": "up to 107 bytes",

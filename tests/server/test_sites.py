@@ -81,7 +81,7 @@ def run_dovecot(*changes: tuple[str, str]) -> None:
 
 def remove_system_users() -> None:
     """The lines of Dovecot's own configuration that the page removes."""
-    (line, path) = re.findall(r"`(!include\s\S+)` from (\S+),", PAGE.read_text())[0]
+    (line, path) = re.findall(r"`(!include\s\S+)` from ([/\w.-]*\w)", PAGE.read_text())[0]
     own = pathlib.Path(path)
     own.write_text(own.read_text().replace(" ".join(line.split()), ""))
 
