@@ -1,5 +1,5 @@
-/* A step with a secret or with threads: the work of the proved step, by the calls that check a
- * record and write one. */
+/* A step with a secret or with threads: the replies of the proved step, by the calls that check a
+ * record and write one. A wrong password makes no record here. */
 #include "builds.h"
 #include "inputs.h"
 #include "secrets.h"

@@ -161,12 +161,12 @@ class Judge:
         """The effect of the whole operation at the ticket's copy.
 
         `right` is the hook's answer to the ticket's question. An account without a
-        record costs one hash too, and so does an unknown name.
+        record costs as many hashes as a wrong password, and so does an unknown name.
         """
         request, copy = ticket.request, ticket.copy
         reply, after = self._judged(ticket, right)
         if not isinstance(copy, str) and request.kind not in (Kind.ENROL, Kind.RESET):
-            self._spend(self.sample, request.password, self._secrets)
+            self._spend(self.sample, request, self._secrets)
         return Worked(ticket, reply, after)
 
     def _judged(self, ticket: Ticket, right: Optional[bool]) -> tuple[Reply, Copy]:
@@ -191,7 +191,7 @@ class Judge:
             raise InvalidRecordError(refused.number, f"{refused}{FOREIGN_HINT}")
         # A text of another scheme, which any upgrade replaces.
         if right is None:
-            self._spend(self.sample, request.password, self._secrets)
+            self._spend(self.sample, request, self._secrets)
         if right is not True:
             return _wrong(request), copy
         return self._at_right(request, copy)
@@ -203,7 +203,7 @@ class Judge:
             secrets = (None,)
         if not request.can_be_right:
             _library.check_text(copy)
-            self._spend(copy, b"", secrets)  # a wrong password waits for a hash
+            self._spend(copy, request, secrets)  # a wrong password waits for a hash
             return _wrong(request), copy
         if secrets[0] == self._secret:
             reply, after = self._stepped(request, copy)
@@ -225,10 +225,12 @@ class Judge:
         new, setting = request.new_password, self._setting()
         return step(kind, copy, password, new, setting, secret)
 
-    def _spend(self, record: str, password: Secret, secrets: Iterable[Optional[bytes]]) -> None:
-        """Computes as many hashes as a wrong password costs."""
+    def _spend(self, record: str, request: Request, secrets: Iterable[Optional[bytes]]) -> None:
+        """Computes as many hashes as a wrong password costs at a record of these costs."""
         for secret in secrets:
-            is_right(record, password, secret)
+            is_right(record, request.password, secret)
+        if request.kind is Kind.CHANGE and self._secret is None:
+            self._made(request.new_password)  # the step hashes it for a wrong password too
 
     def _at_right(self, request: Request, copy: str) -> tuple[Reply, Copy]:
         """The effect of a right password at a record that any upgrade replaces."""

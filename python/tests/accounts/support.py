@@ -204,12 +204,18 @@ class Base(unittest.TestCase):
 
     @contextlib.contextmanager
     def hashes(self, count):
-        """The block must hash this many times: steps, and checks of a dummy."""
+        """The block must hash this many times: steps, and checks of a dummy. Without a secret a
+        step that may write a record hashes for it in any case."""
         step, dummy = (mock.Mock(wraps=it) for it in (_judgement.step, _judgement.is_right))
         with mock.patch.multiple(_judgement, step=step, is_right=dummy):
             yield
-        steps = (it.args[:2] for it in step.mock_calls)
-        made = [kind.value for kind, copy in steps if copy is not None or kind is Kind.ENROL]
+        made = []
+        for call in step.mock_calls:
+            kind, copy, secret = call.args[0], call.args[1], call.args[5]
+            if copy is not None or kind is Kind.ENROL:
+                made.append(kind.value)
+            if copy is not None and kind in (Kind.CHANGE, Kind.UPGRADE) and secret is None:
+                made.append("new record")
         self.assertEqual(len(made) + dummy.call_count, count, made)
 
     @contextlib.contextmanager

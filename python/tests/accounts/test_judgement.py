@@ -231,14 +231,14 @@ class ForeignTasks(OnSqliteTasks, Foreign):
 
 class Costs(Base):
     @each("ann", "bob", "nobody", "a\0b", "a\ud800")
-    def test_each_look_costs_one_hash(self, name):
-        """Each look costs one hash: for an unknown name, without a record, and for a wrong
-        password."""
+    def test_each_look_costs_the_same_hashes(self, name):
+        """Each look costs one hash, and a change two: for an unknown name, without a record, and
+        for a wrong password."""
         self.give("one")
         self.give(None, "bob")
         accounts = self.accounts()
         for kind in READS:
-            with self.subTest(kind=kind), self.hashes(1):
+            with self.subTest(kind=kind), self.hashes(2 if kind is Kind.CHANGE else 1):
                 accounts.perform(Request(kind, name, "wrong", "x"))
         with self.hashes(1):
             accounts.login(name, "wrong")

@@ -50,7 +50,7 @@ class Foreign:
         name, question = request.words[1], request
         is_barred = await self.file.bars(name)
         if is_barred and request.operation.tries:
-            # The answer takes as long as to a wrong password, counts as one, and changes nothing.
+            # The answer takes a hash, counts as a wrong password, and changes nothing.
             words = [b"verify", name, *map(password_of_nobody, request.words[2:3])]
             question = replace(request, words=words)
         answer = await self.answer_unbarred(question)
