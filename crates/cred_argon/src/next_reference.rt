@@ -11,6 +11,10 @@ use crate::reference_block::reference_from;
 use crate::segment::{Shared, halves};
 use crate::slice::Slice;
 
+/// The memory, in KiB, that is taken to stay in a processor's second-level cache. There the way to
+/// the next reference takes longer than its prefetch saves.
+const CACHED_MEMORY: u32 = 1024;
+
 /// The reference of the block that follows the one at an offset.
 #[derive(Clone, Copy, Drop)]
 pub(crate) struct NextReference<'a, S> {
@@ -28,12 +32,14 @@ impl<'a, S: Slice> Prefetch for NextReference<'a, S> {
         × (first_offset next.shared.now.turn ≤ next.offset) };
 
     fn prefetch(&self, first_word: u64) {
-        if self.offset < self.shared.turn.params.segment_len() - 1 {
-            let offset = self.offset + 1;
-            let position = self.shared.turn.position(self.lane, offset);
-            let (j1, j2) = halves(reference_word(first_word, self.addresses, offset));
-            let reference = reference_from(&self.shared.turn.params, &position, j1, j2);
-            prefetch_reference(self.shared, self.lane, offset, self.done, &reference);
+        if self.shared.turn.params.memory() > CACHED_MEMORY {
+            if self.offset < self.shared.turn.params.segment_len() - 1 {
+                let offset = self.offset + 1;
+                let position = self.shared.turn.position(self.lane, offset);
+                let (j1, j2) = halves(reference_word(first_word, self.addresses, offset));
+                let reference = reference_from(&self.shared.turn.params, &position, j1, j2);
+                prefetch_reference(self.shared, self.lane, offset, self.done, &reference);
+            }
         }
     }
 }

@@ -50,7 +50,8 @@ pub(crate) fn reference_from(params: &Params, position: &Position, j1: u32, j2: 
     Reference { lane, column }
 }
 
-/// The lane that the word `j2` names: in the first segment of all the place's own.
+/// The lane that the word `j2` names: in the first segment of all the place's own. A processor needs
+/// some 26 cycles to divide, and none for the numbers that stand here.
 fn lane_for(lanes: u32, position: &Position, j2: u32) -> u32
     requires lane { position.now.lane < lanes }
     ensures value { result ≡ (if 4 * position.now.pass + position.now.slice == 0
@@ -59,6 +60,12 @@ fn lane_for(lanes: u32, position: &Position, j2: u32) -> u32
 {
     if position.pass == 0 && position.slice == 0 {
         position.lane
+    } else if lanes == 1 {
+        0
+    } else if lanes == 2 {
+        j2 % 2
+    } else if lanes == 4 {
+        j2 % 4
     } else {
         j2 % lanes
     }
