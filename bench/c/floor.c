@@ -1,12 +1,14 @@
 /* Times Argon2's bare memory traffic: each block is the XOR of the block before, of its reference
- * and of its own content on the pass before, in the order of one lane. No address depends on a
- * block, so the program waits for the memory alone.
+ * and of its own content on the pass before, in the order of one lane. So the program waits for
+ * the memory alone.
  *
- *     cc -O3 -march=native bench/c/floor.c -o floor && ./floor KIB PASSES TIMES [none]
+ *     cc -O3 -march=native bench/c/floor.c -o floor && ./floor KIB PASSES TIMES [none] [chained]
  *
  * The program prints the median and the best processor time in milliseconds, and the time that
- * clears the memory once. With `none` there are no huge pages. */
+ * clears the memory once. With `none` there are no huge pages. With `chained` each address waits
+ * for the block before, as most of Argon2id's do; without it no address waits. */
 #define _GNU_SOURCE
+#include <stdbool.h>
 #include <stdint.h>
 #include <stdio.h>
 #include <stdlib.h>
@@ -47,18 +49,25 @@ static uint32_t next_random(void) {
     return (uint32_t)state;
 }
 
+/* A random number that is there only once the word is, of which it has nothing. */
+static uint32_t random_after(uint64_t word) {
+    static volatile uint64_t zero;
+    return next_random() ^ (uint32_t)(word & zero);
+}
+
 /* The reference is chosen by RFC 9106, section 3.4.2: later blocks more often. */
-static size_t reference(size_t at, size_t count, int pass) {
+static size_t reference(size_t at, size_t count, int pass, uint64_t word) {
     size_t ready = pass == 0 ? at : count - count / 4;
-    uint64_t word = next_random(), square = word * word >> 32;
+    uint64_t square = word * word >> 32;
     size_t back = (ready * square >> 32) + 1;
     return (at + count - back) % count;
 }
 
-static void mix(struct block *blocks, size_t count, int pass) {
+static void mix(struct block *blocks, size_t count, int pass, bool is_chained) {
     for (size_t at = 2; at < count; at++) {
-        const uint64_t *before = blocks[at - 1].words,
-                       *other = blocks[reference(at, count, pass)].words;
+        const uint64_t *before = blocks[at - 1].words;
+        uint32_t word = is_chained ? random_after(before[0]) : next_random();
+        const uint64_t *other = blocks[reference(at, count, pass, word)].words;
         uint64_t *own = blocks[at].words;
         for (int i = 0; i < WORDS; i++)
             own[i] = before[i] ^ other[i] ^ (pass == 0 ? 0 : own[i]);
@@ -70,19 +79,27 @@ static int compare(const void *one, const void *other) {
     return difference < 0 ? -1 : difference > 0;
 }
 
+static bool has(char **words, const char *word) {
+    while (*words != NULL && strcmp(*words, word) != 0)
+        words++;
+    return *words != NULL;
+}
+
 int main(int given, char **words) {
     if (given < 4)
         return 2;
+    bool is_chained = has(words + 4, "chained");
     size_t count = strtoul(words[1], NULL, 10);
     int passes = atoi(words[2]), times = atoi(words[3]);
     static double took[MOST_TIMES], clearing[MOST_TIMES];
     if (times < 1 || times > MOST_TIMES)
         return 2;
-    struct block *blocks = map_blocks(count, given > 4 ? MADV_NOHUGEPAGE : MADV_HUGEPAGE);
+    int advice = has(words + 4, "none") ? MADV_NOHUGEPAGE : MADV_HUGEPAGE;
+    struct block *blocks = map_blocks(count, advice);
     for (int turn = 0; turn < times; turn++) {
         double start = processor_ms();
         for (int pass = 0; pass < passes; pass++)
-            mix(blocks, count, pass);
+            mix(blocks, count, pass, is_chained);
         double mixed = processor_ms();
         explicit_bzero(blocks, count * sizeof *blocks);
         took[turn] = mixed - start;

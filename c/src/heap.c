@@ -133,8 +133,9 @@ size_t heap_trim(void) {
 }
 
 /* Keeps a cleared area, or as much of it as the bound allows, in the place of smaller ones if
- * necessary. The system may take its pages back: they read as zero either way. */
-static void give_area(area it) {
+ * necessary. The system may take back the pages that were used: they read as zero either way. It
+ * may take the others since an earlier call, and each page that it is told of costs time. */
+static void give_area(area it, size_t used) {
     size_t most = atomic_load(&most_kept);
     if (size_of(it) > most) {
         munmap(start_of(it) + most, size_of(it) - most);
@@ -142,7 +143,8 @@ static void give_area(area it) {
     }
     if (most == 0)
         return;
-    madvise(start_of(it), size_of(it), MADV_FREE);
+    size_t told = rounded_up(used, HUGE_PAGE); /* or the system would split one */
+    madvise(start_of(it), told < size_of(it) ? told : size_of(it), MADV_FREE);
     while (!put_kept(it)) {
         area other = take_kept(0);
         unmap_area(other != 0 ? other : it);
@@ -225,6 +227,7 @@ static _Thread_local struct {
     uint64_t process; /* that took the first of them */
     area area;        /* the one that blocks are cut from, or 0 */
     size_t used;      /* the bytes that are cut off from it */
+    size_t most_used; /* of it since it was taken */
 } taken;
 
 static bool has_room_for_block(void) {
@@ -239,45 +242,11 @@ static bool has_room_for_block(void) {
     return true;
 }
 
-static void free_empty_table(void) {
-    if (taken.count > 0)
-        return;
-    free(taken.blocks);
-    taken.blocks = NULL;
-    taken.room = 0;
-}
-
 static struct block library_block(size_t size) {
     void *start = NULL;
     if (posix_memalign(&start, LEAST_ALIGN, size) != 0)
         start = NULL;
     return (struct block){start, size, 0};
-}
-
-/* A block of an area that others are cut from too. If there is no memory for such an area, it is as
- * small as possible. */
-static struct block cut_block(size_t size) {
-    if (taken.area == 0 || size > size_of(taken.area) - taken.used) {
-        area it = take_area(AREA);
-        if (it == 0)
-            it = take_area(rounded_up(size, HUGE_PAGE));
-        if (it == 0)
-            return (struct block){NULL, 0, 0};
-        taken.area = it;
-        taken.used = 0;
-    }
-    struct block block = {start_of(taken.area) + taken.used, size, taken.area};
-    taken.used += rounded_up(size, LEAST_ALIGN);
-    return block;
-}
-
-static struct block new_block(size_t size) {
-    if (size < LEAST_LARGE)
-        return library_block(size);
-    if (size <= AREA)
-        return cut_block(size);
-    area it = take_area(rounded_up(size, HUGE_PAGE));
-    return (struct block){start_of(it), size, it};
 }
 
 static bool is_area_in_use(area it) {
@@ -287,16 +256,69 @@ static bool is_area_in_use(area it) {
     return false;
 }
 
-/* Frees a block of an area, which is no longer in the table. */
+/* Gives the area that blocks were cut from, if it has none. */
+static void give_empty_area(void) {
+    if (taken.area == 0 || is_area_in_use(taken.area))
+        return;
+    give_area(taken.area, taken.most_used);
+    taken.area = 0;
+}
+
+/* Keeps nothing for a thread whose call has freed all. */
+static void end_call(void) {
+    if (taken.count > 0)
+        return;
+    give_empty_area();
+    free(taken.blocks);
+    taken.blocks = NULL;
+    taken.room = 0;
+}
+
+/* A block of an area that others are cut from too. If there is no memory for such an area, it is as
+ * small as possible. */
+static struct block cut_block(size_t size) {
+    if (taken.area == 0 || size > size_of(taken.area) - taken.used) {
+        give_empty_area();
+        area it = take_area(AREA);
+        if (it == 0)
+            it = take_area(rounded_up(size, HUGE_PAGE));
+        if (it == 0)
+            return (struct block){NULL, 0, 0};
+        taken.area = it;
+        taken.used = taken.most_used = 0;
+    }
+    struct block block = {start_of(taken.area) + taken.used, size, taken.area};
+    taken.used += rounded_up(size, LEAST_ALIGN);
+    if (taken.used > taken.most_used)
+        taken.most_used = taken.used;
+    return block;
+}
+
+static struct block new_block(size_t size) {
+    if (size < LEAST_LARGE)
+        return library_block(size);
+    if (size <= AREA)
+        return cut_block(size);
+    give_empty_area();
+    area it = take_area(rounded_up(size, HUGE_PAGE));
+    return (struct block){start_of(it), size, it};
+}
+
+/* Frees a block of an area, which is no longer in the table. The area that blocks are cut from
+ * stays the thread's until its call has freed all: scrypt takes a table for each of its pieces. */
 static void give_area_block(struct block block) {
     size_t at = (size_t)(block.start - start_of(block.area));
     if (block.area == taken.area && at + rounded_up(block.size, LEAST_ALIGN) == taken.used)
         taken.used = at;
     if (is_area_in_use(block.area))
         return;
-    if (block.area == taken.area)
-        taken.area = 0;
-    give_area(block.area);
+    if (block.area == taken.area) {
+        taken.used = 0;
+        return;
+    }
+    if (taken.count == 0)
+        give_empty_area();
+    give_area(block.area, size_of(block.area));
 }
 
 struct tried rattle_alloc(size_t size, size_t align) {
@@ -310,7 +332,7 @@ struct tried rattle_alloc(size_t size, size_t align) {
             return (struct tried){true, block.start};
         }
     }
-    free_empty_table();
+    end_call();
     return (struct tried){false, &refused};
 }
 
@@ -334,7 +356,7 @@ static void give_back(struct block block) {
         process_end_child_of(taken.process);
         give_area_block(block);
     }
-    free_empty_table();
+    end_call();
 }
 
 void rattle_dealloc(void *start) {

@@ -196,6 +196,7 @@ static void test_mappings(void) {
         memset(advised, 0, sizeof advised);
         unsigned char *start = take_block(sizes[i]), *last = start + sizes[i] - 1;
         size_t whole = sizes[i] <= AREA ? AREA : sizes[i], rest = whole < KEPT ? whole : KEPT;
+        size_t used = (sizes[i] + HUGE_PAGE - 1) / HUGE_PAGE * HUGE_PAGE;
         CHECK(mapped == whole && (uintptr_t)start % HUGE_PAGE == 0);
         CHECK(is_advised(MADV_HUGEPAGE, start, whole));
         CHECK(is_advised(MADV_DONTDUMP, start, whole));
@@ -207,8 +208,36 @@ static void test_mappings(void) {
         CHECK(is_all(start, 0x66, sizes[i]));
         CHECK(advised[MADV_FREE].times == 0);
         rattle_dealloc(start);
-        CHECK(is_advised(MADV_FREE, start, rest) && mapped == rest);
+        CHECK(is_advised(MADV_FREE, start, used < KEPT ? used : KEPT) && mapped == rest);
+        CHECK(advised[MADV_FREE].size == (used < KEPT ? used : KEPT));
     }
+}
+
+/* The area that blocks are cut from is the thread's until its call has freed all: it isn't kept and
+ * taken again for each block. The system may then have the pages that were used, of all blocks. A
+ * larger block has the place of the area, if that is empty. */
+static void test_area_of_a_call(void) {
+    heap_trim();
+    memset(advised, 0, sizeof advised);
+    unsigned char *small = take_block(100), *start = take_block(5 * MIB);
+    rattle_dealloc(start);
+    for (int turn = 0; turn < 3; turn++) {
+        CHECK(take_block(MIB) == start && heap_trim() == 0);
+        rattle_dealloc(start);
+    }
+    CHECK(advised[MADV_FREE].times == 0 && mapped == AREA);
+    rattle_dealloc(small);
+    CHECK(is_advised(MADV_FREE, start, 5 * MIB) && advised[MADV_FREE].size == 6 * MIB);
+    CHECK(heap_trim() == AREA && mapped == 0);
+
+    small = take_block(100);
+    rattle_dealloc(take_block(MIB));
+    most_mapped = AREA + 4 * MIB;
+    unsigned char *large = take_block(18 * MIB);
+    CHECK(mapped == 18 * MIB);
+    most_mapped = SIZE_MAX;
+    rattle_dealloc(large);
+    rattle_dealloc(small);
 }
 
 /* A child of a namespace's first process, which is the first of its own namespace. */
@@ -364,8 +393,10 @@ int main(void) {
     test_used_again();
     test_zeros();
     test_many_blocks();
-    if (HAS_ADVICE)
+    if (HAS_ADVICE) {
         test_mappings();
+        test_area_of_a_call();
+    }
     test_first_processes();
     test_kept_areas();
     test_replaced_areas();
