@@ -179,3 +179,9 @@ module _ {J : Type 0} where
   learns pass k a b over items views h at =
       let mine = h.5 pass k at in
       (mine.1 b).1 ∙ all_arrived h.3 items h.2 (ap (λ (p : Progress J). p.ended) (sym (mine.1 b).1) ∙ over) h.4 ∙ sym (mine.0 a).1
+
+  -- ---- what a scribe has taken of it
+
+  -- a line that was received is taken
+  pub takes_line : (got : Progress J) (line : Entry) (was now : ℕ) → was ≡ length got.lines → now ≡ was + 1 → now ≡ length (after got (Came {J = J} line)).lines
+  takes_line got line was now before one = one ∙ ap (λ n. n + 1) before ∙ sym (length_push got.lines line)

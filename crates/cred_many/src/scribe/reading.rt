@@ -4,6 +4,7 @@ ghost use Rattle.std.specs.Prelude.{◌≡◌, ◌+◌, ◌^◌, ◌<◌, [], �
 ghost use Rattle.crossbeam_channel.specs.{Claims.view, Ends.receives_on, Ends.sends_on};
 ghost use Rattle.cred_cli.specs.Script.{line_ends};
 ghost use Rattle.cred_many.specs.Reading.{HasHanded, IsEnd, IsOfReading, MovesOver, NothingIsLeft, ComesNext, place};
+ghost use Rattle.cred_many.specs.declared.ending.End.TheVariants.{Memory, Threads};
 
 use crate::decoder::LineDecoder;
 use crate::ending::{End, MOST_LINES};
@@ -40,7 +41,9 @@ impl<J: ServiceId, S: Source> Model for Ending<J, S> {
 
 impl<J: ServiceId, S: Source> Ending<J, S> {
     /// No thread could be started for this reading.
-    pub(crate) fn not_begun<F: Drop>(_refused: SpawnError<F>) -> Ending<J, S> {
+    pub(crate) fn not_begun<F: Drop>(_refused: SpawnError<F>) -> Ending<J, S>
+        ensures { result ≡ Threads }
+    {
         Ending::new(End::Threads)
     }
 
@@ -48,12 +51,15 @@ impl<J: ServiceId, S: Source> Ending<J, S> {
     pub(crate) fn not_awaited(_reader: Reader<J, S>) -> Ending<J, S>
     where
         S: Drop,
+        ensures { result ≡ Threads }
     {
         Ending::new(End::Threads)
     }
 
     /// Memory ran out before the first line.
-    pub(crate) fn without_memory() -> Ending<J, S> {
+    pub(crate) fn without_memory() -> Ending<J, S>
+        ensures { result ≡ Memory }
+    {
         Ending::new(End::Memory)
     }
 
@@ -68,7 +74,8 @@ impl<J: ServiceId, S: Source> Ending<J, S> {
     }
 
     pub(super) fn end(self) -> End<S>
-        ensures { IsEnd J.service.input S.failed result }
+        ensures same { result ≡ self }
+        ensures is_end { IsEnd J.service.input S.failed result }
     {
         let Ending { end, of: _ } = self;
         end
