@@ -1,11 +1,11 @@
 -- Each step keeps the order of the inbox.
-use Rattle.std.proofs.Common.{◌≡◌, ◌≢◌, ◌⊎◌, ℕ, zero, suc, Bool, true, false, true≢false, List, [], ◌∷◌, ◌++◌, length, set, sym, refl, ap, ◌∙◌, subst, inl, inr, ⊎_elim, arith}
+use Rattle.std.proofs.Common.{◌≡◌, ◌≢◌, ◌⊎◌, ℕ, zero, suc, true, true≢false, List, [], ◌∷◌, ◌++◌, length, set, sym, refl, ap, ◌∙◌, subst, inl, inr, ⊎_elim, arith}
 use mathlib.Core.Option.{some, some-ne-none, some-injective}
 use lib.ListN.{get_elem?}
 use Rattle.crossbeam_channel.specs.Fifo.{Pushes, Pops, Forks, Merges, Learns}
 use Rattle.cred_many.specs.{Asks.Entry, Scribe.IsOf, declared.inbox.Known.Known, declared.inbox.Progress.Progress, declared.scribe.job.Message.Message}
 use Rattle.cred_many.specs.declared.scribe.job.Message.TheVariants.{Came, Ended, Hashed, NoMemory}
-use Rattle.cred_many.specs.Inbox.{progress, no_progress, after, MayFollow, Leads, known, no_part, sender_of, taker_of, IsReport, Fits, InOrder}
+use Rattle.cred_many.specs.Inbox.{no_progress, after, MayFollow, Leads, known, no_part, sender_of, taker_of, IsReport, Fits, InOrder}
 
 module _ {J : Type 0} where
   -- ---- what leads where
@@ -179,9 +179,3 @@ module _ {J : Type 0} where
   learns pass k a b over items views h at =
       let mine = h.5 pass k at in
       (mine.1 b).1 ∙ all_arrived h.3 items h.2 (ap (λ (p : Progress J). p.ended) (sym (mine.1 b).1) ∙ over) h.4 ∙ sym (mine.0 a).1
-
-  -- ---- what a scribe has taken of it
-
-  -- a line that was received is taken
-  pub takes_line : (got : Progress J) (line : Entry) (was now : ℕ) → was ≡ length got.lines → now ≡ was + 1 → now ≡ length (after got (Came {J = J} line)).lines
-  takes_line got line was now before one = one ∙ ap (λ n. n + 1) before ∙ sym (length_push got.lines line)

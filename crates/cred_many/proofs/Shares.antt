@@ -4,7 +4,7 @@ use Rattle.std.proofs.Math.Nat.{le-max_left, le-max_right, le_trans}
 use Rattle.cred_phc.specs.declared.scheme.Scheme.{Scheme}
 use Rattle.cred_book.specs.Works.{Task}
 use Rattle.cred_cli.specs.Costs.{memory_alone}
-use Rattle.cred_many.specs.Costs.{Covers, compared_memory, job_memory, made_memory}
+use Rattle.cred_many.specs.Costs.{Covers, job_memory, made_memory}
 
 -- also the one that is made where there is no record to compare with, and the one that is made of
 -- the record which would take its place

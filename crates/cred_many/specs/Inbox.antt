@@ -29,11 +29,6 @@ MayFollow p _ = Unit {0}
 abbrev pub HasTaken : {J : Type 0} → Progress J → Option ServiceFault → ℕ → Type 0
 HasTaken got why came = why ≡ None → came ≡ length got.lines
 
--- it has taken all, and no line is open
-abbrev pub HasAnsweredAll : {J : Type 0} → Progress J → Option ServiceFault → ℕ → List ℕ → Type 0
-HasAnsweredAll got why came pending =
-    (why ≡ None) × (came ≡ length got.lines) × (pending ≡ [])
-
 -- whoever has received so much, and then receives these messages in their order, has received that
 unfoldable pub Leads : {J : Type 0} → Progress J → List (Message J) → Progress J → Type 0
 Leads got [] sent = got ≡ sent

