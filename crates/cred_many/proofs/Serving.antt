@@ -108,22 +108,18 @@ once_opened ns left came once =
 
 -- ---- a history that goes on
 
-pub served_first : (capacity : ℕ) (s : Service) (now : Written) (book : MarkedBook) (left : List Open) (limits : Option Limits) → left ≡ [] → book ≡ s.opening → now ≡ s.before → KeepsCount s.tries limits [] (told_at capacity s.opening [] [])
-    → History capacity s now book None left 0 limits
+pub served_none : (capacity : ℕ) (s : Service) (now : Written) (book : MarkedBook) (left : List Open) (limits : Option Limits) → left ≡ [] → book ≡ s.opening → now ≡ s.before → KeepsCount s.tries limits [] (told_at capacity s.opening [] [])
+    → HasAnswered capacity s now book None left 0 limits [] []
 unfolding answers book_after
-served_first capacity s now book left limits none is same counted = (
-  [],
-  [],
-  rw none (record {
-    each = if_known s.input _ (λ bytes known i d within. absurd (omega (arith, within)));
-    once = IsPermutation-refl [];
-    seen = All-nil (SightHolds capacity s.opening []);
-    book_is = is;
-    text = record { bytes = 0; front = rw same (takes_none s.before); whole = λ _. refl; most = omega arith };
-    timed = refl;
-    counted = counted;
-  }),
-)
+served_none capacity s now book left limits none is same counted = rw none (record {
+  each = if_known s.input _ (λ bytes known i d within. absurd (omega (arith, within)));
+  once = IsPermutation-refl [];
+  seen = All-nil (SightHolds capacity s.opening []);
+  book_is = is;
+  text = record { bytes = 0; front = rw same (takes_none s.before); whole = λ _. refl; most = omega arith };
+  timed = refl;
+  counted = counted;
+})
 
 module _ (capacity : ℕ) (s : Service) (old now : Written) (book later : MarkedBook) (es : List Entry) (us : List ℕ) (left rest : List Open) (came : ℕ) (limits later_limits : Option Limits) (failed : Bool) (f : Option ServiceFault) where
   -- by a few lines, whether their answers were written whole or the writer failed

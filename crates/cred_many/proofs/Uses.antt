@@ -1,6 +1,6 @@
 -- Lines that are answered together, or come back, have their turns.
 use Rattle.std.proofs.Common.{◌≡◌, ◌⊎◌, inl, inr, ◌-◌, ◌≤◌, List, [], ◌∷◌, ◌++◌, length, refl, arith}
-use Rattle.std.proofs.lemmas.List.Elements.{All-cons, All-contains, All-head, All-nil, All-push, All-tail, All-weaker, Contains-append_left, Contains-push}
+use Rattle.std.proofs.lemmas.List.Elements.{All-cons, All-contains, All-contains_itself, All-head, All-nil, All-push, All-tail, All-weaker, Contains-append_left, Contains-push}
 use Rattle.std.specs.List.{All, Contains, remove}
 use Rattle.cred_book.specs.Works.{Task}
 use Rattle.cred_many.specs.{Asks.Entry, Scribe.AreClosed, Scribe.entries_of, declared.open.Open.Open}
@@ -137,4 +137,34 @@ all_used works back old new newer had used = record {
     | inr it ↦ let less = used.others w.0.number in omega (arith, less, it)
   ]) works had.each);
   others = keeps_on old new newer had.others used.others;
+}
+
+-- ---- works that wait
+
+-- one more waits
+pub one_waits : (works : List (Entry × Task)) (w : Entry × Task) (old new : List Open) → new ≡ old → HaveTurns (works ++ w ∷ []) (works ++ w ∷ []) old new
+one_waits works w old new same = record {
+  each = All-weaker (Contains (works ++ w ∷ [])) (λ v. Contains (works ++ w ∷ []) v ⊎ IsFewer old new v.0) (λ v h. inl h) (works ++ w ∷ []) (All-contains_itself (works ++ w ∷ []));
+  others = keeps_same old new same;
+}
+
+-- the others wait on, and the line of this one has used a turn
+pub one_used : (works : List (Entry × Task)) (w : Entry × Task) (old new : List Open) → UsesTurn w.0.number old new → HaveTurns (works ++ w ∷ []) works old new
+one_used works w old new one = record {
+  each = All-push (λ v. Contains works v ⊎ IsFewer old new v.0) works w
+      (All-weaker (Contains works) (λ v. Contains works v ⊎ IsFewer old new v.0) (λ v h. inl h) works (All-contains_itself works))
+      (inr one.fewer);
+  others = one.others;
+}
+
+-- the lines of those that waited have used their turns
+pub used_before : (works back : List (Entry × Task)) (w : Entry × Task) (old new newer : List Open) → UseTurns (entries_of works) old new → HaveTurns (w ∷ []) back new newer → HaveTurns (works ++ w ∷ []) back old newer
+used_before works back w old new newer used had = record {
+  each = All-push (λ v. Contains back v ⊎ IsFewer old newer v.0) works w
+      (All-weaker (λ v. IsFewer old new v.0) (λ v. Contains back v ⊎ IsFewer old newer v.0) (λ v h. inr (let less = had.others v.0.number in omega (arith, less, h))) works (each_work (IsFewer old new) works used.fewer))
+      (elim (All-head (λ v. Contains back v ⊎ IsFewer new newer v.0) w [] had.each) [
+        | inl it ↦ inl it
+        | inr it ↦ inr (let keeps = used.others w.0.number in omega (arith, keeps, it))
+      ]);
+  others = keeps_on old new newer used.others had.others;
 }

@@ -1,9 +1,9 @@
 -- The messages to the thread that has the book. Those of the thread that reads arrive in the order
 -- in which they were sent, each once. No public clause speaks of it.
-use Rattle.std.specs.Prelude.{◌≡◌, ℕ, Bool, true, false, List, [], ◌∷◌, ◌++◌, length}
+use Rattle.std.specs.Prelude.{◌≡◌, ℕ, Bool, true, false, List, [], ◌∷◌, ◌++◌, Option, None, length}
 use mathlib.Core.Option.{some}
 use lib.ListN.{get_elem?}
-use Rattle.cred_many.specs.{Asks.Entry, declared.inbox.Known.Known, declared.inbox.Progress.Progress, declared.scribe.job.Message.Message}
+use Rattle.cred_many.specs.{Asks.Entry, declared.inbox.Known.Known, declared.fault.ServiceFault.ServiceFault, declared.inbox.Progress.Progress, declared.scribe.job.Message.Message}
 use Rattle.cred_many.specs.declared.scribe.job.Message.TheVariants.{Came, Ended}
 
 abbrev pub progress : {J : Type 0} → List Entry → Bool → Progress J
@@ -24,6 +24,10 @@ abbrev pub MayFollow : {J : Type 0} → Progress J → Message J → Type 0
 MayFollow p (Came line) = (p.ended ≡ false) × (line.number ≡ length p.lines)
 MayFollow p Ended = p.ended ≡ false
 MayFollow p _ = Unit {0}
+
+-- the lines that a scribe has taken are those that were received, unless a fault is told
+abbrev pub HasTaken : {J : Type 0} → Progress J → Option ServiceFault → ℕ → Type 0
+HasTaken got why came = why ≡ None → came ≡ length got.lines
 
 -- whoever has received so much, and then receives these messages in their order, has received that
 unfoldable pub Leads : {J : Type 0} → Progress J → List (Message J) → Progress J → Type 0

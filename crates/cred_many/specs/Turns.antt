@@ -48,13 +48,14 @@ pub record HaveTurns (works back : List (Entry × Task)) (old new : List Open) :
       All (λ w. Contains back w ⊎ (turns_left w.0.number new ≤ turns_left w.0.number old - 1)) works
   pub others : KeepsTurns old new
 
--- what the work of a message has become: it waits behind the others, or its line has used a turn
-abbrev pub IsTakenIn : {J : Type 0} → Message J → List (Entry × Task) → List (Entry × Task)
+-- What the works that wait, and that of a message, have become: each waits on, or its line has
+-- used a turn.
+abbrev pub AreTakenIn : {J : Type 0} → Message J → List (Entry × Task) → List (Entry × Task)
     → List Open → List Open → Type 0
-IsTakenIn (Hashed work) waiting longer old new =
-    (longer ≡ waiting ++ work ∷ []) ⊎ UsesTurn work.0.number old new
-IsTakenIn (NoMemory work) waiting longer old new = UsesTurn work.0.number old new
-IsTakenIn _ waiting longer old new = Unit {0}
+AreTakenIn (Hashed work) before after old new = HaveTurns (before ++ work ∷ []) after old new
+AreTakenIn (NoMemory work) before after old new =
+    (after ≡ before) × UsesTurn work.0.number old new
+AreTakenIn _ before after old new = after ≡ before
 
 -- ---- calls, one after another
 

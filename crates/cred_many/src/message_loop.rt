@@ -1,8 +1,8 @@
 //! The work of the thread with the book on the messages of the others.
 
-ghost use Rattle.std.specs.Prelude.{◌≡◌, None, true};
+ghost use Rattle.std.specs.Prelude.{◌≡◌, ◌++◌, ◌∷◌, [], None, true};
 ghost use Rattle.crossbeam_channel.specs.Claims.{view};
-ghost use Rattle.cred_many.specs.{Scribe.entries_of, Turns.IsTakenIn, Turns.UseTurns};
+ghost use Rattle.cred_many.specs.{Inbox.HasTaken, Inbox.MayFollow, Inbox.after, Scribe.entries_of, Scribe.numbers, Turns.AreTakenIn, Turns.HaveTurns, Turns.UseTurns, declared.inbox.Progress.Progress};
 
 use crate::group::MOST_TOGETHER;
 use crate::inbox::Inbox;
@@ -11,6 +11,7 @@ use crate::scribe::{Hashed, Job, Message, Scribe};
 use crate::service_id::ServiceId;
 use crate::stopwatch::Stopwatch;
 use cred_admin::Host;
+use cred_book::Name;
 use crossbeam_channel::Sender;
 use std::alloc::Global;
 use std::io::Write;
@@ -56,6 +57,10 @@ impl<J: ServiceId> MessageLoop<J> {
     ) -> bool
         ensures ended { result ≡ true → (view inbox.new.pass).got.ended ≡ true }
         ensures channel { inbox.new.end ≡ inbox.old.end }
+        ensures taken { HasTaken (view inbox.old.pass).got scribe.old.output.fault scribe.old.came
+            → HasTaken (view inbox.new.pass).got scribe.new.output.fault scribe.new.came }
+        ensures answered { result ≡ true → (scribe.new.output.fault ≡ None)
+            × (numbers scribe.new.output.pending ≡ []) }
     {
         for _ in rt.forever() {
             let Ok(message) = inbox.recv(rt) else {
@@ -83,6 +88,8 @@ impl<J: ServiceId> MessageLoop<J> {
         inbox: &mut Inbox<J>,
     )
         ensures channel { inbox.new.end ≡ inbox.old.end }
+        ensures taken { HasTaken (view inbox.old.pass).got scribe.old.output.fault scribe.old.came
+            → HasTaken (view inbox.new.pass).got scribe.new.output.fault scribe.new.came }
     {
         for _ in 0..MOST_OPEN {
             if self.changes.is_empty() || self.changes.len() >= MOST_TOGETHER {
@@ -95,32 +102,65 @@ impl<J: ServiceId> MessageLoop<J> {
         }
     }
 
-    /// Handles a message. A hashed change waits.
+    /// Handles a message. The works of one account are committed in the order in which they were
+    /// hashed, so that a right password's place among wrong ones tells nothing.
     fn take_in<T: Wait + Clock, K: Host, W: Write + Drop>(
         &mut self,
         rt: &T,
         scribe: &mut Scribe<J, K, W>,
         message: Message<J>,
     )
-        ensures { scribe.new.output.fault ≡ None
-            → IsTakenIn message self.old.changes.items self.new.changes.items
+        ensures turns { scribe.new.output.fault ≡ None
+            → AreTakenIn message self.old.changes.items self.new.changes.items
             scribe.old.output.pending scribe.new.output.pending }
+        ensures taken { (got : Progress J) → MayFollow got message
+            → HasTaken got scribe.old.output.fault scribe.old.came
+            → HasTaken (after got message) scribe.new.output.fault scribe.new.came }
     {
-        let now = self.stopwatch.read(rt);
         match message {
             Message::Ended => {}
-            Message::Came(line) => self.pass_on(rt, scribe.take(self.alloc, line, now)),
+            Message::Came(line) => {
+                let now = self.stopwatch.read(rt);
+                self.pass_on(rt, scribe.take(self.alloc, line, now));
+            }
             Message::Hashed(hashed) => {
-                if !hashed.worked().reply().makes_change() {
-                    self.pass_on(rt, scribe.commit(hashed, now));
-                } else if let Err(refused) = self.changes.push(hashed) {
-                    self.pass_on(rt, scribe.commit(refused.value, now));
+                if self.has_change_of(&hashed.worked().request().name()) {
+                    self.commit(rt, scribe);
                 }
+                self.take_hashed(rt, scribe, hashed);
             }
             Message::NoMemory(starved) => {
                 scribe.no_memory(starved);
                 self.pass_on(rt, None);
             }
+        }
+    }
+
+    /// Whether a change of this account waits.
+    fn has_change_of(&self, name: &Name) -> bool {
+        self.changes
+            .iter()
+            .any(|hashed| hashed.worked().request().name() == *name)
+    }
+
+    /// Commits a work, or lets its change wait for others.
+    fn take_hashed<T: Wait + Clock, K: Host, W: Write + Drop>(
+        &mut self,
+        rt: &T,
+        scribe: &mut Scribe<J, K, W>,
+        hashed: Hashed<J>,
+    )
+        ensures turns { scribe.new.output.fault ≡ None → HaveTurns
+            (self.old.changes.items ++ hashed ∷ []) self.new.changes.items
+            scribe.old.output.pending scribe.new.output.pending }
+        ensures going { scribe.new.output.fault ≡ None → scribe.old.output.fault ≡ None }
+        ensures same_came { scribe.new.came ≡ scribe.old.came }
+    {
+        let now = self.stopwatch.read(rt);
+        if scribe.is_apart(&hashed) {
+            self.pass_on(rt, scribe.commit(hashed, now));
+        } else if let Err(refused) = self.changes.push(hashed) {
+            self.pass_on(rt, scribe.commit(refused.value, now));
         }
     }
 
@@ -130,8 +170,12 @@ impl<J: ServiceId> MessageLoop<J> {
         rt: &T,
         scribe: &mut Scribe<J, K, W>,
     )
-        ensures { scribe.new.output.fault ≡ None → UseTurns (entries_of self.old.changes.items)
+        ensures turns { scribe.new.output.fault ≡ None
+            → UseTurns (entries_of self.old.changes.items)
             scribe.old.output.pending scribe.new.output.pending }
+        ensures none { self.new.changes.items ≡ [] }
+        ensures going { scribe.new.output.fault ≡ None → scribe.old.output.fault ≡ None }
+        ensures same_came { scribe.new.came ≡ scribe.old.came }
     {
         let none = Vec::new(self.alloc);
         let changes = mem::replace(&mut self.changes, none);

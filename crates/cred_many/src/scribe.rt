@@ -73,6 +73,9 @@ impl<J: ServiceId, K: Host, W: Write> Scribe<J, K, W> {
         requires opening { K.book keeper ≡ J.service.opening }
         requires before { written_of W.contents writer ≡ J.service.before }
         requires limit { limit ≡ J.service.tries }
+        ensures none { answered_by K.capacity J.service K.book W.contents result.keeper
+            result.output result.came result.tries [] [] }
+        ensures came { result.came ≡ 0 }
     {
         let tries = Tries::new(alloc, limit);
         Scribe {

@@ -32,6 +32,7 @@ impl<J: ServiceId, K: Host, W: Write> Scribe<J, K, W> {
             self.old.output.pending self.new.output.pending }
         ensures clock { IsReadBy now self.old.tries self.new.tries }
         ensures going { self.new.output.fault ≡ None → self.old.output.fault ≡ None }
+        ensures came { self.new.came ≡ self.old.came }
         ensures adds { AddsOne
             (IsCountedAt now self.old.tries self.new.tries (K.book self.old.keeper))
             (passed_of self.new.tries)
@@ -75,6 +76,7 @@ impl<J: ServiceId, K: Host, W: Write> Scribe<J, K, W> {
         ensures turns { IfSome result (λ _. UsesTurn line.number self.old.output.pending
             self.new.output.pending) }
         ensures clock { IsReadBy now self.old.tries self.new.tries }
+        ensures same_came { self.new.came ≡ self.old.came }
         ensures adds { AddsOne
             (IsCountedAt now self.old.tries self.new.tries (K.book self.old.keeper))
             (passed_of self.new.tries)
@@ -116,6 +118,7 @@ impl<J: ServiceId, K: Host, W: Write> Scribe<J, K, W> {
         requires reset { is_reset line.ask ≡ true }
         ensures closed { self.new.output.fault ≡ None
             → self.new.output.pending ≡ remove self.old.output.pending place }
+        ensures same_came { self.new.came ≡ self.old.came }
         ensures clock { (now : ℕ) → IsReadBy now self.old.tries self.new.tries }
         ensures adds { (now : ℕ) → AddsOne
             (IsCountedAt now self.old.tries self.new.tries (K.book self.old.keeper))

@@ -14,6 +14,16 @@ use std::alloc::Global;
 use std::io::Write;
 
 impl<J: ServiceId, K: Host, W: Write> Scribe<J, K, W> {
+    /// Whether a work is committed by itself: it makes no change, or its account is marked or has
+    /// failed tries. Where a try may be sent away, its answer so waits for no changes of others,
+    /// be its password right or wrong.
+    pub(crate) fn is_apart(&self, hashed: &Hashed<J>) -> bool {
+        let name = hashed.worked().request().name();
+        !hashed.worked().reply().makes_change()
+            || self.keeper.mark_of(&name).is_marked()
+            || !self.tries.is_clear(&name)
+    }
+
     /// Commits the changes of different accounts among these works together, and answers their
     /// lines. The other works come back, in their order.
     pub fn commit_together(&mut self, alloc: Global, works: Vec<Hashed<J>>) -> Vec<Hashed<J>>
@@ -21,6 +31,7 @@ impl<J: ServiceId, K: Host, W: Write> Scribe<J, K, W> {
             self.old.output.pending self.new.output.pending }
         ensures clock { self.new.tries ≡ self.old.tries }
         ensures going { self.new.output.fault ≡ None → self.old.output.fault ≡ None }
+        ensures came { self.new.came ≡ self.old.came }
         ensures adds { AddsSome IsNotSentAway (passed_of self.new.tries)
             (answered_by K.capacity J.service K.book W.contents self.old.keeper
             self.old.output self.old.came self.old.tries)
@@ -85,6 +96,7 @@ impl<J: ServiceId, K: Host, W: Write> Scribe<J, K, W> {
             group.changed (entries_of group.works.items) group.text.items }
         ensures turns { self.new.output.fault ≡ None → UseTurns (entries_of group.works.items)
             self.old.output.pending self.new.output.pending }
+        ensures same_came { self.new.came ≡ self.old.came }
         ensures same_tries { self.new.tries ≡ self.old.tries }
         ensures adds { AddsSome IsNotSentAway (passed_of self.new.tries)
             (answered_by K.capacity J.service K.book W.contents self.old.keeper
@@ -115,6 +127,7 @@ impl<J: ServiceId, K: Host, W: Write> Scribe<J, K, W> {
         requires going { self.old.output.fault ≡ None }
         ensures turns { self.new.output.fault ≡ None → UseTurns (entries_of works.items)
             self.old.output.pending self.new.output.pending }
+        ensures same_came { self.new.came ≡ self.old.came }
         ensures same_tries { self.new.tries ≡ self.old.tries }
         ensures adds { AddsSome IsNotSentAway (passed_of self.new.tries)
             (answered_by K.capacity J.service K.book W.contents self.old.keeper

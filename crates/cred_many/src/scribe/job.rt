@@ -109,7 +109,7 @@ impl<J: ServiceId> Job<J> {
 
     /// Hashes a job on this thread alone, in the thread's memory, within the reserved share. A name
     /// that doesn't exist, and an account without a record, get their hashes too.
-    #[tactic(auto, using(crate::proofs::Shares::covered, crate::proofs::Shares::covered_in_vain, crate::proofs::Shares::covered_made))]
+    #[tactic(auto, using(crate::proofs::Shares::covered))]
     pub(crate) fn work<L: Limit>(
         self,
         scratch: &mut Scratch,

@@ -22,6 +22,7 @@ impl<J: ServiceId, K: Host, W: Write> Scribe<J, K, W> {
             self.old.output.pending self.new.output.pending }
         ensures clock { self.new.tries ≡ self.old.tries }
         ensures going { self.new.output.fault ≡ None → self.old.output.fault ≡ None }
+        ensures came { self.new.came ≡ self.old.came }
         ensures adds { AddsSome IsNotSentAway (passed_of self.new.tries)
             (answered_by K.capacity J.service K.book W.contents self.old.keeper
             self.old.output self.old.came self.old.tries)
@@ -35,6 +36,7 @@ impl<J: ServiceId, K: Host, W: Write> Scribe<J, K, W> {
     pub(super) fn starve(&mut self, line: Line<J>)
         requires { NeedsMemory K.capacity (K.book self.old.keeper) line.ask }
         ensures book { K.book self.new.keeper ≡ K.book self.old.keeper }
+        ensures same_came { self.new.came ≡ self.old.came }
         ensures same_tries { self.new.tries ≡ self.old.tries }
         ensures turn { HasTurn line.number self.old.output self.new.output }
         ensures turns { self.new.output.fault ≡ None → UsesTurn line.number

@@ -1,4 +1,4 @@
-use Rattle.std.proofs.Common.{ap, rules}
+use Rattle.std.proofs.Common.{rules}
 use Rattle.cred_many.proofs.Inboxes.{begins, parts, spares}
 use Rattle.cred_many.proofs.inbox.make_inbox.Goals as goal
 

@@ -8,11 +8,11 @@ use Rattle.cred_many.proofs.scribe.Scribe.commit_together.Goals.{then-is_none+th
 use Rattle.cred_many.proofs.scribe.Scribe.commit_together.Goals as goal
 
 pub loop-hashed-init : goal.loop-hashed-init
-loop-hashed-init g c = rw (c.new-group.ensures.changed, c.new-group.ensures.works, c.new-group.ensures.text) (none_together _ _ _ _, refl, (λ going. (going, none_gathered _ _ _ _ refl)), same_some _ IsNotSentAway _)
+loop-hashed-init g c = rw (c.new-group.ensures.changed, c.new-group.ensures.works, c.new-group.ensures.text) (none_together _ _ _ _, refl, (λ going. (going, none_gathered _ _ _ _ refl)), same_some _ IsNotSentAway _, refl)
 
 pub loop-hashed-preserved-in_default : goal.loop-hashed-preserved-in_default
 loop-hashed-preserved-in_default g c =
-    (c.in_default.ensures.group, c.loop-hashed.invariant.1, (λ going. let was = c.loop-hashed.invariant.2 going in (was.0, rw c.in_default.ensures.added (gathered_in c.loop-hashed.yielded _ _ c.in-Some.hashed _ _ was.1))), c.loop-hashed.invariant.3)
+    (c.in_default.ensures.group, c.loop-hashed.invariant.1, (λ going. let was = c.loop-hashed.invariant.2 going in (was.0, rw c.in_default.ensures.added (gathered_in c.loop-hashed.yielded _ _ c.in-Some.hashed _ _ was.1))), c.loop-hashed.invariant.3, c.loop-hashed.invariant.4)
 
 pub loop-hashed-preserved-in-Err-push : goal.loop-hashed-preserved-in-Err-push
 loop-hashed-preserved-in-Err-push g c = (
@@ -24,6 +24,7 @@ loop-hashed-preserved-in-Err-push g c = (
       (was.0, rw (c.in-Err-push.ensures.items, c.in-Err.ensures.same) (gathered_starved c.loop-hashed.yielded _ _ c.in-Some.hashed _ _ _ was.1 used))),
   some_some _ (answered_by g.K.Host.capacity g.J.ServiceId.service g.K.Host.book g.W.Write.contents c.loop-hashed.self.keeper c.loop-hashed.self.output c.loop-hashed.self.came c.loop-hashed.self.tries) (answered_by g.K.Host.capacity g.J.ServiceId.service g.K.Host.book g.W.Write.contents c.starve.new.self.keeper c.starve.new.self.output c.starve.new.self.came c.starve.new.self.tries) IsNotSentAway _ c.loop-hashed.invariant.3
       (some_at _ (answered_by g.K.Host.capacity g.J.ServiceId.service g.K.Host.book g.W.Write.contents c.starve.new.self.keeper c.starve.new.self.output c.starve.new.self.came c.starve.new.self.tries) IsNotSentAway _ _ (ap passed_of (c.starve.ensures.same_tries ∙ c.loop-hashed.invariant.1)) (quick_some _ _ _ c.starve.ensures.adds)),
+  c.starve.ensures.same_came ∙ c.loop-hashed.invariant.4,
 )
 
 pub loop-hashed-preserved : goal.loop-hashed-preserved
@@ -34,6 +35,7 @@ loop-hashed-preserved g c = (
       let was = c.loop-hashed.invariant.2 going in
       (was.0, rw (c.in_default-push.ensures.items, c.in-Err.ensures.back, c.in-Err.ensures.same) (gathered_back c.loop-hashed.yielded _ _ c.in-Some.hashed _ _ was.1))),
   c.loop-hashed.invariant.3,
+  c.loop-hashed.invariant.4,
 )
 
 pub returns-clause-turns : goal.returns-clause-turns
@@ -57,6 +59,12 @@ pub returns-clause-clock : goal.returns-clause-clock
 returns-clause-clock g c = elim c.if-is_none.branch [
   | then-is_none+then-not-is_empty w ↦ rw w.self-is (w.commit_group.ensures.same_tries ∙ c.loop-hashed.invariant.1)
   | else-is_none w ↦ rw w.self-is c.loop-hashed.invariant.1
+]
+
+pub returns-clause-came : goal.returns-clause-came
+returns-clause-came g c = elim c.if-is_none.branch [
+  | then-is_none+then-not-is_empty w ↦ rw w.self-is (w.commit_group.ensures.same_came ∙ c.loop-hashed.invariant.4)
+  | else-is_none w ↦ rw w.self-is c.loop-hashed.invariant.4
 ]
 
 pub returns-clause-adds : goal.returns-clause-adds

@@ -10,3 +10,4 @@ invariant-loop-hashed g l =
     × (l.self.tries ≡ l.fn.self.tries)
     × (l.self.output.fault ≡ None → (l.fn.self.output.fault ≡ None) × Gathered l.yielded l.others.items l.group.works.items l.fn.self.output.pending l.self.output.pending)
     × AddsSome IsNotSentAway (passed_of l.fn.self.tries) (answered_by g.K.Host.capacity g.J.ServiceId.service g.K.Host.book g.W.Write.contents l.fn.self.keeper l.fn.self.output l.fn.self.came l.fn.self.tries) (answered_by g.K.Host.capacity g.J.ServiceId.service g.K.Host.book g.W.Write.contents l.self.keeper l.self.output l.self.came l.self.tries)
+    × (l.self.came ≡ l.fn.self.came)

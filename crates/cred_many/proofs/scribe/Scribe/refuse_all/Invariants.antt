@@ -7,3 +7,4 @@ use Rattle.cred_many.proofs.scribe.Scribe.refuse_all.Given as goal
 abbrev pub invariant-loop-hashed : goal.invariant-loop-hashed
 invariant-loop-hashed g l = (l.self.tries ≡ l.fn.self.tries) × (l.self.output.fault ≡ None → UseTurns (entries_of l.yielded) l.fn.self.output.pending l.self.output.pending)
     × AddsSome IsNotSentAway (passed_of l.fn.self.tries) (answered_by g.K.Host.capacity g.J.ServiceId.service g.K.Host.book g.W.Write.contents l.fn.self.keeper l.fn.self.output l.fn.self.came l.fn.self.tries) (answered_by g.K.Host.capacity g.J.ServiceId.service g.K.Host.book g.W.Write.contents l.self.keeper l.self.output l.self.came l.self.tries)
+    × (l.self.came ≡ l.fn.self.came)
