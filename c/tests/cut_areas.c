@@ -27,9 +27,11 @@ static void test_blocks_of_a_call(void) {
     CHECK(heap_trim() == AREA && mapped == 0);
 }
 
-/* A block is cut behind those that are in use, and the whole of an empty area is used again. */
+/* A block is cut behind those that are in use, and the whole of an empty area is used again: the
+ * thread gives up none. */
 static void test_orders(void) {
     unsigned char *small = take_block(100), *start = NULL;
+    memset(advised, 0, sizeof advised);
     for (int turn = 0; turn < 3; turn++) {
         unsigned char *first = take_block(MIB), *second = take_block(5 * MIB);
         CHECK((turn == 0 || first == start) && second == first + MIB);
@@ -42,9 +44,10 @@ static void test_orders(void) {
         CHECK(take_block(3 * MIB) == third && is_all(second, 1, 5 * MIB));
         rattle_dealloc(second);
         rattle_dealloc(third);
-        CHECK(take_block(AREA) == start && mapped == AREA);
+        CHECK(take_block(AREA) == start);
         rattle_dealloc(start);
     }
+    CHECK(advised[MADV_FREE].times == 0 && mapped == AREA);
     rattle_dealloc(small);
 }
 
