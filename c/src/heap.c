@@ -37,6 +37,8 @@ static size_t rounded_up(size_t size, size_t unit) {
 
 typedef uintptr_t area;
 
+#define LARGEST_AREA ((HUGE_PAGE - 1) * HUGE_PAGE)
+
 static area area_at(unsigned char *start, size_t size) {
     return (area)start + size / HUGE_PAGE;
 }
@@ -50,7 +52,7 @@ static size_t size_of(area it) {
 }
 
 static area map_area(size_t size) {
-    if (size > PTRDIFF_MAX - 2 * HUGE_PAGE)
+    if (size > LARGEST_AREA)
         return 0;
     unsigned char *mapping =
         mmap(NULL, size + HUGE_PAGE, PROT_READ | PROT_WRITE, MAP_PRIVATE | MAP_ANONYMOUS, -1, 0);
@@ -316,9 +318,8 @@ static void give_area_block(struct block block) {
         taken.used = 0;
         return;
     }
-    if (taken.count == 0)
-        give_empty_area();
-    give_area(block.area, size_of(block.area));
+    give_empty_area(); /* first: without room for both, the area given last stays */
+    give_area(block.area, block.size > AREA ? block.size : size_of(block.area));
 }
 
 struct tried rattle_alloc(size_t size, size_t align) {

@@ -34,12 +34,14 @@ enum { THREADS = 8, TURNS = 150, SIZE = 64 * KIB, KEPT = 64 * MIB };
 
 static _Atomic(size_t) mapped;
 
-/* The number of steps of this thread before the bound is lowered, or -1. */
-static _Thread_local int steps_to_lowering = -1;
+/* The number of steps of this thread before the bound is lowered, or a call uses an area, or -1. */
+static _Thread_local int steps_to_lowering = -1, steps_to_call = -1;
 
 static void rest(void) {
     if (steps_to_lowering >= 0 && steps_to_lowering-- == 0)
         heap_keep(0);
+    if (steps_to_call >= 0 && steps_to_call-- == 0)
+        rattle_dealloc(rattle_alloc(SIZE, 8).start);
     usleep(20);
 }
 
@@ -99,6 +101,19 @@ static void lower_bound(void) {
     }
 }
 
+/* Nor is the area of a call that begins and ends while the bound is lowered. */
+static void call_while_lowered(void) {
+    int step = 0;
+    for (; steps_to_call < 0; step += PLACES / 8) {
+        heap_keep(KEPT);
+        steps_to_call = step;
+        heap_keep(0);
+        CHECK(mapped == 0);
+    }
+    steps_to_call = -1;
+    CHECK(step > PLACES);
+}
+
 int main(void) {
     pthread_t threads[THREADS], giver;
     int numbers[THREADS];
@@ -112,6 +127,7 @@ int main(void) {
     CHECK(pthread_join(giver, NULL) == 0);
     CHECK(mapped <= KEPT);
     CHECK(heap_trim() <= KEPT && mapped == 0);
+    call_while_lowered();
     lower_bound();
     return 0;
 }

@@ -6,9 +6,10 @@ import re
 import statistics
 import unittest
 
-from harness import BUILDS, OUT, need, need_file, need_native, run
+from harness import BUILDS, OUT, built, need, need_file, need_host, need_native, run, sources_for
 
 OBJDUMP = "objdump"
+COUNTED = "valgrind --tool=callgrind --callgrind-out-file=/dev/null".split()
 # An instruction that multiplies vectors, and the number of them in a G.
 MULTIPLIES = re.compile(r"\tv?pmuludq\b")
 OF_A_BLOCK = {"v1": 256, "v2": 256, "v3": 128, "v4": 64}
@@ -21,10 +22,10 @@ LINES = [("prefetcht0", line) for line in range(0, 512, 64)]
 # how far apart multiplications are, of the nearest quarter. With the steps of two lists in turn
 # they are near each other. More is slower; less, if it is measured to be faster, goes here.
 MOST = {
-    "v1": {"instructions": 4085, "on the stack": 420, "apart": 9},
-    "v2": {"instructions": 4155, "on the stack": 447, "apart": 9},
-    "v3": {"instructions": 1657, "on the stack": 95, "apart": 8},
-    "v4": {"instructions": 777, "on the stack": 0, "apart": 4},
+    "v1": {"instructions": 4085, "on the stack": 421, "apart": 9},
+    "v2": {"instructions": 4154, "on the stack": 448, "apart": 9},
+    "v3": {"instructions": 1656, "on the stack": 95, "apart": 8},
+    "v4": {"instructions": 776, "on the stack": 0, "apart": 4},
 }
 
 
@@ -57,6 +58,11 @@ def figures(build):
     blocks = round(len(distances) / OF_A_BLOCK[build])
     found = {name: round(count / blocks) for name, count in counts.items()}
     return found | {"apart": statistics.quantiles(distances)[0]}
+
+
+def instructions(program, memory):
+    """The instructions of a program that makes a tag of this memory, in KiB."""
+    return int(re.search(r"Collected : (\d+)", run(*COUNTED, program, memory))[1])
 
 
 class MachineCode(unittest.TestCase):
@@ -93,3 +99,15 @@ class MachineCode(unittest.TestCase):
                     blocks = multiplications(lines) // OF_A_BLOCK[build]
                     a_quarter = OF_A_BLOCK[build] // 4
                     self.assertEqual([it for it in behind if it], [a_quarter] * blocks)
+
+    def test_memory_without_prefetches(self):
+        """Up to 1 MiB no block is prefetched: with a block more than that, each block has at least
+        50 instructions more."""
+        need_host()
+        need("valgrind")
+        for build in ("v1", "v2", "v3"):  # valgrind knows no instruction of v4
+            program = built("one_tag", ["-O2"], sources_for(build))
+            counts = [instructions(program, it) for it in range(1016, 1036, 4)]
+            more = [later - sooner for sooner, later in zip(counts, counts[1:])]
+            with self.subTest(build, more=more):
+                self.assertGreater(more[2] - max(more[:2] + more[3:]), 50 * 1024)

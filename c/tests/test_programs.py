@@ -19,6 +19,7 @@ ALL = LIBARGON2 + SOURCES
 # A program, its flags, the files linked to it, and its words.
 PROGRAMS = (
     ("heap", SANITIZED, HEAP),
+    ("cut_areas", SANITIZED, HEAP),
     ("areas", ["-O1"], ["src/process.c"]),
     ("refused", [*SANITIZED, *JOBS], ALL),
     ("lanes", FAST, LANES, "150", "marks"),

@@ -90,6 +90,12 @@ WRAP(int, madvise, void *start, size_t size, int advice) {
     return __real_madvise(start, size, advice);
 }
 
+/* Whether the system got this advice once, for all of a stretch. */
+static inline bool is_advised(int advice, const unsigned char *start, size_t size) {
+    const struct advised *it = &advised[advice];
+    return it->times == 1 && it->start <= start && start + size <= it->start + it->size;
+}
+
 /* A block that isn't refused. */
 static unsigned char *take_block(size_t size) {
     struct tried tried = rattle_alloc(size, 8);
