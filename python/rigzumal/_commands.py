@@ -99,7 +99,7 @@ def _options_of(words: argparse.ArgumentParser, command: str) -> Iterator[str]:
 def _unknown(word: str, options: Sequence[str]) -> str:
     """The fault of a word at a command with these options; the text doesn't show the word."""
     if not word.startswith("-"):
-        return "a word too many; a password is never an argument: pipe or type it"
+        return "one argument too many; a password is never an argument: pipe or type it"
     said, meant = "an unknown option, which isn't shown", _meant(word, options)
     return f"{said}; is {meant} meant?" if meant else said
 
@@ -161,7 +161,7 @@ _OF_SCRYPT = {"log2_n": 17}
 
 def add_costs(words: argparse.ArgumentParser) -> None:
     """Adds the options for the costs of a new record."""
-    words.add_argument("--scrypt", action="store_true", help="by scrypt, not Argon2id")
+    words.add_argument("--scrypt", action="store_true", help="use scrypt instead of Argon2id")
     words.add_argument("--memory", type=memory, help="of Argon2, such as 64M (by default)")
     words.add_argument("--passes", type=int, help="of Argon2; by default 3")
     words.add_argument("--lanes", type=int, help="of Argon2; by default 4")
@@ -172,9 +172,9 @@ def hasher_of(given: argparse.Namespace) -> Union[PasswordHasher, ScryptHasher]:
     """The hasher of these costs; raises Refusal for a cost of the other scheme."""
     asked = {name: it for name, it in vars(given).items() if it is not None}
     of, others = _OF_ARGON2, _OF_SCRYPT
-    hint = "for scrypt: give --scrypt too"
+    hint = "for scrypt: add --scrypt"
     if given.scrypt:
-        of, others, hint = _OF_SCRYPT, _OF_ARGON2, "for Argon2: leave --scrypt out"
+        of, others, hint = _OF_SCRYPT, _OF_ARGON2, "for Argon2: omit --scrypt"
     for name in sorted(asked.keys() & others.keys()):
         raise Refusal(f"--{name.replace('_', '-')} is {hint}", Status.WORDS)
     costs = [asked.get(name, number) for name, number in of.items()]
@@ -206,7 +206,7 @@ def is_empty(password: bytes) -> bool:
 
 def hint(password: bytes, is_right: Callable[[bytes], bool]) -> Optional[str]:
     """Advice, if the password would be right with another end of its line; otherwise None."""
-    newlines = "`printf %s` writes none, and `echo` one"
+    newlines = "`printf %s` adds no newline, but `echo` does"
     bare = password[:-1] if password.endswith(b"\n") else password
     if bare != password:
         ends = [(bare, "without the newline", newlines)]

@@ -18,7 +18,7 @@ class Frozen:
         given = dict(zip(self.__annotations__, values), **named)
         names, count = self.__annotations__, len(values) + len(named)
         if given.keys() != names.keys() or count != len(names):
-            raise TypeError(f"the values are {', '.join(names)}")
+            raise TypeError(f"the constructor needs {', '.join(names)}")
         self._set(**given)
 
     def _set(self, **values: object) -> None:

@@ -52,7 +52,7 @@ def _warn_of(memory_cost: int) -> None:
     level, frame = 1, sys._getframe()
     while is_ours(frame) and frame.f_back is not None:
         level, frame = level + 1, frame.f_back
-    said = f"memory_cost={memory_cost} is {memory_cost} KiB, a low cost: 64 MiB are 65536"
+    said = f"memory_cost={memory_cost} means {memory_cost} KiB, which is low: 64 MiB is 65536"
     warnings.warn(said, LowMemoryWarning, level)
     _has_warned = True
 
@@ -132,7 +132,7 @@ class _Hasher(Frozen):
             if fault not in (_library.MISMATCH, _library.SCHEME):
                 break
         if _library.OK < fault < _library.MEMORY and _is_record(password):
-            said = "the first argument is no record, and the second is one: pass the record first"
+            said = "the second argument is a record, but the first isn't: pass the record first"
             raise _library.InvalidRecordError(fault, said)
         _library.raise_fault(fault, hash)
         return place
@@ -226,9 +226,9 @@ class PasswordHasher(_Hasher):
         if several and one not in (None, several[0]):
             raise ValueError("pass secret or secrets, not both")
         if secrets is not None and not several:
-            raise ValueError("secrets is empty; without a pepper leave it out")
+            raise ValueError("secrets is empty: omit it if you have no pepper")
         if b"" in (one, *several[:1]):
-            raise ValueError("the secret is empty; without a pepper leave it out")
+            raise ValueError("the secret is empty: omit it if you have no pepper")
         self._set(
             time_cost=in_range("time_cost", time_cost, 1, _MOST, _PASSES),
             memory_cost=in_range("memory_cost", memory_cost, least, _MOST_MEMORY, _COST),

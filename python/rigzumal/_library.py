@@ -201,7 +201,7 @@ def _load() -> Any:
     try:
         library = ctypes.CDLL(_path())
     except OSError as refused:
-        hint = "build it by `make -C c` with a C compiler alone, or name it in RIGZUMAL_LIBRARY"
+        hint = "build it with `make -C c`, or set RIGZUMAL_LIBRARY to its path"
         raise ImportError(f"{NAME} can't be loaded: {hint}: {refused}") from None
     text, size, to = ctypes.c_char_p, ctypes.c_size_t, ctypes.POINTER
     room, inputs = [text, size], to(Inputs)

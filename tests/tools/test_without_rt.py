@@ -16,7 +16,7 @@ PATH = ":".join(
 )
 RT = "rt isn't there: only the Rattle toolchain, which isn't published, can"
 BESIDE = "Without it `make -C c` builds the library for C, Python, Rust and PHP"
-LIBRARY = "librigzumal.so.1 can't be loaded: build it by `make -C c` with a C compiler alone"
+LIBRARY = "librigzumal.so.1 can't be loaded: build it with `make -C c`"
 
 # A command, its status, what its lines begin with.
 NEEDING = [

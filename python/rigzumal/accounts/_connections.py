@@ -62,7 +62,7 @@ class Connections:
             done = Undone(raised)
         is_passed_over = isinstance(done, Undone)
         if is_passed_over and not self._is_passed_over:
-            LOGGER.warning("the replica is passed over: %s", self._why(done))
+            LOGGER.warning("skipping the replica: %s", self._why(done))
         self._is_passed_over = is_passed_over
         return done
 
@@ -73,7 +73,7 @@ class Connections:
             return []
         is_away = not isinstance(done.cause, AccountsError) and done.reason
         kind, code = (warning, "away") if is_away else (fault_of, "refuses")
-        text = f"the replica is passed over: {self._why(done)}{done.reason}"
+        text = f"skipping the replica: {self._why(done)}{done.reason}"
         return [kind(f"replica-{code}", text)]
 
     def _why(self, done: Undone) -> str:
@@ -102,9 +102,10 @@ class Connections:
             name = self.table.name(cause)
             if waits.are_over:
                 kind = NoConnection if done.reason else Unavailable
-                raise kind(f"no server did the operation in time: {name}{done.reason}") from cause
+                text = f"no server completed the operation in time: {name}{done.reason}"
+                raise kind(text) from cause
             if waits.is_first:
-                LOGGER.warning("an operation is tried again: %s", name)
+                LOGGER.warning("retrying an operation: %s", name)
             await self.runtime.pause(waits.next(is_dead))
 
     async def _once(self, pool: Any, job: Job[Any]) -> Any:

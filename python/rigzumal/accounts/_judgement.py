@@ -31,7 +31,7 @@ Prepare = Callable[[str], str]
 Its ValueError says that no account has such a password.
 """
 
-FOREIGN_HINT: Final = ": give Accounts a `foreign` that judges records of other schemes"
+FOREIGN_HINT: Final = ": pass Accounts a `foreign` that checks records of other schemes"
 _TAG_SIZE: Final = 32
 _KNOWN: Final = 64  # costs of which a judge knows whether they are upgraded
 # Their numbers in the library for C are their places.
@@ -290,8 +290,8 @@ def _numbers_of(costs: str) -> tuple[str, int, int, int, int]:
     try:
         return parts(f"{costs}${'A' * 22}${encoded(bytes(_TAG_SIZE))}").costs
     except InvalidRecordError as fault:
-        wanted = 'upgrade_from has costs such as "$argon2i$v=19$m=65536,t=3,p=4"'
-        raise InvalidRecordError(fault.number, f"{wanted}, and one isn't: {fault}") from None
+        wanted = 'upgrade_from needs costs such as "$argon2i$v=19$m=65536,t=3,p=4"'
+        raise InvalidRecordError(fault.number, f"{wanted} in each entry: {fault}") from None
 
 
 def _wrong(request: Request) -> Reply:

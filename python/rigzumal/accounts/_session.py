@@ -149,7 +149,7 @@ class Runtime:
     ) -> None:
         if executor is not None and not isinstance(executor, self._executors):
             if not self._executors:
-                raise TypeError("an executor is for AsyncAccounts alone")
+                raise TypeError("only AsyncAccounts uses an executor")
             kind = type(executor).__name__
             raise TypeError(f"AsyncAccounts needs a ThreadPoolExecutor, not {kind}")
         self._options, self._executor = options, executor

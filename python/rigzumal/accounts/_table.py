@@ -23,7 +23,7 @@ from rigzumal.accounts.types import StoreFault, Ticket, Worked
 
 ENDED: Final = (
     "`also` has ended the operation's transaction, closed its connection, or swallowed an"
-    " error by which the transaction has failed"
+    " error that made the transaction fail"
 )
 WROTE: Final = "`also` has changed the account's own record"
 NESTED: Final = (
@@ -226,9 +226,9 @@ class Table:
             # NULL may have come back since the UPDATE, and stays by the lock.
             rows, count, _ = await dialect.put(session, worked.after, key, copy)
         if count == 0:
-            raise StoreFault("the row has the copy, and an UPDATE doesn't change it")
+            raise StoreFault("the row still has its old record, which an UPDATE doesn't change")
         if count != 1:
-            raise StoreFault(f"the UPDATE touched {count} rows instead of one")
+            raise StoreFault(f"the UPDATE changed {count} rows instead of one")
         # A trigger, a short column or a character set may have altered the record.
         if not dialect.returns:
             rows = (await session.execute(dialect.select, key)).rows
@@ -266,7 +266,7 @@ class Table:
                     ticket = Ticket(Request(Kind.RESET, key), copy)
                     answer = await self.compare(session, Worked(ticket, put.reply, put.after))
                     if answer.reply is not put.reply:
-                        raise StoreFault("the server doesn't count the row that it has written")
+                        raise StoreFault("the server didn't count the row that it wrote")
                     await self.dialect.settle(session)
                     copy = put.after
         except StoreFault as raised:

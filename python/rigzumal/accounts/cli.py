@@ -267,7 +267,7 @@ class _Command:
             elif record is not None:
                 left_out += 1
         if left_out:
-            say(f"{left_out} accounts fit no line, and are left out: see --json")
+            say(f"{left_out} accounts don't fit on a line and are omitted: see --json")
         return Status.DATABASE if left_out else Status.DONE
 
     def show(self) -> int:

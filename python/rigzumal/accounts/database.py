@@ -93,7 +93,7 @@ class Database:
         except psycopg.ProgrammingError:
             pass  # its text has the part that libpq can't read, such as a password
         text = "libpq can't read the URL, which isn't shown"
-        raise ValueError(f"{text}: in it % is written %25, @ is %40, / is %2F, [ is %5B")
+        raise ValueError(f"{text}: write % as %25, @ as %40, / as %2F and [ as %5B")
 
     def _mysql(self) -> Any:
         pymysql = importlib.import_module("pymysql")
@@ -133,7 +133,7 @@ def _check_people(rest: str) -> None:
     is_port = not _NO_PORT.search(re.sub(r"\[[^]]*]?", "", hosts))
     if _NO_ESCAPE.search(people) or "@" in people + path or not is_port:
         text = "in the user's name and password of a URL"
-        raise ValueError(f"{text} % is written %25, @ is %40, / is %2F, and @ ends them")
+        raise ValueError(f"{text} write % as %25, @ as %40 and / as %2F: @ ends them")
 
 
 def _place(text: str) -> tuple[str, int]:

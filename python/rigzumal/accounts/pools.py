@@ -72,7 +72,7 @@ def lent(pool: Any, enter: str) -> Any:
     if inspect.iscoroutine(lender):
         lender.close()
     wanted = "`with`" if enter == "__enter__" else "`async with`"
-    fault = f"a pool gives connections by {wanted}, and this one returned"
+    fault = f"a pool lends connections by {wanted}, but this one returned"
     raise TypeError(f"{fault} a {kind.__name__}: {_MAKERS[enter]}")
 
 

@@ -48,7 +48,7 @@ class Reply(enum.Enum):
 
         def __bool__(self) -> bool:
             """Refuses `if accounts.login(..)`, which would let everybody in."""
-            fault = "a Reply is no truth value: compare with Reply.YES or the like"
+            fault = "a Reply has no truth value: compare it, for example with Reply.YES"
             raise TypeError(fault)
 
     @property

@@ -71,7 +71,7 @@ def _classes(setting: str, number: str) -> tuple[list[tuple[str, type]], list[An
     """The classes in a setting's list, with their paths, and the list's faults."""
     listed = getattr(settings, setting)
     if isinstance(listed, str):
-        text = f"{setting} is a text instead of a list."
+        text = f"{setting} is a string instead of a list."
         return [], [_message(number, text, f"Put {listed!r} into a list.")]
     found: list[tuple[str, type]] = []
     faults = []
@@ -88,7 +88,7 @@ def _classes(setting: str, number: str) -> tuple[list[tuple[str, type]], list[An
             found.append((path, named))
         else:
             hint = "Name a class by its whole path."
-            faults.append(_message(number, f"{text} is no class.", hint))
+            faults.append(_message(number, f"{text} isn't a class.", hint))
     return found, faults
 
 
@@ -114,7 +114,7 @@ def backends(**_: Any) -> Messages:
     if _compares():
         if ModelBackend in found and not is_used:
             text = (
-                "The only ModelBackend is Django's own: a login that loses to changes answers"
+                "The only ModelBackend is Django's own: a login that meets changes answers"
                 " with an error page, and an inactive user's right password is rehashed."
             )
             yield _message("W014", text, hint)
@@ -135,7 +135,7 @@ def column(**_: Any) -> Messages:
     field = _password_field()
     width: Optional[int] = field.max_length if field else None
     if width is not None and width < WIDTH:
-        text = f"The password column has {width} letters, and a record up to {WIDTH}."
+        text = f"The password column has {width} characters, but a record up to {WIDTH}."
         yield _message("E003", text, f"Give it max_length={WIDTH}.")
 
 
@@ -152,23 +152,23 @@ def hashers_listed(**_: Any) -> Messages:
         maker = "The first of PASSWORD_HASHERS, which hashes new passwords,"
         hint = "Put 'rigzumal.django.hashers.Argon2PasswordHasher' before the others."
         hint += _misspelt("PASSWORD_HASHERS")
-        yield _message("W004", f"{maker} isn't Rigzumal's.", hint)
+        yield _message("W004", f"{maker} isn't from Rigzumal.", hint)
     judges = {getattr(it, "algorithm", None): it for _, it in listed}
     for path, ours in listed:
         judge = judges[getattr(ours, "algorithm", None)]
         if issubclass(ours, OURS) and not issubclass(judge, OURS):
-            text = f"{_path(judge)} comes after {path}, so Django asks it instead."
+            text = f"{_path(judge)} comes after {path}, so Django uses it instead."
             hint = f"Remove {_path(judge)}: Rigzumal's reads its records."
             yield _message("E013", text, hint)
 
 
 def isolation(**_: Any) -> Messages:
     """W005: a transaction would read the record of the transaction's start."""
-    hint = "Leave the level out, or set READ COMMITTED."
+    hint = "Remove the level, or set READ COMMITTED."
     for alias, database in settings.DATABASES.items():
         if _has_snapshots(database):
             text = f"The database {alias!r} has an isolation level of snapshots"
-            outcome = "in a transaction an old password is right, or the request fails"
+            outcome = "a transaction accepts an old password, or the request fails"
             yield _message("W005", f"{text}: {outcome}.", hint)
 
 
@@ -192,9 +192,9 @@ def _has_snapshots(database: Any) -> bool:
 
 def own_methods(**_: Any) -> Messages:
     """E006: our calls would skip a method of the user model."""
-    hint = "Give the model the CompareAndSetMixin, behind the class that has it."
+    hint = "Give the model the CompareAndSetMixin, after the class that has the method."
     for name in users.unreached_methods(get_user_model()):
-        text = f"{name} would be skipped, so logins are refused."
+        text = f"Logins are refused, since they would skip {name}."
         yield _message("E006", text, hint)
 
 
@@ -263,7 +263,7 @@ def command(**_: Any) -> Messages:
     """W010: `manage.py changepassword` is Django's."""
     if get_commands().get("changepassword") == "django.contrib.auth":
         outcome = "a traceback" if _compares() else "undone"
-        text = "changepassword is Django's own: a change that came meanwhile is"
+        text = "changepassword is Django's own: a simultaneous change is"
         hint = "Put 'rigzumal.django' before 'django.contrib.auth' in INSTALLED_APPS."
         yield _message("W010", f"{text} {outcome}.", hint)
 
@@ -273,7 +273,7 @@ def unlisted_hashers(databases: Any = None, **_: Any) -> Messages:
     field = _password_field()
     if field is None or _classes("PASSWORD_HASHERS", "E015")[1]:
         return
-    hint = "List the hashers that you had before, behind Rigzumal's."
+    hint = "List your earlier hashers after Rigzumal's."
     for alias in databases or []:
         if not router.allow_migrate_model(alias, field.model):
             continue

@@ -19,7 +19,7 @@ from django.utils.translation import gettext_lazy as _
 from rigzumal._hidden import hidden_below
 from rigzumal.django import passwords
 
-CHANGED = _("The password was changed meanwhile. Nothing was done; please begin again.")
+CHANGED = _("The password was changed meanwhile. Nothing was saved; please begin again.")
 
 
 @contextlib.contextmanager
@@ -48,7 +48,7 @@ class _Comparing:
     def save(self: Any, commit: bool = True) -> Any:
         """Writes the new password, unless the record was changed meanwhile."""
         if not commit:
-            fault = "a record is compared as it is written"
+            fault = "the comparison writes the record"
             raise ValueError(f"{fault}: commit=False is impossible")
         with lost_as_error():
             self._write()

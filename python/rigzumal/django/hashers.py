@@ -111,7 +111,7 @@ class _RecordHasher(BasePasswordHasher):
 
 def _check_salt(salt: str) -> None:
     if not salt or "$" in salt:
-        raise ValueError("a salt has at least one letter, and no $")
+        raise ValueError("a salt has at least one character, and no $")
 
 
 class Argon2PasswordHasher(_RecordHasher):

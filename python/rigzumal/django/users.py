@@ -217,6 +217,6 @@ def has_own_methods(user: Any) -> bool:
     if unreached:
         raise ImproperlyConfigured(
             f"our calls would skip {unreached[0]}: give {user._meta.label} the"
-            " CompareAndSetMixin, behind the class that has it"
+            " CompareAndSetMixin, after the class that has the method"
         )
     return bool(own_methods(user.__class__.__mro__, "check_password", "set_password"))

@@ -169,12 +169,12 @@ def answer_of(tag: bytes, line: bytes) -> str:
     """
     found, _, said = line.partition(b" ")
     if found != tag or not line.endswith(b"\n") or not said[:-1].isascii():
-        raise Unavailable("the server's line isn't an answer")
+        raise Unavailable("the server sent an invalid answer")
     text = said[:-1].decode()
     if text == "unavailable":
         raise Unavailable("the book has ended")
     if text == "later":
-        raise Later("too many tries failed")
+        raise Later("too many failed tries")
     if text == "denied":
         raise Denied("the socket doesn't allow this operation")
     kind, _, rest = text.partition(" ")

@@ -238,7 +238,7 @@ class RowsOfOnesOwn:
 
     @each(
         ("shouting", "than the one that was written"),
-        ("ignoring", "an UPDATE doesn't change it"),
+        ("ignoring", "which an UPDATE doesn't change"),
         ("emptying", "another record|doesn't change it"),
     )
     def test_triggers(self, name, said):

@@ -12,9 +12,9 @@ from rigzumal.accounts.types import Kind
 CASE, BLANKS = "differ in case", "differ by blanks at the end"
 ACCENTS, CUT = "differ by accents", "record-type: record is {}: a record has up to 152 bytes"
 SHORTER = "record-length: record is {}: another program's record has up to 512 bytes"
-LATIN = "key-not-unicode: names outside of {} are no accounts"
-NOT_UNIQUE = "no unique index of its own: two rows may have one name, and are then refused"
-SLOW, PUT = "key-not-indexed: no index finds name", "no record can be written: "
+LATIN = "key-not-unicode: no account can have a name outside of {}"
+NOT_UNIQUE = "no unique index of its own: operations refuse a name that two rows have"
+SLOW, PUT = "key-not-indexed: name has no index", "no record can be written: "
 # Indexes under which equal keys alone are equal; and those under which others may be too, or equal
 # keys may differ.
 OF_ONE_CASE = ("lower(name)", "upper(name)", "LOWER ( name )")
@@ -223,12 +223,12 @@ class OnServer(Said):
 
     def test_a_replica(self):
         """A replica that refuses, one that is down, and one without a fault."""
-        for grants, *words in (("SELECT",), ("UPDATE", "replica-refuses: the replica is passed")):
+        for grants, *words in (("SELECT",), ("UPDATE", "replica-refuses: skipping the replica")):
             replica = PerThread(self.of_role(grants))
             self.addCleanup(replica.close)
             self.assert_faults(words, self.accounts(replica=replica))
         away = PerThread(mock.Mock(side_effect=ConnectionRefusedError("nobody there")))
-        said = "replica-away: the replica is passed over: ConnectionRefusedError"
+        said = "replica-away: skipping the replica: ConnectionRefusedError"
         self.assert_faults([f"{said}: nobody there"], self.accounts(replica=away))
 
 
@@ -295,7 +295,7 @@ class OnPostgres(OnServer, engines.OnPostgres, support.Base):
         """Names that a database's encoding lacks are no accounts, after a hash; texts aren't
         bytes."""
         given = "TEMPLATE template0 LC_COLLATE 'C' LC_CTYPE 'C' ENCODING"
-        as_bytes = "encoding: client_encoding is SQL_ASCII: texts come as bytes"
+        as_bytes = "encoding: client_encoding is SQL_ASCII: the driver returns text as bytes"
         others = ((it, LATIN.format(it)) for it in ("LATIN1", "EUC_JP"))
         for encoding, *words in (("UTF8",), *others, ("SQL_ASCII", as_bytes)):
             name = f"en{encoding.lower()}"

@@ -206,7 +206,7 @@ class ForeignTasks(OnSqliteTasks, Foreign):
         executor = ThreadPoolExecutor(1, "hashes")
         self.addCleanup(executor.shutdown)
         self.assertRaises(TypeError, self.accounts, foreign=plain, executor=8)
-        with self.assertRaisesRegex(TypeError, "an executor is for AsyncAccounts alone"):
+        with self.assertRaisesRegex(TypeError, "only AsyncAccounts uses an executor"):
             Accounts(self.connect, self.dialect, LOW, executor=executor)
         for hook in (awaited, lambda *given: awaited(*given), functools.partial(awaited), plain):
             accounts = self.accounts(foreign=hook, executor=executor)

@@ -183,7 +183,7 @@ class OnMariaDB(engines.OnMariaDB, Base):
         seen = dict(self.execute("SHOW SESSION VARIABLES"))
         fine = {"sql_mode": "STRICT_ALL_TABLES", "log_bin": "ON", "sync_binlog": "1"}
         self.assertTrue(set(fine) <= set(seen))
-        sync, galera = "wsrep_sync_wait lacks its bit 1", {"wsrep_on": "ON"}
+        sync, galera = "wsrep_sync_wait lacks bit 1", {"wsrep_on": "ON"}
         for more, *words in (
             ({},),
             ({"sync_binlog": "0"}, "sync_binlog is 0"),
@@ -218,7 +218,7 @@ class OnMariaDB(engines.OnMariaDB, Base):
     def test_what_is_shown_early(self):
         """An early shown commit is a fault if looks aren't confirmed; examine and torture have
         --confirm too."""
-        said = "log_bin is OFF: a crash may lose a change by which a login was answered"
+        said = "log_bin is OFF: a crash may undo a change that a login has used"
         others = {"log_bin": "ON"}, {"log_bin": "OFF", "wsrep_on": "ON"}
         for seen in ({"log_bin": "OFF"}, {}, *others):
             words = () if seen in others else (said,)

@@ -80,7 +80,7 @@ class InPython(Base):
         false."""
         self.assertIsNone(LOW.verify_and_rehash(RECORD, "one"))
         reply = self.accounts().login("ann", "two")
-        self.assertRaisesRegex(TypeError, "compare with Reply.YES", bool, reply)
+        self.assertRaisesRegex(TypeError, "compare it, for example with Reply.YES", bool, reply)
         self.assertNotEqual(reply, False)
 
     def test_calls_of_accounts(self):
@@ -103,7 +103,7 @@ class InPython(Base):
                 PasswordHasher(memory_cost=memory, parallelism=1)
                 hasher.replace(time_cost=1)
             (one,) = told
-            said = f"memory_cost={memory} is {memory} KiB, a low cost: 64 MiB are 65536"
+            said = f"memory_cost={memory} means {memory} KiB, which is low: 64 MiB is 65536"
             self.assertEqual((str(one.message), one.filename), (said, __file__))
             self.assertIs(one.category, LowMemoryWarning)
         with mock.patch.object(_hashers, "_has_warned", False):
@@ -153,14 +153,14 @@ class InPython(Base):
         (lambda it: AsyncAccounts(of_task(), it.dialect, LOW), r"Manager: PerUse\(connect\)"),
         (lambda it: it.accounts(patience="10"), "patience must be a number of seconds, not a str"),
         (lambda it: it.accounts(patience=None), "patience must be a number of seconds, not a None"),
-        (lambda it: it.accounts(executor=THREAD), "an executor is for AsyncAccounts alone"),
+        (lambda it: it.accounts(executor=THREAD), "only AsyncAccounts uses an executor"),
         (lambda it: it.accounts(upgrade_from=LOW.costs), "a list of costs, not a str"),
     )
     def test_what_stands_in_the_place_of_another(self, act, words):
         self.assertRaisesRegex(TypeError, words, act, self)
 
     def test_a_record_among_costs(self):
-        with self.assertRaisesRegex(InvalidRecordError, "upgrade_from has costs such as") as raised:
+        with self.assertRaisesRegex(InvalidRecordError, "upgrade_from needs costs such") as raised:
             self.accounts(HIGH, upgrade_from=[RECORD])
         self.assertNotIn(RECORD[-20:], str(raised.exception))
 
@@ -197,7 +197,7 @@ class InPython(Base):
         for name, *new in (("login",), ("verify",), ("change", "new")):
             call = getattr(self.accounts(), name)
             self.assertRaisesRegex(
-                InvalidRecordError, "`foreign` that judges", call, "ann", "x", *new
+                InvalidRecordError, "`foreign` that checks", call, "ann", "x", *new
             )
 
     @each(
@@ -222,7 +222,7 @@ class AtAShell(support.Commands):
 
     @each(
         ("", "the following arguments are required: command"),
-        ("hash secret", "a word too many; a password is never an argument"),
+        ("hash secret", "one argument too many; a password is never an argument"),
         ("hash --time 3", "an unknown option, which isn't shown; is --passes meant?"),
         *((f"hash {it}=3", "is --passes meant?") for it in ("--iterations", "--time-cost", "-t")),
         ("hash --rounds 3", "is --passes meant?"),
@@ -243,7 +243,7 @@ class AtAShell(support.Commands):
         ("calibrate -k 64M", "is --memory meant?"),
         ("calibrate --treads 2", "is --threads meant?"),
         ("verify $2b$12$abc", "the record's scheme is 2b"),
-        ("verify =19=65536,t=3,p=4", "in single quotes a shell leaves its $ alone"),
+        ("verify =19=65536,t=3,p=4", "in single quotes, so that the shell keeps its $"),
     )
     def test_words(self, words, said):
         found = self.typed(*words.split(), status=1)[1]

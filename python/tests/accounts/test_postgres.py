@@ -57,7 +57,7 @@ class OnPostgres(engines.OnPostgres, Base):
     def test_row_security_without_a_policy(self):
         """Row security without a policy hides all rows from a role, so each login would be
         NO_ACCOUNT."""
-        said = "row security shows this role no row"
+        said = "row security hides every row from this role"
         self.execute("ALTER TABLE users ENABLE ROW LEVEL SECURITY")
         role = self.of_role("SELECT, UPDATE")
         accounts = self.accounts(connect=role)

@@ -67,12 +67,12 @@ class Arguments(Base):
 
         nothing = type("Nothing", (), {})
         for pool in (self.connect, awaited, tasks, nothing):
-            with self.assertRaisesRegex(TypeError, "gives connections by `with`, .* returned a"):
+            with self.assertRaisesRegex(TypeError, "lends connections by `with`, .* returned a"):
                 Accounts(pool, self.dialect, LOW).verify("ann", "one")
             with self.assertRaisesRegex(TypeError, "an awaitable: use AsyncAccounts"):
                 self.accounts(connect=awaited).verify("ann", "one")
         for pool in (self.connect, awaited, nothing):
-            with self.assertRaisesRegex(TypeError, "gives connections by `async with`"):
+            with self.assertRaisesRegex(TypeError, "lends connections by `async with`"):
                 Awaited(AsyncAccounts(pool, self.dialect, LOW)).verify("ann", "one")
 
     @each(
@@ -88,7 +88,7 @@ class Arguments(Base):
             worked = Worked(Ticket(Request(Kind.RESET, key), None), Reply.ENROLLED, "x")
             acts = [(getattr(accounts, it), key, "x") for it in ("verify", "login", "enrol")]
             for act, *given in (*acts, (accounts.commit_in, self.conn, worked)):
-                with self.hashes(0), self.assertRaisesRegex(TypeError, "the keys are"):
+                with self.hashes(0), self.assertRaisesRegex(TypeError, "a key must be"):
                     act(*given)
         for wrong in (float, list, bool):
             self.assertRaises(TypeError, kind, "users", "name", "record", wrong)
@@ -299,7 +299,8 @@ class Errors(Base):
         with self.assertRaises(Unavailable) as raised:
             accounts.verify("ann", "x")
         found = str(raised.exception)
-        self.assertTrue(found.startswith("no server did the operation in time: ConnectionError: "))
+        begins = "no server completed the operation in time: ConnectionError: "
+        self.assertTrue(found.startswith(begins))
         self.assertIn(said, found)
         self.assertNotIn("hunter2", found)
         self.assertLess(len(found), 500)
@@ -342,6 +343,6 @@ class Errors(Base):
     def test_a_reply_is_no_truth_value(self):
         """`if accounts.login(..)` would let everybody in."""
         for reply in (*map(self.accounts().login, ("ann", "ann"), ("one", "two")), *Reply):
-            with self.assertRaisesRegex(TypeError, "compare with Reply.YES"):
+            with self.assertRaisesRegex(TypeError, "compare it, for example with Reply.YES"):
                 if reply:
                     self.fail("it was let in")

@@ -18,7 +18,7 @@ LONGEST_WRITTEN: Final = 152  # bytes of a record of accounts, with the longest 
 NOT_NULL: Final = "record-not-null"
 CRASH_LOSES: Final = "a crash loses acknowledged changes"
 POWER_CUT_LOSES: Final = "a power cut loses acknowledged changes"
-ANOTHER_RECORD: Final = "the row has another record than the one that was written"
+ANOTHER_RECORD: Final = "the row's record differs from the one that was written"
 NO_TRANSACTION: Final = "no transaction is open on the connection"
 LEFT_OPEN: Final = (
     "a transaction is open on the connection: after any exception, a pool closes what it"
@@ -34,7 +34,7 @@ class Verdict(enum.Enum):
     """The meaning of a driver's error before a COMMIT was sent."""
 
     AGAIN = "the server rolled the transaction back: try again"
-    ELSEWHERE = "the server accepts no changes for now: try another, or later"
+    ELSEWHERE = "the server accepts no changes now: try another server, or try later"
     LOST = "this connection is broken; another may work"
     REFUSED = "the server rejects the statement, and would reject it again"
 
@@ -181,7 +181,7 @@ class Dialect:
         """
         if type(key) is not self.key_type:
             wanted = self.key_type.__name__
-            raise TypeError(f"the keys are {wanted}, and this one {type(key).__name__}")
+            raise TypeError(f"a key must be {wanted}, not {type(key).__name__}")
 
     def can_stand(self, key: object) -> bool:
         """Whether a column can hold the key; otherwise no such account exists."""
@@ -327,11 +327,11 @@ class Dialect:
         if "" in unique:
             return
         if any(self._is_of_one_case(it) for it in unique):
-            text = f"no index finds {self.key_name}: each look reads the whole table"
+            text = f"{self.key_name} has no index: each lookup reads the whole table"
             yield warning("key-not-indexed", text)
         else:
             text = f"{self.key_name} has no unique index of its own"
-            said = "two rows may have one name, and are then refused"
+            said = "operations refuse a name that two rows have"
             yield error("key-not-unique", f"{text}: {said}")
 
     def _is_of_one_case(self, indexed: str) -> bool:
@@ -367,7 +367,7 @@ class Dialect:
     def alphabet_faults(self, charset: str, unicode: Container[str]) -> Iterator[Fault]:
         """A character set that lacks names."""
         if self.key_type is str and charset not in unicode:
-            text = f"names outside of {charset} are no accounts"
+            text = f"no account can have a name outside of {charset}"
             yield warning("key-not-unicode", text)
 
     async def folded_names(self, session: Session) -> list[Fault]:

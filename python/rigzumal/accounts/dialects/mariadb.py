@@ -74,7 +74,7 @@ class MariaDB(Dialect):
         if not conn.open:
             raise ConnectionError("the connection is closed")
         if not getattr(conn, "use_unicode", True):
-            raise StoreFault("the connection's use_unicode is False: texts come as bytes")
+            raise StoreFault("use_unicode is False: the driver returns text as bytes")
         is_open = bool(conn.server_status & 1)  # SERVER_STATUS_IN_TRANS
         return Mode(conn.get_autocommit(), has_transaction=is_open)
 
@@ -115,7 +115,7 @@ class MariaDB(Dialect):
             raise StatementTimeout(_NOTHING_DONE, "max_statement_time is over")
         if stands == [(after,)]:
             return 1
-        fault = "max_statement_time ended the statement, and the row has another record"
+        fault = "max_statement_time ended the statement, but the row has another record"
         raise ConnectionError(fault)
 
     def refuses_at_once(self, raised: BaseException) -> bool:
@@ -202,7 +202,7 @@ class MariaDB(Dialect):
             faults.append(error("not-a-table", f"{t} is no table"))
         elif engine != "InnoDB":
             text = f"{t} is of {engine}, which has no transactions"
-            said = "a change that fails, or a hook's rows, may be kept all the same"
+            said = "a failed change, or the rows of a hook, may remain"
             faults.append(error("no-transactions", f"{text}: {said}"))
         rows = (await session.execute("SHOW SESSION VARIABLES")).rows
         seen = {name: value for name, value in rows}
@@ -242,14 +242,14 @@ def shown_early(seen: dict[str, str]) -> tuple[Fault, ...]:
     """Without a binary log InnoDB shows a commit before its own log is on the disk."""
     if "ON" in (seen.get("log_bin"), seen.get("wsrep_on")):
         return ()
-    text = "log_bin is OFF: a crash may lose a change by which a login was answered"
+    text = "log_bin is OFF: a crash may undo a change that a login has used"
     return (warning("shown-early", text),)
 
 
 def of_server(seen: dict[str, str]) -> Iterator[Fault]:
     """The faults of a session of MariaDB."""
     if "STRICT_" not in seen["sql_mode"]:
-        yield warning("not-strict", "sql_mode isn't strict: long values are cut off")
+        yield warning("not-strict", "sql_mode isn't strict: the server truncates long values")
     level = seen.get("tx_isolation") or seen.get("transaction_isolation", "")
     if level == "READ-UNCOMMITTED":
         yield error("read-uncommitted", UNCOMMITTED)
@@ -260,7 +260,7 @@ def of_server(seen: dict[str, str]) -> Iterator[Fault]:
     if seen.get("log_bin") == "ON" and seen.get("sync_binlog") != "1":
         yield not_durable(f"sync_binlog is {seen.get('sync_binlog')}: {POWER_CUT_LOSES}")
     if seen.get("wsrep_on") == "ON" and not int(seen["wsrep_sync_wait"]) & 1:
-        text = "wsrep_sync_wait lacks its bit 1: a node may read replaced records"
+        text = "wsrep_sync_wait lacks bit 1: a node may read outdated records"
         yield error("no-sync-wait", text)
 
 

@@ -239,7 +239,7 @@ class Postgres(Dialect):
     async def examine(self, session: Session) -> Findings:
         t = self.table.replace("%%", "%")
         if session.conn.info.encoding == "ascii":
-            text = "client_encoding is SQL_ASCII: texts come as bytes"
+            text = "client_encoding is SQL_ASCII: the driver returns text as bytes"
             return Findings([error("encoding", text)], is_usable=False)
         found = await session.execute(_COLUMNS, t)
         columns = {name: more for name, *more in found.rows}
@@ -263,10 +263,10 @@ class Postgres(Dialect):
             text = f"{self.table_name} is unlogged: a crash empties it"
             faults.append(not_durable(text))
         if sees_none:
-            text = "row security shows this role no row: no policy is for it"
+            text = "row security hides every row from this role, which has no policy"
             faults.append(error("row-security", text))
         elif secured:
-            text = "row security may show an UPDATE less than a SELECT"
+            text = "row security may show fewer rows to an UPDATE than to a SELECT"
             faults.append(warning("row-security", text))
         for name, good in _DURABLE:
             ((value,),) = (await session.execute(f"SHOW {name}")).rows

@@ -85,7 +85,7 @@ class Line:
             return why
         days = self.days()
         if days is None:
-            return "a date that is no number"
+            return "a date that isn't a number"
         return "the password has expired" if days.is_too_old(day) else ""
 
     def must_change(self, day: int) -> bool:

@@ -208,7 +208,7 @@ class Book:
                 return
             self.is_down = True
             self.refuse_waiting()
-            log_seldom("reopen", "the book can't be opened again; the server tries it each second")
+            log_seldom("reopen", "the server can't reopen the book; it retries each second")
             await asyncio.sleep(RETRY_SECONDS)
         self.refuse_waiting()
         if not self.ended.done():

@@ -68,7 +68,7 @@ class Door:
         try:
             self.gid = -1 if self.group == "-" else grp.getgrnam(self.group).gr_gid
         except KeyError:
-            raise Problem(f"there is no group {self.group}, for {self.path}") from None
+            raise Problem(f"the group {self.group} of {self.path} doesn't exist") from None
         self.lock()
 
     def socket_of_systemd(self) -> socket.socket:
@@ -78,7 +78,7 @@ class Door:
             found = socket.socket(fileno=FIRST_OF_SYSTEMD + names.index(self.name))
             if (found.type, found.family) == (socket.SOCK_STREAM, socket.AF_UNIX):
                 return found
-        raise Problem(f"systemd handed over no stream socket with the name {self.name}")
+        raise Problem(f"systemd passed no stream socket named {self.name}")
 
     def lock(self) -> None:
         """Creates the socket's folder, and locks the path until the process ends."""
@@ -90,7 +90,7 @@ class Door:
         try:
             fcntl.flock(lock, fcntl.LOCK_EX | fcntl.LOCK_NB)
         except BlockingIOError:
-            raise Problem(f"another server has {self.path}") from None
+            raise Problem(f"another server uses {self.path}") from None
 
     def own_socket(self) -> socket.socket:
         """A socket at the door's path; its mode is set before it listens."""
@@ -158,7 +158,7 @@ class Door:
         with suppress(OSError):
             sock.send(client.no_room)
         sock.close()
-        log_seldom(client.user, "no more connections at %s for %s, which has %d", *client.user, own)
+        log_seldom(client.user, "refused a connection at %s of %s, which has %d", *client.user, own)
         service.tally.counts["refused"] += 1
         return False
 

@@ -36,12 +36,10 @@ async def take_in(service: Service) -> None:
         marks.sync_name()
     finally:
         if os.path.lexists(path):
-            log.error(
-                "%s stays: the book lacks some of its marks, so the server doesn't start", path
-            )
-    log.info("%s is gone: %d of its marks are in the book now", path, sum(taken))
+            log.error("%s stays: the book lacks some of its marks, so the server can't start", path)
+    log.info("removed %s: %d of its marks are now in the book", path, sum(taken))
     if lacking := len(taken) - sum(taken):
-        log.warning("%d of its marks were of names without an account, or a record", lacking)
+        log.warning("dropped %d of its marks: their names have no account, or no record", lacking)
 
 
 async def has_taken(service: Service, name: bytes, word: bytes) -> bool:

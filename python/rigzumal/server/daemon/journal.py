@@ -76,7 +76,7 @@ class Journal(GrowingFile):
     def add(self, line: bytes) -> asyncio.Future[bool]:
         """Appends a line, with others that arrive meanwhile; returns whether it is on the disk."""
         if self.is_full():
-            text = "%s: its disk hangs: %d lines wait, and the next ones are left out"
+            text = "%s: its disk hangs: %d lines wait, and further lines are dropped"
             log_seldom((self.path, "full"), text, self.path, MOST_LINES)
             self.lacking += 1
             left_out: asyncio.Future[bool] = asyncio.get_running_loop().create_future()
@@ -127,7 +127,7 @@ class Writer:
         await loop.sock_sendall(self.socket, SIZE.pack(len(text)) + text)
         answer = await loop.sock_recv(self.socket, FAULT.size)
         if len(answer) < FAULT.size:
-            raise OSError(errno.EPIPE, "the process that writes it has ended")
+            raise OSError(errno.EPIPE, "its writing process has ended")
         (number,) = FAULT.unpack(answer)
         if number:
             raise OSError(number, os.strerror(number))

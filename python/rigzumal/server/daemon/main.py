@@ -46,7 +46,7 @@ def main() -> int:
     except Problem as problem:
         log.error("%s", problem)
     except ImportError as fault:
-        log.error("an option needs python3-%s, which is missing", fault.name)
+        log.error("an option needs the missing package python3-%s", fault.name)
     except OSError as fault:
         log.error("%s: %s", fault.filename or "the system", fault.strerror)
     return 1
@@ -173,10 +173,10 @@ async def end_book(book: Book, seconds: float) -> int:
     book.end()
     await asyncio.wait([book.ended], timeout=seconds)
     if not book.ended.done():
-        log.error("killing the book: it still runs after %d s", LAST_SECONDS)
+        log.error("killing the book's process, which still runs after %d s", LAST_SECONDS)
         book.kill()
         await asyncio.wait([book.ended], timeout=KILLED_SECONDS)
     if book.ended.done():
         return book.ended.result()
-    log.error("the book can't be killed: its disk hangs")
+    log.error("the book's process can't be killed: its disk hangs")
     return 128 + signal.SIGKILL

@@ -134,5 +134,5 @@ def printable(name: bytes) -> str:
 def why_stuck(name: bytes, line: Line) -> str:
     """The reason why a user can't move; empty if the user can."""
     if not NAME.fullmatch(name):
-        return "no name of a book"
+        return "not a name of a book"
     return why_unknown(line.record) or line.why_shut(today())

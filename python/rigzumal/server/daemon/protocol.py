@@ -41,7 +41,7 @@ def refused(meaning: str, ask: int = 1, http: int = 503) -> Answer:
 
 ANSWERS = {
     "yes": Answer(
-        "the password is right; of `known`: the account has a record",
+        "the password is right; after `known`: the account has a record",
         tried=RIGHT,
         reply="YES",
         http=200,
@@ -72,7 +72,7 @@ ANSWERS = {
         ask=4,
     ),
     "absent": Answer(
-        "the account has no record; of `known`, also: it is locked",
+        "the account has no record; after `known`: it has none, or it is locked",
         tried=ABSENT,
         reply="ABSENT",
         http=401,
@@ -92,17 +92,17 @@ ANSWERS = {
     ),
     "upgraded": Answer("the record has the new costs", tried=RIGHT, changed=True, reply="UPGRADED"),
     "removed": Answer(
-        "the record is gone, and the name stays", tried=RIGHT, changed=True, reply="REMOVED"
+        "the record is removed, and the name stays", tried=RIGHT, changed=True, reply="REMOVED"
     ),
     "kept": Answer("the record already has these costs", tried=RIGHT, reply="KEPT"),
     "ok": done("OK", "the operation took effect"),
     "enrolled": done("ENROLLED", "the account has its first record"),
-    "disabled": done("DISABLED", "the record is gone, and the name stays"),
-    "deleted": done("DELETED", "name and record are gone"),
+    "disabled": done("DISABLED", "the record is removed, and the name stays"),
+    "deleted": done("DELETED", "the name and the record are removed"),
     "renamed": done("RENAMED", "the account has the new name"),
-    "locked": done("LOCKED", "each password is wrong from now on, until `unlock`"),
-    "unlocked": done("UNLOCKED", "the lock is gone, and the record counts again"),
-    "forgiven": Answer("no failed try counts any more"),
+    "locked": done("LOCKED", "every password is wrong until `unlock`"),
+    "unlocked": done("UNLOCKED", "the lock is removed, and the record counts again"),
+    "forgiven": Answer("its failed tries no longer count"),
     "exists": Answer(
         "the account already has a record; of `rename`: an account already has the new name",
         reply="EXISTS",
@@ -148,21 +148,22 @@ ANSWERS = {
     "bad 1 exists": refused("the book, or the file of `--foreign`, already has the name", ask=4),
     "bad 2 full": refused("the book has no room for another account", ask=6),
     "bad 3 name": Answer("no book can have such a name", http=401, pam="USER_UNKNOWN", ask=1),
-    "bad 4 memory": refused("there was no memory for a hash: see `--memory`", ask=3),
+    "bad 4 memory": refused("a hash got too little memory: see `--memory`", ask=3),
     "bad 5 noaccount": refused("the book lacks the name", ask=4),
     "bad 11 line": refused("no such line exists"),
-    "bad 13 password": refused("the password isn't base64 of up to 256 bytes", ask=6, http=401),
+    "bad 13 password": refused("the password isn't base64 of at most 256 bytes", ask=6, http=401),
     "bad 14 busy": refused(
         "others changed the account meanwhile, or another import is running: try again", ask=5
     ),
     "bad 16 long": refused(
-        "a line of over 960 bytes, or an import of over 128 MiB; the connection goes on", http=401
+        "the line has over 960 bytes, or the import over 128 MiB; the connection stays open",
+        http=401,
     ),
     "bad 18 costly": refused(
         "the record or the setting needs more than `--most-memory`" " or `--most-work` allows"
     ),
     "bad 19 disk": Answer(
-        "the disk of the book or of the audit log has too little room for a change; logins go on",
+        "the disk of the book or of the audit log is too full for a change; logins continue",
         pam="AUTHTOK_ERR",
         ask=5,
         text="The server's disk is full: the password stays as it was.",

@@ -28,7 +28,7 @@ def why_unknown(record: bytes) -> str:
     if record[:1] in b"!*":
         return "locked"
     is_des = re.fullmatch(rb"[./0-9A-Za-z]{13}", record)
-    return "DES" if is_des else "plain text, or another scheme"
+    return "DES" if is_des else "plain text or an unknown scheme"
 
 
 def is_right(record: bytes, password: bytes) -> bool:

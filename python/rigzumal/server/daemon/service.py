@@ -214,7 +214,7 @@ class Service:
         stored and not noted."""
         full = [path for path, folder in self.folders.items() if not has_room(folder)]
         for path in full:
-            text = "%s: its disk has under %d KiB left, so the book isn't changed"
+            text = "%s: its disk has less than %d KiB left, so the server refuses changes"
             log_seldom(("disk", path), text, path, NEEDED // 1024)
         return not full
 

@@ -118,7 +118,7 @@ class Tally:
         """Notes that a name's wait has ended, and logs the end if the wait was logged."""
         self.early.pop(name, None)
         if forget_message((LATER, name)):
-            log.info("%s need not wait any longer: %s", name, why)
+            log.info("%s no longer has to wait: %s", name, why)
 
     def end_waits(self, staying: Callable[[str], int]) -> None:
         """Ends all waits, since a new process of the book knows no failed tries; only waits at
@@ -128,7 +128,7 @@ class Tally:
             del self.early[name]
             forget_message((LATER, name))
         if ended:
-            log.info("%d names need not wait any longer: the book's process is new", len(ended))
+            log.info("%d names no longer have to wait: the book's process is new", len(ended))
 
     def waits(self) -> list[str]:
         """The names whose wait isn't over, each as NAME:SECONDS with the rest of the wait: a try

@@ -30,5 +30,5 @@ class Command(changepassword.Command):
         except records.RecordChanged:
             raise CommandError(
                 "The password was changed meanwhile, perhaps by a login with an old"
-                " record. Nothing was done; please run the command again."
+                " record. Nothing was saved; please run the command again."
             ) from None

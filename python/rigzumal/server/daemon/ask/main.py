@@ -55,7 +55,7 @@ def ask_server(words: list[str]) -> int:
     if len(behind) not in COMMANDS[command].counts:
         end(1, f"{command} takes {how_many(COMMANDS[command].counts)}")
     if command != "backup" and not all(map(is_name, behind)):
-        end(1, f"a name has no spaces, isn't empty, and has up to {LONGEST_NAME} bytes of UTF-8")
+        end(1, f"a name has no spaces, at least one byte, and up to {LONGEST_NAME} bytes of UTF-8")
     return Commands(Server(path_of(book))).do(command, behind, options)
 
 

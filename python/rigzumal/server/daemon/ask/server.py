@@ -47,7 +47,8 @@ class Server:
             line = self.answers.readline()
         tag, _, said = line.decode("ascii", "replace").rstrip("\n").partition(" ")
         if tag != TAG or not line.endswith(b"\n") or said == "unavailable":
-            end(5, f"{self.path}: no answer; the change may be stored or not: ask by `show`")
+            text = "no answer; the change may or may not be stored: check with `show`"
+            end(5, f"{self.path}: {text}")
         return said
 
     def ask(self, *words: str) -> str:
@@ -89,7 +90,7 @@ class Server:
         self.socket.settimeout(None)
         said = self.ask(*words)
         if said != f"send {len(text)}":
-            end(5, f"{self.path}: no answer from a server: {said:.40}")
+            end(5, f"{self.path}: not an answer of a server: {said:.40}")
         with suppress(OSError):  # a server that has ended answers nothing
             self.socket.sendall(text)
         return self.copy_result(self.answer(), sys.stdout.buffer)
@@ -98,7 +99,7 @@ class Server:
         """Copies the output of credkeep on both streams, and returns its status."""
         word, *numbers = said.split(" ")
         if word != "ended" or len(numbers) != 3 or not all(map(str.isdecimal, numbers)):
-            end(5, f"{self.path}: no answer from a server: {said:.40}")
+            end(5, f"{self.path}: not an answer of a server: {said:.40}")
         status, size, size_of_faults = map(int, numbers)
         self.copy(size, output)
         self.copy(size_of_faults, sys.stderr.buffer)
@@ -121,7 +122,7 @@ class Server:
         with suppress(OSError):
             piece = self.answers.read(most)
         if not piece:
-            end(5, f"{self.path}: the server has ended, and this isn't all of it")
+            end(5, f"{self.path}: the server has ended, and the output is incomplete")
         return piece
 
 

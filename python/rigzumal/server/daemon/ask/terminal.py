@@ -44,7 +44,7 @@ def unseen() -> Iterator[int]:
         terminal = os.open("/dev/tty", os.O_RDWR | os.O_NOCTTY)
         saved = termios.tcgetattr(terminal)
     except (OSError, termios.error):
-        end(2, "there is no terminal to ask at")
+        end(2, "no terminal is available to ask at")
     mute = [*saved]
     mute[3] &= ~termios.ECHO
     try:
@@ -96,4 +96,4 @@ def end_unwritten() -> NoReturn:
     """Ends the program after a failed write of its answer, and keeps Python from flushing the
     rest."""
     os.dup2(os.open(os.devnull, os.O_WRONLY), sys.stdout.fileno())
-    end(2, "the answer couldn't be written")
+    end(2, "the output couldn't be written")
