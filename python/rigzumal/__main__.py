@@ -1,13 +1,13 @@
-"""Records at the shell, and the costs for this machine.
+"""Hashes passwords at the shell, and finds the costs for this machine.
 
     printf %s 'correct horse' | python3 -m rigzumal hash
     printf %s 'correct horse' | python3 -m rigzumal verify '$argon2id$v=19$..'
     python3 -m rigzumal calibrate --target-ms 250 --memory 64M
     python3 -m rigzumal accounts --help
 
-A password is never an argument. At a terminal the command asks for the password, unseen. Otherwise
-the password is all of standard input, even a newline at its end. The exit statuses are those of
-credkeep: for example, 4 means no.
+A password is never an argument. At a terminal the command asks for the password without echo.
+Otherwise the password is all of standard input, including a newline at its end. The exit statuses
+are those of credkeep: for example, 4 means no.
 """
 
 from __future__ import annotations

@@ -1,4 +1,4 @@
-"""The exit statuses (those of credkeep) and the options that the commands at the shell share."""
+"""The exit statuses (those of credkeep) and the options that the shell commands share."""
 
 from __future__ import annotations
 
@@ -62,7 +62,7 @@ class Words(argparse.ArgumentParser):
     """A parser that exits with status 1 if it refuses a word.
 
     The parser accepts no abbreviation. Otherwise `--pass SECRET` would count as `--passes SECRET`,
-    and its error would show the value.
+    and the error message would show the value.
     """
 
     def __init__(self, **given: Any) -> None:
@@ -81,7 +81,7 @@ class Words(argparse.ArgumentParser):
         return given
 
     def error(self, message: str) -> NoReturn:
-        """Ends the program, and hides a word that names no command."""
+        """Ends the program, and hides an argument that isn't the name of a command."""
         hidden = r"invalid choice: .*(?=\(choose)"
         message = re.sub(hidden, "unknown word ", message, flags=re.S)
         self.print_usage(sys.stderr)
@@ -97,7 +97,8 @@ def _options_of(words: argparse.ArgumentParser, command: str) -> Iterator[str]:
 
 
 def _unknown(word: str, options: Sequence[str]) -> str:
-    """The fault of a word at a command with these options; the text doesn't show the word."""
+    """The fault of an argument at a command with these options; the text doesn't show the
+    argument."""
     if not word.startswith("-"):
         return "one argument too many; a password is never an argument: pipe or type it"
     said, meant = "an unknown option, which isn't shown", _meant(word, options)
@@ -113,14 +114,14 @@ def _meant(word: str, options: Sequence[str]) -> str:
 
 
 def status_of(fault: Exception) -> Status:
-    """The status of a fault of the library, or of an argument."""
+    """The exit status for a fault of the library, or of an argument."""
     if isinstance(fault, OutOfMemoryError):
         return Status.MEMORY
     return Status.STREAM if isinstance(fault, NoRandomError) else Status.WORDS
 
 
 def ended(command: Callable[[], int]) -> int:
-    """The status of a command, also if it is refused, interrupted, or loses its streams."""
+    """The exit status of a command, even if it is refused or interrupted, or loses its streams."""
     try:
         with warnings.catch_warnings():
             warnings.simplefilter("ignore", LowMemoryWarning)  # `memory` has a line of its own
@@ -184,7 +185,7 @@ def hasher_of(given: argparse.Namespace) -> Union[PasswordHasher, ScryptHasher]:
 def read_password(prompt: str = "Password", *, is_new: bool = False) -> bytes:
     """The password: all of standard input, or what the user types, twice for a new one.
 
-    Raises Refusal if the two differ, if there is none, or if it can't be read.
+    Raises Refusal if the two differ, if no password was typed, or if reading fails.
     """
     if sys.stdin is None:
         raise Refusal("standard input is closed", Status.STREAM)
@@ -200,12 +201,12 @@ def read_password(prompt: str = "Password", *, is_new: bool = False) -> bytes:
 
 
 def is_empty(password: bytes) -> bool:
-    """Whether a password is only the end of a line, as from an unset variable."""
+    """Whether a password is only a line end, as from an unset variable."""
     return not password.strip(b"\r\n")
 
 
 def hint(password: bytes, is_right: Callable[[bytes], bool]) -> Optional[str]:
-    """Advice, if the password would be right with another end of its line; otherwise None."""
+    """Advice, if the password would be right with a different line end; otherwise None."""
     newlines = "`printf %s` adds no newline, but `echo` does"
     bare = password[:-1] if password.endswith(b"\n") else password
     if bare != password:

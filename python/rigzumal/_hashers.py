@@ -43,7 +43,7 @@ class LowMemoryWarning(UserWarning):
 
 
 def _warn_of(memory_cost: int) -> None:
-    """Warns a caller that sets a low memory cost, once in a process."""
+    """Warns a caller that sets a low memory cost, once in each process."""
     global _has_warned
     if memory_cost >= LOW_MEMORY or _has_warned:
         return
@@ -113,7 +113,7 @@ class _Hasher(Frozen):
 
     @hidden
     def verify(self, hash: Secret, password: Secret) -> Literal[True]:
-        """True if the password is the record's.
+        """True if the password is right.
 
         Raises:
             VerifyMismatchError: the record is of another password.
@@ -124,7 +124,7 @@ class _Hasher(Frozen):
         return True
 
     def _verified(self, hash: Secret, password: Secret) -> int:
-        """The index of the secret with which the record was hashed."""
+        """The index of the secret that was used to hash the record."""
         for place, secret in enumerate(self._secrets()):
             # A hasher without a secret verifies records of scrypt too; a hasher with a secret
             # doesn't.
@@ -139,7 +139,7 @@ class _Hasher(Frozen):
 
     @hidden
     def verify_and_rehash(self, hash: Secret, password: Secret) -> Optional[str]:
-        """Checks the password; returns a new record if the record is old, and otherwise None.
+        """Checks the password, and returns a new record if the record is outdated, otherwise None.
 
         The call raises the exceptions of `verify` and `hash`.
         """
@@ -150,8 +150,8 @@ class _Hasher(Frozen):
     def check_needs_rehash(self, hash: Secret) -> bool:
         """Whether the record has another scheme, other costs or other sizes than a new one.
 
-        The record doesn't show its secret: only `verify_and_rehash` finds out which one it needs. A
-        text that is no record raises InvalidRecordError.
+        The record doesn't show its secret: only `verify_and_rehash` can determine which one it
+        needs. Raises InvalidRecordError for a text that isn't a record.
         """
         parts = _library.parts(hash)
         found = (parts.scheme, parts.version, parts.memory, parts.passes, parts.lanes)
@@ -160,7 +160,8 @@ class _Hasher(Frozen):
 
 
 def _is_record(password: Secret) -> bool:
-    """Whether a password is a record: other libraries take the two arguments in the other order."""
+    """Whether a password is a record: other libraries expect the two arguments in the other
+    order."""
     return isinstance(password, (str, bytes)) and _library.is_record(password)
 
 
@@ -193,7 +194,7 @@ class PasswordHasher(_Hasher):
         ValueError: no such kind exists, both a secret and secrets are given, or a new record
             would have an empty secret.
 
-    The constructor warns of a memory_cost below 8192 (8 MiB) by LowMemoryWarning, once in a
+    The constructor warns of a memory_cost below 8192 (8 MiB) with LowMemoryWarning, once in each
     process.
     """
 
@@ -244,7 +245,7 @@ class PasswordHasher(_Hasher):
 
     @hidden
     def replace(self, **changes: Any) -> PasswordHasher:
-        """A copy with other values of some attributes."""
+        """A copy in which some attributes have other values."""
         if "secrets" in changes:
             changes = {"secret": None, **changes}
         return super().replace(**{"secrets": self.secrets or None, **changes})
@@ -320,7 +321,7 @@ def argon2(
 ) -> bytes:
     """Computes the Argon2 tag of hash_len bytes (RFC 9106), with memory_cost in KiB.
 
-    At most `threads` threads compute its lanes: see PasswordHasher.
+    At most `threads` threads compute the lanes: see PasswordHasher.
 
     Raises:
         InvalidNumbersError: a number is outside its range.

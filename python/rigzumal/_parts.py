@@ -1,4 +1,4 @@
-"""The numbers of a record, read without its password, and its base64 without padding."""
+"""Reads the numbers of a record without its password, and encodes base64 without padding."""
 
 from __future__ import annotations
 
@@ -34,7 +34,7 @@ class Parts(Frozen):
 
     @property
     def costs(self) -> tuple[str, int, int, int, int]:
-        """Scheme, version and numbers, which decide about a rehash."""
+        """The scheme, version and numbers, which determine whether a rehash is needed."""
         return self.scheme, self.version, self.memory, self.passes, self.lanes
 
 
@@ -55,7 +55,7 @@ def encoded(data: bytes) -> str:
 
 
 def decoded(letters: str) -> bytes:
-    """The bytes of a base64 text; raises ValueError if the text encodes no bytes."""
+    """The bytes of a base64 text; raises ValueError if the text isn't base64 of bytes."""
     data = a2b_base64(letters + "=" * (-len(letters) % 4))
     if encoded(data) != letters:
         raise ValueError("a salt or a tag is not base64")

@@ -1,4 +1,4 @@
-"""Accounts over blocking drivers, and for asyncio: the operations that callers use."""
+"""The operations that callers use, for blocking drivers and for asyncio."""
 
 from __future__ import annotations
 
@@ -23,11 +23,11 @@ T = TypeVar("T")
 
 
 class Accounts(Operations[Pool]):
-    """Password records in a service's own table.
+    """Keeps password records in a service's own table.
 
-    A row is an account; NULL in the record's column means an account without a record. The
-    operations run in their own transactions, on connections in autocommit without an open
-    transaction. Any number of threads may use one object.
+    Each row is an account; NULL in the record column means an account without a record. The
+    operations run in their own transactions, on autocommit connections without an open transaction.
+    Any number of threads may use one object.
 
     Args:
         pool: a callable that returns a context manager of a connection to the primary. After any
@@ -62,12 +62,13 @@ class Accounts(Operations[Pool]):
         InvalidRecordError: one of `upgrade_from` isn't costs.
 
     Each operation accepts `also`, a function of the driver's connection and the reply. The library
-    calls it in the operation's transaction, while the account's row is locked and before its record
-    is written. So your own rows, such as a session, are committed with the reply or not at all. If
-    the server undoes the transaction, the library calls `also` again in the next one; for CHANGED
-    it doesn't call it. An exception of `also` undoes everything and reaches the caller, unless it
-    is an error of the connection that means "again". `also` must leave the transaction open, must
-    not write the record, and must call no operation on the same table.
+    calls `also` in the operation's transaction, while it holds the lock of the account's row and
+    before it writes the record. Your own rows, such as a session, are therefore committed with the
+    reply or not at all. If the server undoes the transaction, the library calls `also` again in the
+    next one; it doesn't call `also` for CHANGED. An exception in `also` undoes everything and
+    reaches the caller, unless it is an error of the connection that calls for a retry. `also` must
+    leave the transaction open, must not write the record, and must not call an operation on the
+    same table.
 
     Every operation may raise:
         TypeError: the key is of another type than its column, or a password is neither
@@ -88,25 +89,26 @@ class Accounts(Operations[Pool]):
     _kind = Runtime
 
     def _done(self, doing: Coroutine[Any, Any, T]) -> T:
-        """The operation's answer; in AsyncAccounts the coroutine of it."""
+        """The operation's answer; in AsyncAccounts, a coroutine that returns it."""
         return run(doing)
 
     @hidden
     def enrol(self, key: Key, password: Secret, *, also: Hook = None) -> Reply:
         """Gives an account its first record: ENROLLED; EXISTS if it has one; NO_ACCOUNT.
 
-        Use it only for rows whose owner is known; for a sign-up use `new_record`.
+        Use this operation only for rows whose owner is known; for a sign-up use `new_record`.
         """
         return self._done(self._replied(Request(Kind.ENROL, key, password), also))
 
     @hidden
     def verify(self, key: Key, password: Secret, *, also: Hook = None) -> Reply:
-        """Whether the password is right: YES or NO; ABSENT if there is no record; NO_ACCOUNT."""
+        """Whether the password is right: YES or NO; ABSENT if the account has no record;
+        NO_ACCOUNT."""
         return self._done(self._replied(Request(Kind.VERIFY, key, password), also))
 
     @hidden
     def login(self, key: Key, password: Secret, *, also: Hook = None) -> Reply:
-        """A verify that also replaces a record of lower costs; its replies are those of a verify.
+        """A verify that also replaces a record with lower costs; its replies are those of a verify.
 
         If the new record can't be written (a full disk, an unknown outcome), the answer is still
         that of a verify.
@@ -120,7 +122,7 @@ class Accounts(Operations[Pool]):
         """Replaces the password: REPLACED; WRONG if the old one is wrong; ABSENT; NO_ACCOUNT;
         CHANGED.
 
-        CHANGED, a reply of every operation, means that the commit found another record `tries`
+        CHANGED, a reply of every operation, means that the commit found a different record `tries`
         times.
         """
         request = Request(Kind.CHANGE, key, password, new_password)
@@ -128,14 +130,14 @@ class Accounts(Operations[Pool]):
 
     @hidden
     def reset(self, key: Key, new_password: Secret, *, also: Hook = None) -> Reply:
-        """Sets a password without the old one: REPLACED; ENROLLED if there was no record;
+        """Sets a password without the old one: REPLACED; ENROLLED if the account had no record;
         NO_ACCOUNT."""
         request = Request(Kind.RESET, key, b"", new_password)
         return self._done(self._replied(request, also))
 
     @hidden
     def upgrade(self, key: Key, password: Secret, *, also: Hook = None) -> Reply:
-        """Replaces a record of lower costs: UPGRADED, or KEPT for others; WRONG; ABSENT;
+        """Replaces a record with lower costs: UPGRADED, or KEPT for other records; WRONG; ABSENT;
         NO_ACCOUNT."""
         return self._done(self._replied(Request(Kind.UPGRADE, key, password), also))
 
@@ -156,13 +158,12 @@ class Accounts(Operations[Pool]):
 
     @hidden
     def examine(self, *used: Kind) -> list[Fault]:
-        """The faults of the table, the server and the replica; empty if they have none.
+        """The faults of the table, the server and the replica; empty if none has a fault.
 
-        The trial writes a record into a new row, or into one of the table's if a new row is
+        The trial writes a record into a new row, or into an existing one if a new row is
         impossible, in a transaction that it rolls back. Pass Kind.REMOVE if the service removes
-        records: then a column that is NOT NULL is an error, and the trial also removes a record. On
-        SQLite `examine` warns of a full disk, as far as the filesystem reports it, but not of a
-        user's quota.
+        records: then a NOT NULL column is an error, and the trial also removes a record. On SQLite
+        `examine` warns of a full disk if the filesystem reports it, but not of a user's quota.
 
         Raises:
             TypeError: an argument is no Kind.
@@ -175,7 +176,7 @@ class Accounts(Operations[Pool]):
 
     @hidden
     def perform(self, request: Request, *, also: Hook = None) -> Answer:
-        """The whole operation, with the records before and after it."""
+        """Runs the whole operation; the answer has the records before and after it."""
         return self._done(self._perform(request, also))
 
     @hidden
@@ -192,7 +193,7 @@ class Accounts(Operations[Pool]):
     def commit(self, worked: Worked) -> Answer:
         """The third part: writes the new record if the row still has the copy.
 
-        If the row has another record, the reply is CHANGED, and `after` is that record.
+        If the row has a different record, the reply is CHANGED, and `after` is that record.
         """
         return self._done(self._commit(worked))
 
@@ -200,14 +201,14 @@ class Accounts(Operations[Pool]):
     def commit_in(self, conn: Any, worked: Worked) -> Answer:
         """The third part in a transaction that the caller begins and ends.
 
-        The reply counts once the caller's COMMIT is acknowledged; on PostgreSQL with a synchronous
-        standby that is a COMMIT without a warning. After CHANGED, and after any exception, roll
-        back and try again from BEGIN. An operation without a change locks its row, so that the
-        record stays until the transaction ends.
+        The reply counts once the server has acknowledged the caller's COMMIT; on PostgreSQL with a
+        synchronous standby, the acknowledgement must have no warning. After CHANGED, and after any
+        exception, roll back and start again from BEGIN. An operation without a change locks its
+        row, so that the record stays until the transaction ends.
 
         On SQLite the transaction must begin with BEGIN IMMEDIATE. On PostgreSQL it must be READ
         COMMITTED, or SERIALIZABLE if all transactions on these rows are. On MariaDB it may have any
-        level but READ UNCOMMITTED.
+        level except READ UNCOMMITTED.
 
         Raises:
             StoreFault: no transaction is open on the connection, it has PostgreSQL's level
@@ -220,7 +221,7 @@ class Accounts(Operations[Pool]):
 def _awaited(
     method: Callable[Concatenate[Accounts, P], T]
 ) -> Callable[Concatenate[AsyncAccounts, P], Coroutine[Any, Any, T]]:
-    """Wraps a blocking method: the same operation as a coroutine."""
+    """Wraps a blocking method as a coroutine with the same operation."""
 
     @functools.wraps(method)
     async def operation(accounts: Any, /, *args: P.args, **kwargs: P.kwargs) -> T:
@@ -244,10 +245,10 @@ def _awaited(
 class AsyncAccounts(Operations[AsyncPool]):
     """`Accounts` with coroutines, over psycopg's AsyncConnection.
 
-    Arguments, replies and exceptions are the same; `also` and `foreign` may be coroutine
-    functions. Hashes, and a `foreign` that is a function, run in threads of the executor,
-    so that other tasks go on. If a task is cancelled during a change, the change may be
-    done or not, as after `OutcomeUnknown`.
+    Arguments, replies and exceptions are the same; `also` and `foreign` may be coroutine functions.
+    Hashes, and a `foreign` that is a plain function, run in threads of the executor, so that other
+    tasks continue. If a task is cancelled during a change, the change may or may not be stored, as
+    after `OutcomeUnknown`.
 
     Args:
         executor: a ThreadPoolExecutor, an argument only of AsyncAccounts. Each of its threads may

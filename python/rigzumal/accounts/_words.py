@@ -1,4 +1,4 @@
-"""The words of the command, and the passwords that it reads."""
+"""The arguments of the shell command, and the passwords that it reads."""
 
 from __future__ import annotations
 
@@ -15,7 +15,7 @@ from rigzumal._commands import read_password
 
 
 def _options() -> Words:
-    """The options of each command, which may precede it too."""
+    """The options of each command, which may also precede the command."""
     words = Words(add_help=False, argument_default=argparse.SUPPRESS)
     words.add_argument("--database", metavar="URL")
     words.add_argument("--table", help="by default: accounts")

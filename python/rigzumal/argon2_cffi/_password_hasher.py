@@ -32,8 +32,8 @@ _TYPES: Final = {
 
 
 def _bytes_of(text: _Text, encoding: str) -> bytes:
-    """The bytes of a text; an error gives the place of a letter without bytes, and never the
-    letter."""
+    """The bytes of a text; an error names the position of a character that can't be encoded, but
+    never the character."""
     if isinstance(text, bytes):
         return text
     try:
@@ -45,7 +45,7 @@ def _bytes_of(text: _Text, encoding: str) -> bytes:
 
 
 def _check_types(**given: tuple[object, type]) -> None:
-    """Raises a TypeError that names the values of a wrong type."""
+    """Raises a TypeError that names the values with a wrong type."""
     wrong = [
         f"'{name}' must be a {kind.__name__} (got {type(value).__name__})"
         for name, (value, kind) in given.items()
@@ -114,13 +114,13 @@ class PasswordHasher:
 
     @classmethod
     def from_parameters(cls, params: Parameters) -> PasswordHasher:
-        """A hasher of these parameters, of version 0x13."""
+        """A hasher with these parameters, for version 0x13."""
         costs = params.time_cost, params.memory_cost, params.parallelism
         return cls(*costs, params.hash_len, params.salt_len, type=params.type)
 
     @hidden
     def hash(self, password: _Text, *, salt: Optional[bytes] = None) -> str:
-        """A new encoded hash; without a salt the call generates one.
+        """A new encoded hash; the call generates a salt if the caller passes none.
 
         Raises:
             HashingError: a number or a size is outside its range, or memory is short.
@@ -132,7 +132,7 @@ class PasswordHasher:
 
     @hidden
     def verify(self, hash: _Text, password: _Text) -> Literal[True]:
-        """True if the password is the hash's.
+        """True if the password is right for the hash.
 
         Raises:
             VerifyMismatchError: the hash is of another password.
@@ -150,7 +150,7 @@ class PasswordHasher:
         return low_level.verify_secret(encoded, secret, kind)
 
     def check_needs_rehash(self, hash: _Text) -> bool:
-        """Whether the hash has other parameters than this hasher's.
+        """Whether the hash's parameters differ from this hasher's.
 
         Raises:
             InvalidHashError: the text is no hash of Argon2.

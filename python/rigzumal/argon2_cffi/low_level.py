@@ -1,4 +1,4 @@
-"""argon2-cffi's functions over raw bytes, and hashes with salts and tags of any length."""
+"""The functions of argon2-cffi over raw bytes, and hashes with salts and tags of any length."""
 
 from __future__ import annotations
 
@@ -220,7 +220,7 @@ def _form() -> re.Pattern[str]:
 
 
 def _fault_of(text: bytes) -> int:
-    """The fault of a record that is no hash here."""
+    """The fault of a record that isn't a valid hash here."""
     try:
         _library.parts(text)
     except _library.InvalidRecordError as fault:
@@ -235,8 +235,8 @@ def error_to_str(error: int) -> str:
 
 
 def _first_fault(it: Parameters) -> Optional[int]:
-    """libargon2's number for the first parameter that is too small, in its order of checks; None if
-    none is."""
+    """The libargon2 number for the first parameter that is too small, in its order of checks; None
+    if all are large enough."""
     faults = (
         (it.hash_len < 4, -2),
         (it.salt_len < 8, -6),
@@ -248,7 +248,7 @@ def _first_fault(it: Parameters) -> Optional[int]:
 
 
 def _tag(it: Parameters, secret: bytes, salt: bytes) -> bytes:
-    """The tag of these parameters, with a thread for each lane."""
+    """The tag for these parameters, computed with a thread for each lane."""
     numbers: dict[str, Any] = {**vars(it), "type": rigzumal.Type(it.type.value)}
     del numbers["salt_len"]
     return rigzumal.argon2(secret, salt, threads=it.parallelism, **numbers)
@@ -295,7 +295,7 @@ def hash_secret(
     type: Type,
     version: int = ARGON2_VERSION,
 ) -> bytes:
-    """The encoded hash, with the tag of hash_secret_raw, and its exceptions."""
+    """The encoded hash with the tag of hash_secret_raw; raises the same exceptions."""
     salt = _library.data_of(salt)
     costs = (time_cost, memory_cost, parallelism)
     tag = hash_secret_raw(secret, salt, *costs, hash_len, type, version)
@@ -305,7 +305,7 @@ def hash_secret(
 
 @hidden
 def verify_secret(hash: bytes, secret: bytes, type: Type) -> Literal[True]:
-    """True if the encoded hash is of this type and of the secret, with a thread for each lane.
+    """True if the encoded hash has this type and the secret is right; uses a thread for each lane.
 
     Raises:
         VerifyMismatchError: the hash is of another secret.
@@ -328,8 +328,8 @@ def verify_secret(hash: bytes, secret: bytes, type: Type) -> Literal[True]:
 
 
 def _verdict(hash: bytes, secret: bytes) -> int:
-    """The library's verdict, or ours for a salt of over 48 bytes or a tag of over 64, which it
-    refuses."""
+    """The library's verdict, or our own for a salt of over 48 bytes or a tag of over 64, which the
+    library refuses."""
     fault = _library.check(hash, secret, threads=_MOST_LANES)
     read = Encoded.read(hash) if fault in _OF_OURS else None
     if read is None:

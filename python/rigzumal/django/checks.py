@@ -1,7 +1,7 @@
-"""The checks of `manage.py check`: they report wrong settings, and unprotected ways to write
+"""The checks of `manage.py check`: they report wrong settings, and unprotected ways of writing
 passwords.
 
-`manage.py check --database default`, and `migrate`, look at the records too.
+`manage.py check --database default`, and `migrate`, also examine the records.
 """
 
 from __future__ import annotations
@@ -68,7 +68,7 @@ def _password_field() -> Optional[Any]:
 
 
 def _classes(setting: str, number: str) -> tuple[list[tuple[str, type]], list[Any]]:
-    """The classes in a setting's list, with their paths, and the list's faults."""
+    """The classes in a setting's list with their paths, and the faults of the list."""
     listed = getattr(settings, setting)
     if isinstance(listed, str):
         text = f"{setting} is a string instead of a list."
@@ -93,15 +93,15 @@ def _classes(setting: str, number: str) -> tuple[list[tuple[str, type]], list[An
 
 
 def _misspelt(setting: str) -> str:
-    """A hint at a setting that has nearly this name."""
+    """A hint about a setting that has a similar name."""
     others = set(dir(settings)) - {setting}
     near = difflib.get_close_matches(setting, others, 1, 0.9)
     return f" The settings have {near[0]}: is {setting} meant?" if near else ""
 
 
 def backends(**_: Any) -> Messages:
-    """W001: the backend isn't used. W002: a backend that doesn't compare is used too. E012: a
-    backend can't be imported. W014: the model compares, under Django's own backend.
+    """W001: no backend compares. W002: an additional backend doesn't compare. E012: a backend can't
+    be imported. W014: the model compares, but under Django's own backend.
 
     A model's check_password compares under any backend that calls it.
     """
@@ -140,11 +140,10 @@ def column(**_: Any) -> Messages:
 
 
 def hashers_listed(**_: Any) -> Messages:
-    """E015: one of PASSWORD_HASHERS can't be imported, or none is listed.
-    W004: another library hashes new records.
-    E013: another hasher has the name of ours, and judges its records.
+    """E015: one of PASSWORD_HASHERS can't be imported, or none is listed. W004: another library
+    hashes new records. E013: another hasher has the name of ours, and checks its records.
 
-    If two hashers have one algorithm, Django asks the later.
+    If two hashers have the same algorithm, Django uses the later one.
     """
     listed, faults = _classes("PASSWORD_HASHERS", "E015")
     yield from faults
@@ -163,7 +162,7 @@ def hashers_listed(**_: Any) -> Messages:
 
 
 def isolation(**_: Any) -> Messages:
-    """W005: a transaction would read the record of the transaction's start."""
+    """W005: a transaction would read the record as it was at the transaction's start."""
     hint = "Remove the level, or set READ COMMITTED."
     for alias, database in settings.DATABASES.items():
         if _has_snapshots(database):
@@ -213,7 +212,7 @@ def _outcome() -> str:
 
 
 def admin_sites(**_: Any) -> Messages:
-    """W008: an admin's page of users, or of one's own password, is Django's."""
+    """W008: an admin page for users, or for one's own password, is Django's."""
     if not apps.is_installed("django.contrib.admin"):
         return
     from django.contrib.admin.sites import all_sites
@@ -236,7 +235,7 @@ def admin_sites(**_: Any) -> Messages:
 
 
 def url_views(**_: Any) -> Messages:
-    """W009: a URL leads to Django's own view of a change or of a reset."""
+    """W009: a URL leads to Django's own view for a change or a reset."""
     if not getattr(settings, "ROOT_URLCONF", None):
         return
     hint = "Include 'rigzumal.django.urls', or use the views of rigzumal.django.views."
@@ -269,7 +268,7 @@ def command(**_: Any) -> Messages:
 
 
 def unlisted_hashers(databases: Any = None, **_: Any) -> Messages:
-    """W011: the table has records whose hasher isn't listed: their users can't log in."""
+    """W011: the table has records without a listed hasher: their users can't log in."""
     field = _password_field()
     if field is None or _classes("PASSWORD_HASHERS", "E015")[1]:
         return

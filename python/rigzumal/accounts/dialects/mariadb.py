@@ -1,4 +1,4 @@
-"""MariaDB and MySQL, by PyMySQL."""
+"""MariaDB and MySQL, with PyMySQL."""
 
 from __future__ import annotations
 
@@ -43,15 +43,15 @@ _LACKS: Final = (1267, 3988)
 
 
 class StatementTimeout(OSError):
-    """max_statement_time ended the statement, which was undone."""
+    """max_statement_time ended the statement, and the server undid it."""
 
 
 class MariaDB(Dialect):
-    """MariaDB by PyMySQL.
+    """MariaDB with PyMySQL.
 
-    Under a column's collation 'a' = 'A' and 'a' = 'a ' may be true, so statements compare bytes. An
-    UPDATE that changes nothing counts no row, unless the client asks for FOUND_ROWS. Since each
-    record has a fresh salt, the count is right in both cases.
+    With a column's collation, 'a' = 'A' and 'a' = 'a ' may be true, so statements compare bytes.
+    The server doesn't count rows that an UPDATE leaves unchanged, unless the client requests
+    FOUND_ROWS. Since each record has a fresh salt, the count is right in both cases.
     """
 
     quote = "`"
@@ -230,7 +230,7 @@ class MariaDB(Dialect):
 
 
 class MySQL(MariaDB):
-    """MySQL by PyMySQL: like MariaDB, but without compound statements outside of a routine."""
+    """MySQL with PyMySQL: like MariaDB, but without compound statements outside of a routine."""
 
     key_sql = "VARCHAR(255) CHARACTER SET utf8mb4 COLLATE utf8mb4_0900_bin"
 
@@ -247,7 +247,7 @@ def shown_early(seen: dict[str, str]) -> tuple[Fault, ...]:
 
 
 def of_server(seen: dict[str, str]) -> Iterator[Fault]:
-    """The faults of a session of MariaDB."""
+    """The faults of a MariaDB session."""
     if "STRICT_" not in seen["sql_mode"]:
         yield warning("not-strict", "sql_mode isn't strict: the server truncates long values")
     level = seen.get("tx_isolation") or seen.get("transaction_isolation", "")

@@ -1,4 +1,4 @@
-"""The marks that earlier versions of the server kept beside the book; now the book stores them."""
+"""The marks that earlier versions of the server kept beside the book; the book now stores them."""
 
 from __future__ import annotations
 
@@ -21,7 +21,7 @@ async def take_in(service: Service) -> None:
     """Writes the marks of FILE-locks to the book, and then removes the file.
 
     After a fault, or a kill at any moment, the file still exists, and the next start repeats this
-    step. No socket is open before the end of this step, so nobody has changed a mark.
+    step. The sockets open only after this step, so nobody can have changed a mark.
     """
     path = f"{service.options.file}-locks"
     if not os.path.lexists(path):
@@ -43,7 +43,8 @@ async def take_in(service: Service) -> None:
 
 
 async def has_taken(service: Service, name: bytes, word: bytes) -> bool:
-    """Writes the mark of an operation to the book; false if no account can have the mark."""
+    """Writes the mark of an operation to the book; returns False if no account can have the
+    mark."""
     if not NAME.fullmatch(name):  # such as one that is too long for a line
         return False
     row = await asyncio.shield(service.book.row(name))
@@ -60,7 +61,7 @@ async def has_taken(service: Service, name: bytes, word: bytes) -> bool:
 
 
 async def mark_in_old_file(service: Service, name: bytes, word: bytes) -> bytes:
-    """Marks a user who is only in an old htpasswd file; the answer is empty for others."""
+    """Marks a user who is only in an old htpasswd file; for any other name the answer is empty."""
     if not service.foreign or not (await service.foreign.file.line(name)).record:
         return b""
     if word == b"expire":

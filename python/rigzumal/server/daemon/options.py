@@ -40,7 +40,7 @@ LINE = f"of a line's record; by default {TIMES} times that of --setting"
 
 @dataclass
 class Options:
-    """The values of the command line, with these defaults."""
+    """The values from the command line, with these defaults."""
 
     file: str = ""
     doors: list[Door] = field(default_factory=list)
@@ -67,15 +67,16 @@ class Options:
     fold_local_part: bool = option("change the part before the @ to lower case too")
 
     def bound(self) -> None:
-        """Bounds a line's costs if no option does: a costly record would delay everybody."""
+        """Sets a bound on the costs in a line if no option does, since a costly record would delay
+        everybody."""
         costs = costs_of(self.setting or USUAL)
         if costs:  # credkeep refuses what is no setting
             self.most_memory = self.most_memory or size_of(TIMES * costs.memory)
             self.most_work = self.most_work or size_of(TIMES * costs.work)
 
     def workers(self) -> int:
-        """The number of lines that the book hashes at once: a user's, and one more for another
-        user."""
+        """The number of lines that the book hashes at the same time: those of one user, and one
+        more for another user."""
         return 1 + min(self.at_once or len(os.sched_getaffinity(0)), MOST_AT_ONCE)
 
     def book_words(self) -> list[str]:
@@ -137,7 +138,7 @@ def parser() -> Parser:
 
 
 def parse(words: Sequence[str]) -> Options:
-    """The options of a command line; raises Problem for impossible ones."""
+    """The options on a command line; raises Problem for impossible ones."""
     options = parser().parse_args(words, Options())
     if options.metrics:
         return options

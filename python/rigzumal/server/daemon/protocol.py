@@ -1,8 +1,9 @@
-"""The operations and the answers of lines: one table of each.
+"""The operations and the answers of lines: one table for each.
 
-The server, credkeep-ask and the HTTP door read these tables. From them tools/protocol.py writes the
-replies of the clients for Python, the header of the PAM module, and the answers in docs/ERRORS.md
-and credkeep-server(8). tests/server/test_protocol.py tests whether all agree.
+The server, credkeep-ask and the HTTP door read these tables. From these tables tools/protocol.py
+writes the replies of the Python clients, the header of the PAM module, and the answers in
+docs/ERRORS.md and credkeep-server(8). tests/server/test_protocol.py tests whether all of them
+agree.
 """
 
 from __future__ import annotations
@@ -17,7 +18,7 @@ RIGHT, WRONG, ABSENT, NO_ACCOUNT = "yes", "no", "absent", "noaccount"
 
 @dataclass(frozen=True)
 class Answer:
-    """An answer with no other words, such as names, after it."""
+    """An answer without further words, such as names, after it."""
 
     meaning: str  # on pages
     tried: str = ""  # as what a try is counted that gets it
@@ -174,14 +175,14 @@ NO_ANSWER = Answer("")  # any other text
 
 @dataclass(frozen=True)
 class Command:
-    """A command of credkeep-ask for a server: the words after it, and its text of help."""
+    """A command of credkeep-ask for a server: its arguments, and its help text."""
 
     words: str
     text: str
 
     @cached_property
     def counts(self) -> range:
-        """The number of words after the command, without options."""
+        """The number of arguments after the command, without options."""
         words = [word for word in self.words.split() if not word.startswith(("[-", "[OPTION]"))]
         least = sum(not word.startswith("[") for word in words)
         return range(least, len(words) + 1)
@@ -207,7 +208,7 @@ class Operation:
 
     @cached_property
     def tries(self) -> bool:
-        """Whether a line has a present password, and so may be a guess."""
+        """Whether a line contains a present password, and may therefore be a guess."""
         return self.place("PW") > 0
 
     @cached_property
@@ -217,12 +218,12 @@ class Operation:
 
     @cached_property
     def new(self) -> int:
-        """The place of a new password among its fields; 0 without one."""
+        """The position of a new password among its fields; 0 if it has none."""
         return self.place("NEW")
 
     @cached_property
     def setting(self) -> int:
-        """The place of a setting among its fields; 0 without one."""
+        """The position of a setting among its fields; 0 if it has none."""
         return self.place("[SETTING]")
 
     @cached_property
