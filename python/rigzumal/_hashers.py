@@ -95,13 +95,13 @@ class _Hasher(Frozen):
         """A new record of the password.
 
         Args:
-            password: the password, of any length below 2^32 bytes.
-            salt: 8 to 48 bytes (of scrypt 1 to 48); by default getrandom(2) generates one.
+            password: the password, shorter than 2^32 bytes.
+            salt: 8 to 48 bytes (for scrypt 1 to 48); by default getrandom(2) generates one.
 
         Raises:
             InvalidNumbersError: the salt is too short or too long.
-            OutOfMemoryError: too little memory was free.
-            NoRandomError: the system returned no salt.
+            OutOfMemoryError: the free memory was too small.
+            NoRandomError: the system returned no random bytes.
             TypeError: the password is neither bytes nor str, or the salt isn't bytes.
         """
         chosen: Union[bytes, int] = self.salt_len
@@ -116,9 +116,9 @@ class _Hasher(Frozen):
         """True if the password is right.
 
         Raises:
-            VerifyMismatchError: the record is of another password.
-            InvalidRecordError: the text is no record; the exception has its first fault.
-            OutOfMemoryError: too little memory was free.
+            VerifyMismatchError: the record belongs to another password.
+            InvalidRecordError: the text isn't a record; the exception names its first fault.
+            OutOfMemoryError: the free memory was too small.
         """
         self._verified(hash, password)
         return True
@@ -170,28 +170,28 @@ class PasswordHasher(_Hasher):
 
     Attributes:
         time_cost: passes, 1 to 2^32 - 1.
-        memory_cost: in KiB, 8 a lane to 2097152.
+        memory_cost: in KiB, from 8 for each lane to 2097152.
         parallelism: lanes, 1 to 255.
-        hash_len: bytes of the tag, 4 to 64.
-        salt_len: bytes of a generated salt, 8 to 48.
+        hash_len: the size of the tag in bytes, 4 to 64.
+        salt_len: the size of a generated salt in bytes, 8 to 48.
         type: the kind of Argon2.
         secret: a pepper, which you keep apart from the records: RFC 9106's K. A hasher with a
-            secret verifies only records of that secret, and none of scrypt. The secret must not
-            be empty, so an unset variable is an error. No repr shows it.
-        threads: the number of threads that may compute the lanes of one record, with the
-            caller's; it changes no record. Use 1 in a service, where other logins use the other
+            secret verifies only records with that secret, and none of scrypt. The secret must not
+            be empty, so that an unset variable causes an error. No repr shows it.
+        threads: the number of threads that may compute the lanes of one record, including the
+            caller's; records don't show it. Use 1 in a service, where other logins use the other
             processors. Use `parallelism` in a program that hashes one password at a time: 64 MiB
             and four lanes take a third of the time on four idle processors. The library starts at
             most one thread for each processor, and none below 4 MiB.
-        secrets: the new pepper and older ones, instead of `secret`, while peppers rotate. A new
-            record uses the first, which is then `secret`. `verify` tries them all, so a wrong
-            password costs a hash for each. `verify_and_rehash` replaces records of older peppers.
-            b"" among the older ones is for records without a pepper.
+        secrets: the new pepper and older ones, instead of `secret`, to rotate peppers. A new
+            record uses the first, which is then `secret`. `verify` tries all of them, so a wrong
+            password costs a hash for each. `verify_and_rehash` replaces records with older peppers.
+            b"" among the older ones stands for records without a pepper.
 
     Raises:
-        InvalidNumbersError: a number is out of its range.
-        TypeError: a number is no int, or a secret isn't bytes.
-        ValueError: no such kind exists, both a secret and secrets are given, or a new record
+        InvalidNumbersError: a number is out of range.
+        TypeError: a number isn't an int, or a secret isn't bytes.
+        ValueError: no such kind exists, the caller passes both secret and secrets, or a new record
             would have an empty secret.
 
     The constructor warns of a memory_cost below 8192 (8 MiB) with LowMemoryWarning, once in each
@@ -264,14 +264,14 @@ class ScryptHasher(_Hasher):
 
     Attributes:
         log2_n: the cost N as a power of two, 1 to 23, below 16 * r.
-        block_size: r, 1 to 255. The table has 128 * r * N bytes, 2 GiB at most.
+        block_size: r, 1 to 255. The table has 128 * r * N bytes, at most 2 GiB.
         parallelism: p, 1 to 255; the caller's thread does all of the work.
-        hash_len: bytes of the key, 4 to 64.
-        salt_len: bytes of a generated salt, 1 to 48.
+        hash_len: the size of the key in bytes, 4 to 64.
+        salt_len: the size of a generated salt in bytes, 1 to 48.
 
     Raises:
-        InvalidNumbersError: a number is out of its range.
-        TypeError: a number is no int.
+        InvalidNumbersError: a number is out of range.
+        TypeError: a number isn't an int.
     """
 
     log2_n: int
@@ -324,9 +324,9 @@ def argon2(
     At most `threads` threads compute the lanes: see PasswordHasher.
 
     Raises:
-        InvalidNumbersError: a number is outside its range.
-        OutOfMemoryError: too little memory was free.
-        TypeError: an input isn't bytes, or a number is no int.
+        InvalidNumbersError: a number is out of range.
+        OutOfMemoryError: the free memory was too small.
+        TypeError: an input isn't bytes, or a number isn't an int.
     """
     whole_number("type", type)
     numbers = (type, version, memory_cost, time_cost, parallelism)
@@ -345,9 +345,9 @@ def scrypt(
     """Computes the scrypt key of `length` bytes (RFC 7914), with N = 2^log2_n.
 
     Raises:
-        InvalidNumbersError: a number is outside its range.
-        OutOfMemoryError: too little memory was free.
-        TypeError: an input isn't bytes, or a number is no int.
+        InvalidNumbersError: a number is out of range.
+        OutOfMemoryError: the free memory was too small.
+        TypeError: an input isn't bytes, or a number isn't an int.
     """
     costs = _library.ScryptNumbers(*map(checked, (log2_n, r, p)))
     data = (*pair(_library.bytes_of(password)), *pair(_library.data_of(salt)))

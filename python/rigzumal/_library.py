@@ -31,7 +31,7 @@ class RigzumalError(Exception):
 
     Attributes:
         number: the fault's number, as in rigzumal.h.
-        word: its name in one word, such as "salt".
+        word: the fault's name in one word, such as "salt".
     """
 
     def __init__(self, number: int, said: str = "") -> None:

@@ -28,7 +28,7 @@ def opaque_string(text: str) -> str:
     some contexts, or not at all.
 
     Raises:
-        ValueError: the text is empty, or has a character that the RFC refuses: a control character,
+        ValueError: the text is empty, or has a character that the RFC forbids: a control character,
         a character that this Python's Unicode doesn't define, or an invisible one. The exception
         doesn't show the text.
     """

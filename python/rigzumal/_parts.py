@@ -20,8 +20,8 @@ class Parts(Frozen):
         memory: KiB for Argon2; log2 of N for scrypt.
         passes: the passes of Argon2; the block size r for scrypt.
         lanes: the lanes of Argon2; the parallelism p for scrypt.
-        salt_size: bytes of the salt.
-        tag_size: bytes of the tag.
+        salt_size: the size of the salt in bytes.
+        tag_size: the size of the tag in bytes.
     """
 
     scheme: str
@@ -42,7 +42,7 @@ def parts(record: Secret) -> Parts:
     """Reads the numbers of a record, for example to decide about a rehash.
 
     Raises:
-        InvalidRecordError: the text is no record; the exception has its first fault.
+        InvalidRecordError: the text isn't a record; the exception names its first fault.
     """
     found = _library.parts(record)
     scheme, *numbers = (getattr(found, name) for name, *_ in found._fields_)

@@ -50,7 +50,7 @@ class _OneBackend:
         """Chooses the single backend.
 
         Raises:
-            MissingBackendError: the name is that of another backend.
+            MissingBackendError: the name belongs to another backend.
         """
         if not cls.has_backend(name):
             raise handlers.exc.MissingBackendError(f"no such backend: {name!r}")
@@ -74,7 +74,7 @@ class argon2(_OneBackend, _argon2._Argon2Common):
         """The parts of a record.
 
         Raises:
-            ValueError: the text is no record; also for broken base64, for which passlib raises a
+            ValueError: the text isn't a record; also for invalid base64, for which passlib raises a
                 TypeError.
         """
         try:

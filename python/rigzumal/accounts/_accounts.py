@@ -35,31 +35,31 @@ class Accounts(Operations[Pool]):
             the connection, or roll back, before it lends the connection again.
         dialect: the dialect of the database, with the names of the table and its columns.
         hasher: PasswordHasher or ScryptHasher, for the costs of new records. Its tags must have 32
-            bytes. Its `threads` have no effect. With a secret, a record of scrypt counts as one of
-            another scheme. With `secrets`, a login replaces a record of an older secret.
+            bytes. Its `threads` has no effect. With a secret, a scrypt record counts as one of
+            another scheme. With `secrets`, a login replaces a record with an older secret.
         replica: a pool of a replica, for the copies of records. The replica may lag, since each
-            answer comes from the primary's record. If it is down or refuses, operations read copies
+            answer depends on the primary's record. If it is down or refuses, operations read copies
             from the primary too.
         foreign: a function that checks passwords against records of other schemes, as (text,
-            password) -> bool or None. Any other answer is a TypeError, and nothing is stored.
+            password) -> bool or None. Any other answer raises a TypeError, and nothing is stored.
         upgrade_from: costs such as "$argon2i$v=19$m=65536,t=3,p=4" that an upgrade replaces even if
             the new costs aren't higher.
-        tries: the number of times to try an operation whose commit finds another record; 1 or more.
+        tries: how often to try an operation whose commit finds a different record; 1 or more.
         patience: the seconds to wait for a new connection, a busy server, or a lost answer; 0 or
-            more. It ends no statement that hangs, and no wait of a pool for a connection: set
+            more. It doesn't end a statement that hangs, or a pool's wait for a connection: set
             separate limits of some seconds for both.
         confirm: whether to confirm an answer without a change, such as a verify's, by writing the
-            record over itself. Use it with servers that show a change before it is safe (MariaDB
+            record again. Use it with servers that show a change before it is safe (MariaDB
             without a binary log). A login then costs as much as a change.
-        least_length: the fewest characters of a new password; a login has no such bound.
+        least_length: the minimum length of a new password; logins have no such bound.
         prepare: a function, such as `rigzumal.opaque_string`, that turns a password that is text,
             new or present, into the text for the hash. Use it from the table's first record on: a
-            record of another form of the password counts as one of another password.
+            record of a different form of the password counts as one of another password.
 
     Raises:
-        TypeError: the pool, the dialect, the hasher or the hook is of a wrong kind.
+        TypeError: the pool, the dialect, the hasher or the hook has a wrong type.
         ValueError: a number, or the size of the hasher's tag, is out of range.
-        InvalidRecordError: one of `upgrade_from` isn't costs.
+        InvalidRecordError: an entry of `upgrade_from` isn't costs.
 
     Each operation accepts `also`, a function of the driver's connection and the reply. The library
     calls `also` in the operation's transaction, while it holds the lock of the account's row and
@@ -71,18 +71,18 @@ class Accounts(Operations[Pool]):
     same table.
 
     Every operation may raise:
-        TypeError: the key is of another type than its column, or a password is neither
+        TypeError: the key's type differs from its column's, or a password is neither
             bytes nor text; no row was read. A hook returned a wrong answer,
             or `also` has ended the transaction; no record was written.
-        ValueError: a new password is too short, has over 256 bytes or no UTF-8, or `prepare`
+        ValueError: a new password is too short, isn't UTF-8 or has over 256 bytes, or `prepare`
             refuses it; or the name of an enrolment is empty, or begins or ends with a blank. No row
             was read. A present password of such a form counts as wrong, after one hash.
         StoreFault: the table, the server or the connection has a fault.
-        InvalidRecordError: the record is of another scheme, and no hook accepts it.
-        Unavailable: no server did the operation in time, and nothing was stored.
-        OutcomeUnknown: at a change, or with `also`: COMMIT had no answer, and the row doesn't show
-            whether the change was stored.
-        OutOfMemoryError: too little memory was free for the costs.
+        InvalidRecordError: the record has another scheme, and no hook accepts it.
+        Unavailable: no server completed the operation in time, and nothing was stored.
+        OutcomeUnknown: after a change, or with `also`, COMMIT had no answer, and the row doesn't
+            show whether the change was stored.
+        OutOfMemoryError: the free memory was too small for the costs.
         Exception: any exception of the pool or the hooks.
     """
 
@@ -166,7 +166,7 @@ class Accounts(Operations[Pool]):
         `examine` warns of a full disk if the filesystem reports it, but not of a user's quota.
 
         Raises:
-            TypeError: an argument is no Kind.
+            TypeError: an argument isn't a Kind.
             StoreFault: the connection isn't in autocommit, or has a transaction open.
             Exception: whatever the driver raises.
         """
@@ -251,8 +251,8 @@ class AsyncAccounts(Operations[AsyncPool]):
     after `OutcomeUnknown`.
 
     Args:
-        executor: a ThreadPoolExecutor, an argument only of AsyncAccounts. Each of its threads may
-            need the memory of one hash. The default is asyncio's own executor, which also looks up
+        executor: a ThreadPoolExecutor, only for AsyncAccounts. Each of its threads may
+            need the memory of one hash. The default is asyncio's own executor, which also resolves
             hosts.
     """
 

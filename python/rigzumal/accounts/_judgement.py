@@ -18,17 +18,18 @@ from rigzumal.accounts.types import Ticket, Worked, bytes_of_password
 Hasher = Union[PasswordHasher, ScryptHasher]
 
 Foreign = Callable[[str, bytes], Union[Optional[bool], Awaitable[Optional[bool]]]]
-"""Judges a text that is no record of ours: True if it is one of the password, or False.
+"""Checks a password against a record of another scheme: True if it is right, otherwise False.
 
-None says that no password is right and that the hook hashed nothing, as for a locked
-login: a hash of ours then makes the answer need as long. Any other answer is a TypeError.
-AsyncAccounts awaits a coroutine function, and calls a function in its executor.
+None means that no password is right and that the hook hashed nothing, as for a locked
+login: Rigzumal then computes a hash, so that the answer takes equally long. Any other answer
+raises a TypeError. AsyncAccounts awaits a coroutine function, and calls any other function in
+its executor.
 """
 
 Prepare = Callable[[str], str]
-"""The form of a password that is hashed, such as `rigzumal.opaque_string`.
+"""Converts a password to the form that is hashed, as `rigzumal.opaque_string` does.
 
-Its ValueError says that no account has such a password.
+It raises ValueError for a password that no account may have.
 """
 
 FOREIGN_HINT: Final = ": pass Accounts a `foreign` that checks records of other schemes"
@@ -111,7 +112,7 @@ class Judge:
     """Carries out requests on copies of records; the hasher of Accounts creates new records.
 
     Attributes:
-        sample: a record of the hasher's costs that no password is right for.
+        sample: a record with the hasher's costs for which no password is right.
         foreign: the hook for texts of other schemes, or None.
     """
 

@@ -35,7 +35,7 @@ class Database:
     """A database by its URL, and how to connect to it.
 
     Raises:
-        ValueError: the URL is of no known kind, or names no file.
+        ValueError: the URL's scheme is unknown, or the URL names no file.
     """
 
     url: str = field(repr=False)

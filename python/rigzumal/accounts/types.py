@@ -103,8 +103,8 @@ class Request:
     """A requested operation on an account.
 
     Raises:
-        TypeError: the kind is no Kind, or a password is neither bytes nor text.
-        ValueError: a new password has over 256 bytes, or is text without UTF-8.
+        TypeError: the kind isn't a Kind, or a password is neither bytes nor text.
+        ValueError: a new password has over 256 bytes, or UTF-8 can't encode it.
     """
 
     kind: Kind

@@ -65,15 +65,15 @@ class PasswordHasher:
 
     Args:
         time_cost: passes, 1 or more.
-        memory_cost: in KiB, 8 a lane to 2097152.
+        memory_cost: in KiB, from 8 for each lane to 2097152.
         parallelism: lanes, 1 to 255, and the number of threads that may compute them.
-        hash_len: bytes of the tag, 4 or more.
-        salt_len: bytes of a generated salt, 8 or more.
+        hash_len: the size of the tag in bytes, 4 or more.
+        salt_len: the size of a generated salt in bytes, 8 or more.
         encoding: the encoding of passwords that are text.
         type: the kind of Argon2.
 
     Raises:
-        TypeError: a value is of another type.
+        TypeError: a value has a wrong type.
     """
 
     __slots__ = ["_parameters", "encoding"]
@@ -123,7 +123,7 @@ class PasswordHasher:
         """A new encoded hash; the call generates a salt if the caller passes none.
 
         Raises:
-            HashingError: a number or a size is outside its range, or memory is short.
+            HashingError: a number or a size is out of range, or memory is short.
         """
         secret = _bytes_of(password, self.encoding)
         salt = os.urandom(self.salt_len) if salt is None else salt
@@ -135,9 +135,9 @@ class PasswordHasher:
         """True if the password is right for the hash.
 
         Raises:
-            VerifyMismatchError: the hash is of another password.
+            VerifyMismatchError: the hash belongs to another password.
             VerificationError: the verification failed for another reason.
-            InvalidHashError: the hash begins with none of Argon2's kinds, or isn't a string of C.
+            InvalidHashError: the hash doesn't begin with a kind of Argon2, or isn't a C string.
         """
         try:
             encoded = _bytes_of(hash, "ascii")
@@ -153,6 +153,6 @@ class PasswordHasher:
         """Whether the hash's parameters differ from this hasher's.
 
         Raises:
-            InvalidHashError: the text is no hash of Argon2.
+            InvalidHashError: the text isn't a hash of Argon2.
         """
         return self._parameters != extract_parameters(hash)

@@ -115,8 +115,8 @@ class Parameters:
     Attributes:
         type: the kind.
         version: 19, or 16 for old hashes; 18 for old hashes without a version.
-        salt_len: bytes of the salt.
-        hash_len: bytes of the tag.
+        salt_len: the size of the salt in bytes.
+        hash_len: the size of the tag in bytes.
         time_cost: passes.
         memory_cost: in KiB.
         parallelism: lanes.
@@ -197,7 +197,7 @@ def extract_parameters(hash: Union[str, bytes]) -> Parameters:
     """The parameters of an encoded hash.
 
     Raises:
-        InvalidHashError: the text is no hash of Argon2.
+        InvalidHashError: the text isn't a hash of Argon2.
     """
     try:
         text = _library.bytes_of(hash)
@@ -268,7 +268,7 @@ def hash_secret_raw(
     """The tag of hash_len bytes, with memory_cost in KiB and a thread for each lane.
 
     Raises:
-        HashingError: a number or a size is outside its range, or there is too little memory.
+        HashingError: a number or a size is out of range, or memory is short.
         TypeError: the secret or the salt isn't bytes.
     """
     secret, salt = _library.data_of(secret), _library.data_of(salt)
@@ -308,8 +308,8 @@ def verify_secret(hash: bytes, secret: bytes, type: Type) -> Literal[True]:
     """True if the encoded hash has this type and the secret is right; uses a thread for each lane.
 
     Raises:
-        VerifyMismatchError: the hash is of another secret.
-        VerificationError: the text is no hash of this type, or there is too little memory.
+        VerifyMismatchError: the hash belongs to another secret.
+        VerificationError: the text isn't a hash of this type, or memory is short.
     """
     hash, secret = _library.data_of(hash), _library.data_of(secret)
     if not hash.startswith(f"$argon2{type.name.lower()}$".encode()):

@@ -121,9 +121,9 @@ class Argon2PasswordHasher(_RecordHasher):
 
     Attributes:
         time_cost: passes.
-        memory_cost: in KiB, 8 a lane to 2097152.
+        memory_cost: in KiB, from 8 for each lane to 2097152.
         parallelism: lanes, 1 to 255; a login computes all of them on its own thread.
-        hash_len: bytes of the tag; an existing record may have fewer, down to 16.
+        hash_len: the size of the tag in bytes; an existing record may have fewer, down to 16.
     """
 
     algorithm = "argon2"

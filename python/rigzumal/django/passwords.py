@@ -5,8 +5,8 @@ They call a model's own `check_password` and `set_password` if the model has the
 
 Each operation may raise:
     ValueError: the user isn't saved.
-    RecordChanged: the row's record has changed since the user was read, and stays as it is; for the
-        first three, it changed eight times.
+    RecordChanged: the row's record has changed since the user was read, and stays unchanged;
+        for the first three, it changed eight times.
     ImproperlyConfigured: the model has a method that these calls would skip.
 """
 

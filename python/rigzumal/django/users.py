@@ -103,7 +103,7 @@ class CompareAndSetMixin(models.Model):
 
         Raises:
             RecordChanged: the password was set, and the row's record has changed. The
-                caller's transaction can go on.
+                caller's transaction can continue.
         """
         if update_fields is not None:
             update_fields = frozenset(update_fields)

@@ -94,8 +94,8 @@ class Question:
     """An operation, its names and passwords.
 
     Attributes:
-        no_name: the reply if no book can have the name; without it `Refused` is raised.
-        wrong: the reply if no record can have the first password; without it a ValueError.
+        no_name: the reply if no book allows the name; without it, the client raises `Refused`.
+        wrong: the reply if no record can have the first password; without it, a ValueError.
     """
 
     operation: str
@@ -117,8 +117,8 @@ class Question:
 
         Raises:
             TypeError: a password is neither bytes nor text.
-            ValueError: a password has over 256 bytes, or is text that has no UTF-8.
-            Refused: no book can have a name (3 name).
+            ValueError: a password has over 256 bytes, or UTF-8 can't encode it.
+            Refused: no book allows a name (3 name).
         """
         if not all(map(may_be_name, self.names)):
             raise Refused(3, "name")
@@ -133,7 +133,7 @@ class Question:
         """The reply in a received line.
 
         Raises:
-            ServerError: as in `answer_of`; also Unavailable for a text that is no reply.
+            ServerError: as in `answer_of`; also Unavailable for a text that isn't a reply.
         """
         try:
             return Reply(answer_of(tag, line))
@@ -166,7 +166,7 @@ def answer_of(tag: bytes, line: bytes) -> str:
     """The answer in a line with this tag.
 
     Raises:
-        ServerError: one of the classes above; also Unavailable for a line that is no answer.
+        ServerError: one of the classes above; also Unavailable for a line that isn't an answer.
     """
     found, _, said = line.partition(b" ")
     if found != tag or not line.endswith(b"\n") or not said[:-1].isascii():
@@ -211,7 +211,7 @@ class Calls(Generic[Replied, Listed]):
         requires. SAME: the password must be changed, but the new one is the same as the old one.
 
         Raises:
-            ValueError: the new password has over 256 bytes, or is text with no UTF-8.
+            ValueError: the new password has over 256 bytes, or UTF-8 can't encode it.
         """
         both, replies = (password, new_password), (Reply.NO_ACCOUNT, Reply.WRONG)
         return self._reply(Question("change", (name,), both, *replies))
@@ -275,7 +275,7 @@ class Client(Calls[Reply, list[str]]):
 
     Args:
         path: the path of the socket.
-        timeout: the longest time of a call, in seconds.
+        timeout: the time limit of a call, in seconds.
 
     Each call may raise `ServerError`, and an administrator's calls ValueError for a
     password of over 256 bytes.

@@ -23,7 +23,7 @@ class Client(Calls[Coroutine[Any, Any, Reply], Coroutine[Any, Any, "list[str]"]]
 
     Args:
         path: the path of the socket.
-        timeout: the longest time of a call, in seconds.
+        timeout: the time limit of a call, in seconds.
     """
 
     def __init__(

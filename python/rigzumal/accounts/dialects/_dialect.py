@@ -68,14 +68,14 @@ class Dialect:
     statement compares the record byte by byte, and treats NULL as equal to NULL.
 
     Args:
-        table: its name, with its schema in front if it isn't on the search path.
+        table: its name, preceded by its schema if that isn't on the search path.
         key: the column that names an account; it is unique.
         record: the column of the records; it may be NULL.
         key_type: the Python type of the key column: str, int or bytes; on PostgreSQL also
             uuid.UUID.
 
     Attributes:
-        key, record: the columns, as a statement has them.
+        key, record: the columns, in the form for statements.
         select: the statement that reads the record of a key.
         locked: the same, with the UPDATE's lock on the row until the transaction ends. A weaker
             lock, which two logins can hold, deadlocks if both then update the row.
@@ -84,7 +84,7 @@ class Dialect:
             statement.
         insert: adds the account of a key, without a record.
         every: reads all keys and records.
-        returns: whether the UPDATE answers with the record that it wrote.
+        returns: whether the UPDATE returns the record that it wrote.
         drivers: the modules whose errors are the driver's; if empty, each `Error` of the
             DB-API is one.
         execute_options: keywords of the driver's `execute`.
