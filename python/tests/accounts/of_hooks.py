@@ -237,7 +237,7 @@ class RowsOfOnesOwn:
         self.assertEqual(self.execute("SELECT failures FROM users"), [(60,)])
 
     @each(
-        ("shouting", "than the one that was written"),
+        ("shouting", "from the one that was written"),
         ("ignoring", "which an UPDATE doesn't change"),
         ("emptying", "another record|doesn't change it"),
     )

@@ -255,7 +255,7 @@ POSTGRES_TABLES = (
     (f"{TEXTS}; {INDEX} (name) INCLUDE (record)",),
     # The index is invalid, as after CREATE UNIQUE INDEX CONCURRENTLY found a key twice.
     (f"{TEXTS}; {INDEX} (name); {INVALID}", NOT_UNIQUE),
-    ("name text PRIMARY KEY, record char(300)", "character(300)", "than the one that was written"),
+    ("name text PRIMARY KEY, record char(300)", "character(300)", "from the one that was written"),
     ("name text PRIMARY KEY, record bytea", "record is bytea, not text", "the record is not text"),
     ("name text PRIMARY KEY, record citext",),
     ("name other.ci PRIMARY KEY, record other.ci", CASE),
@@ -378,7 +378,7 @@ class OnMariaDB(OnServer, engines.OnMariaDB, support.Base):
             self.table("TEXT", key.format(charset, f"{charset}_nopad_bin"))
             accounts = self.accounts(connect=self.setting(charset=connection))
             with self.subTest(charset=charset, connection=connection):
-                self.assertIn(f"names outside of {lacking}", self.said(accounts))
+                self.assertIn(f"a name outside of {lacking}", self.said(accounts))
                 for more in ({}, {"also": lambda conn, reply: None}):
                     self.assert_no_account(accounts, "an\U0001f600", **more)
 
