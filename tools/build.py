@@ -293,9 +293,7 @@ def main():
     )
     if is_lacking and asked.built:
         variable = "ARCH" if level == ARM64 else "CPU"
-        raise SystemExit(
-            f"{program} isn't built for {level}: make programs {variable}={level} does it"
-        )
+        raise SystemExit(f"{program} isn't built for {level}: run make programs {variable}={level}")
     if is_lacking and not has_rt():
         if not programs.PACKED.is_dir():  # a checkout has none, and a tarball has
             need_rt(f"prove and build {program}")

@@ -67,7 +67,7 @@ class Program:
             if word != "help"
         ]
         if not self.top.options:
-            sys.exit(f"{path} --help names no option")
+            sys.exit(f"{path} --help lists no options")
 
     def after(self, *values):
         """The pattern of the words after a command whose first value is one of these."""

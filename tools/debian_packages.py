@@ -96,7 +96,7 @@ def install(names: list[str]) -> str:
 
 def main() -> int:
     if shutil.which("dpkg-query") is None or shutil.which("apt-get") is None:
-        print("packages: this is no Debian: tests that need a missing program are skipped by name")
+        print("packages: this isn't Debian: tests skip by name what they lack")
         return 0
     names = missing()
     if not names:
@@ -108,7 +108,7 @@ def main() -> int:
     if fault := install(names):
         print(f"packages: {fault[-2000:]}")
     if left := missing():
-        print(f"packages: not to be had, so their tests are skipped: {' '.join(left)}")
+        print(f"packages: not available, so their tests are skipped: {' '.join(left)}")
     return 0
 
 

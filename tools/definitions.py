@@ -45,7 +45,7 @@ def closing(found: list[str], start: int) -> int:
         depth += (found[at] == "{") - (found[at] == "}")
         if depth == 0:
             return at
-    raise ValueError(f"a brace that doesn't close: {' '.join(found[start : start + 9])}")
+    raise ValueError(f"an unclosed brace: {' '.join(found[start : start + 9])}")
 
 
 def entries(found: list[str]) -> Iterator[list[str]]:
@@ -194,7 +194,7 @@ class Definitions:
         if not self.is_ours(path):
             return ".".join(path)
         if path[2] == "specs" and path[3] not in MADE:
-            raise LookupError(f"{'.'.join(path)} is named, and isn't there")
+            raise LookupError(f"{'.'.join(path)} is named, but doesn't exist")
         return ".".join([path[1], *(it for it in path[3:] if not it[0].islower())])
 
     def meaning(self, text: Text) -> Meaning:

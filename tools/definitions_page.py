@@ -154,10 +154,10 @@ def check() -> Iterator[str | None]:
         yield f"docs/DEFINITIONS.md: {wrong}"
         return
     blocks = [it[0] for it in BLOCK.finditer(wanted)]
-    yield None if blocks else "docs/DEFINITIONS.md asks for no definitions"
+    yield None if blocks else "docs/DEFINITIONS.md has no block of definitions"
     for found, block in zip(BLOCK.finditer(page), blocks):
         said = found[1].partition(" up to ")[0]
-        wrong_block = f"docs/DEFINITIONS.md: {said} isn't as in specs/: `{WRITE}` corrects it"
+        wrong_block = f"docs/DEFINITIONS.md: {said} differs from specs/: `{WRITE}` corrects it"
         yield None if found[0] == block else wrong_block
 
 

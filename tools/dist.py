@@ -36,7 +36,7 @@ def git(*words):
 def committed():
     """Each committed file by its name, with its bytes, and whether it is executable."""
     if git("status", "--porcelain"):
-        sys.exit("make dist packs what is committed: commit your changes first")
+        sys.exit("make dist packs committed files: commit your changes first")
     with tarfile.open(fileobj=io.BytesIO(git("archive", "--format=tar", "HEAD"))) as archive:
         files = [it for it in archive if it.isfile()]
         return {it.name: (archive.extractfile(it).read(), bool(it.mode & 0o100)) for it in files}
@@ -53,10 +53,10 @@ def objects():
                     yield str(packed), ((folder / name).read_bytes(), False)
             elif level == programs.ARM64:
                 print(
-                    f"{program} for {level} isn't built, and is left out: make programs ARCH=arm64"
+                    f"{program} for {level} isn't built, and is omitted: run make programs ARCH=arm64"
                 )
             else:
-                sys.exit(f"{program} for {level} isn't built: make dist does it")
+                sys.exit(f"{program} for {level} isn't built: run make dist")
 
 
 def tarball(files, seconds):

@@ -133,7 +133,7 @@ class File:
         kind = self.tokens[kind_at].text if kind_at < end else ";"
         words = self.words(at, min(kind_at + 1, end))
         if "!" in words[:2]:
-            raise ValueError(f"a macro among items, whose items aren't seen: {words[0]}!")
+            raise ValueError(f"a macro among items, which hides its items: {words[0]}!")
         if kind == "const" and self.tokens[kind_at + 1].text == "fn":
             kind, kind_at = "fn", kind_at + 1
         name = self.tokens[kind_at + 1].text if kind_at + 1 < end else ""

@@ -152,7 +152,7 @@ def times() -> Facts:
     """README's times, compared with BUILDING's table, and the number of processors."""
     readme, building = (" ".join(it.read_text().split()) for it in (README, BUILDING))
     rows = [re.search(rf"\| {re.escape(it)}[^|]*\| ([^|]*) \|", building) for it in TIMES]
-    processors = re.search(r"These are of [^.]*?(\w+ processors)", building)
+    processors = re.search(r"The times below are from [^.]*?(\w+ processors)", building)
     if processors is None or None in rows:
         lost = [it for it, row in zip(TIMES, rows) if row is None] or ["some number of processors"]
         yield f"docs/BUILDING.md has no time of {lost[0]}"
@@ -335,7 +335,7 @@ def facts() -> Iterator[str | None]:
 
 def main() -> int:
     unseen = [] if tree.has_rt() else OF_TOOLCHAIN.values()
-    return report([*facts()], [f"left out, as {tree.RT} isn't there: {it}" for it in unseen])
+    return report([*facts()], [f"omitted, since {tree.RT} is missing: {it}" for it in unseen])
 
 
 if __name__ == "__main__":

@@ -249,7 +249,7 @@ def check():
     """The fault of each picture that Python alone draws."""
     for name in DRAWN.keys() - {"crates.svg"}:
         is_new = (PICTURES / name).read_text() == drawn(name)
-        old = f"docs/pictures/{name} is of another text: run tools/pictures.py {name}"
+        old = f"docs/pictures/{name} differs from its text: run tools/pictures.py {name}"
         yield None if is_new else old
 
 

@@ -213,7 +213,7 @@ def main() -> int:
     words = reader.parse_args().words or [""]
     chosen = [it for it in PLANTS if any(word in it.file for word in words)]
     if not chosen:
-        raise SystemExit(f"no plant is of a file with {' or '.join(words)} in its name")
+        raise SystemExit(f"no plant changes a file with {' or '.join(words)} in its name")
     refused = 0
     with tempfile.TemporaryDirectory(prefix="rigzumal-plants-") as folder:
         room = pathlib.Path(folder)

@@ -132,7 +132,7 @@ def main():
         if options.write:
             path.write_text(text)
         else:
-            print(f"{path.relative_to(TOP)} isn't of the table: tools/protocol.py --write")
+            print(f"{path.relative_to(TOP)} differs from the table: run tools/protocol.py --write")
             status = 1
     return status
 

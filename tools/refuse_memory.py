@@ -41,7 +41,7 @@ def tests_of(crate, word):
     """The tests of a crate with the word in their names, each as a command."""
     program = CRATES / crate / "out" / f"{crate}_tests"
     if not program.exists():
-        sys.exit(f"{program} isn't there: run rt test in its crate, or rt ci")
+        sys.exit(f"{program} doesn't exist: run rt test in its crate, or rt ci")
     listed = subprocess.run(
         [program, "--list"], capture_output=True, text=True, check=True
     ).stdout.splitlines()

@@ -139,7 +139,7 @@ def sources_of(crate: str, crates: pathlib.Path) -> Iterator[Source]:
 
 
 def imports_of(item: Item) -> list[tuple[str, Place]]:
-    """The imports of a `use` of code: each local name, with its path."""
+    """The imports in a `use` of Rattle code: each local name, with its path."""
     path = item.head[item.head.index("use") + 1 :]
     if "*" in path:
         raise ValueError(f"an import of names that aren't seen: {''.join(path)}")

@@ -259,7 +259,7 @@ class Trial:
         functions = sorted({it.function for it in edits if bench.has(it.function)})
         status, output = bench.check(bench.texts, seed, functions)
         if status:
-            raise RuntimeError(f"its functions aren't proved as they stand: {output[-2000:]}")
+            raise RuntimeError(f"its unchanged functions aren't proved: {output[-2000:]}")
         shutil.rmtree(kept, ignore_errors=True)
         link(seed, kept)
 

@@ -65,7 +65,7 @@ def _words() -> argparse.ArgumentParser:
     add("--threads", type=positive, default=1, help=threads)
     below = "allow costs below OWASP's minimum, m=19456,t=2"
     add("--below", action="store_true", help=below)
-    accounts = "accounts in a service's own database: accounts --help"
+    accounts = "manages accounts in a database: see accounts --help"
     commands.add_parser("accounts", help=accounts)
     return words
 

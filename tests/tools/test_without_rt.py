@@ -84,7 +84,7 @@ class WithoutRt(helpers.Case):
         """The parts that need the toolchain are left out, and named; the rest is compared."""
         lines = self.ended("python tools/pages.py").written.splitlines()
         self.assertRegex(lines[-1], r"^\d{4} passed, \d+ failed, 2 left out$")
-        left_out = [it for it in lines if it.startswith("left out, as rt isn't there: ")]
+        left_out = [it for it in lines if it.startswith("omitted, since rt is missing: ")]
         self.assertEqual(len(left_out), 2)
 
     def test_gate(self) -> None:

@@ -12,7 +12,7 @@ from typing import Any, Final
 
 
 class Also:
-    """A caller's `also` that is running, within an operation on a table over a pool.
+    """A running `also` of a caller, with the table and the pool of its operation.
 
     Attributes:
         is_over: whether the hook has ended: a task that it created keeps its context for ever.

@@ -239,7 +239,7 @@ class RowsOfOnesOwn:
     @each(
         ("shouting", "from the one that was written"),
         ("ignoring", "which an UPDATE doesn't change"),
-        ("emptying", "another record|doesn't change it"),
+        ("emptying", "record differs|doesn't change"),
     )
     def test_triggers(self, name, said):
         """A trigger's change of a record is undone with the hook's row, and the error doesn't show
