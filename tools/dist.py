@@ -52,9 +52,8 @@ def objects():
                     packed = programs.PACKED.relative_to(TOP) / level / name
                     yield str(packed), ((folder / name).read_bytes(), False)
             elif level == programs.ARM64:
-                print(
-                    f"{program} for {level} isn't built, and is omitted: run make programs ARCH=arm64"
-                )
+                hint = "run make programs ARCH=arm64"
+                print(f"{program} for {level} isn't built, and is omitted: {hint}")
             else:
                 sys.exit(f"{program} for {level} isn't built: run make dist")
 
