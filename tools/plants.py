@@ -221,7 +221,7 @@ def main() -> int:
         top = copied(room)
         failing = failures(top, {it.jobs for it in chosen})
         for name in failing:
-            print(f"it fails with nothing planted: {name}", flush=True)
+            print(f"it fails without a plant: {name}", flush=True)
         for plant in chosen:
             began = time.monotonic()
             by = refusal(top, plant, failing)

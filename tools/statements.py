@@ -142,7 +142,7 @@ def imports_of(item: Item) -> list[tuple[str, Place]]:
     """The imports in a `use` of Rattle code: each local name, with its path."""
     path = item.head[item.head.index("use") + 1 :]
     if "*" in path:
-        raise ValueError(f"an import of names that aren't seen: {''.join(path)}")
+        raise ValueError(f"an import of unknown names: {''.join(path)}")
     return [*definitions.imported(["." if it == "::" else it for it in path])]
 
 

@@ -297,7 +297,7 @@ UNSEEN = [
         "low/src/lib.rt",
         "use crate::limits::LIMIT;",
         "use crate::limits::*;",
-        "an import of names that aren't seen: crate::limits::*",
+        "an import of unknown names: crate::limits::*",
     ),
 ]
 

@@ -21,7 +21,7 @@ def _options() -> Words:
     words.add_argument("--table", help="by default: accounts")
     words.add_argument("--key", help="the column of names; by default: name")
     words.add_argument("--record", help="the column of records; by default: record")
-    words.add_argument("--numbers", action="store_true", help="names are whole numbers")
+    words.add_argument("--numbers", action="store_true", help="the names are whole numbers")
     words.add_argument("--json", action="store_true", help="write lines of JSON")
     confirm = "confirm each answer by a write (docs/SCALE.md)"
     words.add_argument("--confirm", action="store_true", help=confirm)

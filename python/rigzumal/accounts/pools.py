@@ -206,7 +206,7 @@ class PerUse:
             if not inspect.isawaitable(connecting):
                 with suppress(Exception):
                     connecting.close()  # type: ignore[attr-defined]
-                raise TypeError("`connect` returned no awaitable: use Accounts and PerThread")
+                raise TypeError("`connect` didn't return an awaitable: use Accounts and PerThread")
             opening = asyncio.ensure_future(connecting)
             try:
                 return await asyncio.shield(opening)
