@@ -1,5 +1,5 @@
-"""The waits and their causes, over a clock and a runtime that only note them; and the arguments of
-a database's driver by a URL, which stand-ins note."""
+"""The waits and their causes, over a clock and a runtime that only record them; and the arguments
+that URLs pass to database drivers, which stand-ins record."""
 
 import contextlib
 import contextvars
@@ -27,8 +27,8 @@ REFUSED = sqlite3.OperationalError("no such table: users")
 
 class Patience(unittest.TestCase):
     def connections(self, *answers, patience=10.0, replica=None):
-        """Connections over a runtime whose first uses end so, while the next succeeds; a pause
-        passes at once."""
+        """Connections over a runtime whose first uses end in these ways, and whose next use
+        succeeds; a pause passes at once."""
         runtime, time = mock.AsyncMock(now=100.0, pauses=[]), _connections.time
         runtime.use.side_effect = [*answers, "done"]
 
@@ -103,7 +103,7 @@ class Patience(unittest.TestCase):
         self.assertEqual(runtime.pauses, [])
 
     def test_a_replica_is_asked_once(self):
-        """After a replica's fault the primary does the work, and the log gets the fault once; a
+        """After a replica's fault the primary does the work, and the fault is logged once; a
         program's exception is raised."""
         faults = (REFUSED, StoreFault("x"), Unavailable("its pool is full"))
         for answer in (BUSY, Lost(), Undone(BUSY), *faults):
@@ -268,8 +268,8 @@ class Urls(unittest.TestCase):
 
     @each("sec%ret", "sec@ret", "sec/ret@x", "%", "a%zz")
     def test_a_password_that_is_no_part_of_a_url(self, password):
-        """The error says how to write such a password, and neither it nor a host's look-up has the
-        password."""
+        """The error says how to write such a password; neither the error nor a lookup of the host
+        contains the password."""
         for kind in ("mysql", "mariadb", "postgresql", "postgres"):
             with self.assertRaisesRegex(ValueError, "%25, @ as %40 and / as %2F") as raised:
                 Database(f"{kind}://ada:{password}@db/d").connect()
@@ -281,7 +281,8 @@ class Urls(unittest.TestCase):
 
     @each("ada:secret", "ada:secret/d", "one:5432,ada:secret/d", "[::1]:secret/d", "ada:123456/d")
     def test_a_password_without_a_host(self, rest):
-        """Without a host the password is in the place of a port, which a driver's error shows."""
+        """Without a host, the password is in the position of a port, which a driver's error
+        shows."""
         for kind in ("mysql", "postgresql"):
             with self.assertRaisesRegex(ValueError, "@ ends them") as raised:
                 Database(f"{kind}://{rest}").connect()

@@ -1,4 +1,4 @@
-"""The findings of `examine`: one table, role or setting at fault at a time."""
+"""The findings of `examine`, for one faulty table, role or setting at a time."""
 
 import contextlib
 from unittest import mock
@@ -48,7 +48,7 @@ class Said:
             self.assertIn(word, "; ".join(f"{it.code}: {it}" for it in faults))
 
     def test_tables(self):
-        """`examine` finds the faults of each table, whose rows stay as they are."""
+        """`examine` finds the faults of each table, whose rows stay unchanged."""
         refused = f"{KEY} PRIMARY KEY, {RECORD} {SHORT}", PUT + self.refused
         for sql, *words in (*TABLES, refused, *self.tables):
             with self.subTest(sql=sql):
@@ -98,7 +98,7 @@ class OnSqlite(Said, engines.OnSqlite, support.Base):
     )
 
     def test_schemas_and_spellings(self):
-        """`examine` finds the table as a statement does."""
+        """`examine` finds the same table as a statement."""
         self.execute("CREATE TRIGGER tr AFTER UPDATE ON users BEGIN SELECT 1; END")
         self.give("one")
         spellings = {"table": "Users", "key": "NAME", "record": "Record"}
@@ -207,7 +207,7 @@ class OnServer(Said):
         self.assert_faults([NOT_UNIQUE, "not-a-table: people is no table"], accounts)
 
     def test_names_of_tables_and_columns(self):
-        """`examine` finds the table as a statement does."""
+        """`examine` finds the same table as a statement."""
         ours = "table_name = 'users' AND table_schema IN ('public', 'store')"
         here = self.execute(f"SELECT table_schema FROM information_schema.tables WHERE {ours}")
         for names, *words in (
@@ -292,8 +292,8 @@ class OnPostgres(OnServer, engines.OnPostgres, support.Base):
         self.assert_faults(["key-not-unique: no index of users holds"])
 
     def test_encodings(self):
-        """Names that a database's encoding lacks are no accounts, after a hash; texts aren't
-        bytes."""
+        """No account can have a name that a database's encoding lacks, and a login with it costs a
+        hash; texts aren't bytes."""
         given = "TEMPLATE template0 LC_COLLATE 'C' LC_CTYPE 'C' ENCODING"
         as_bytes = "encoding: client_encoding is SQL_ASCII: the driver returns text as bytes"
         others = ((it, LATIN.format(it)) for it in ("LATIN1", "EUC_JP"))
@@ -369,8 +369,8 @@ class OnMariaDB(OnServer, engines.OnMariaDB, support.Base):
         self.assert_faults([])
 
     def test_names_that_a_character_set_lacks(self):
-        """Names that a character set lacks are no accounts, after a hash; a connection's set may
-        lack them too."""
+        """No account can have a name that a character set lacks, and a login with it costs a hash;
+        a connection's set may lack the name too."""
         key = "VARCHAR(90) CHARACTER SET {} COLLATE {}"
         tables = [(it, it, "utf8mb4") for it in ("latin1", "ascii", "utf8mb3")]
         connections = [(it, "utf8mb4", it) for it in ("latin1", "utf8")]

@@ -1,5 +1,5 @@
-"""Common mistakes, in Python and at a shell, and the words that each message must have: the message
-alone shows its reader what to type."""
+"""Common mistakes, in Python and at a shell, and the words that each message must contain: the
+message alone tells its reader what to type."""
 
 import asyncio
 import concurrent.futures
@@ -84,7 +84,7 @@ class InPython(Base):
         self.assertNotEqual(reply, False)
 
     def test_calls_of_accounts(self):
-        """Python's own errors name missing arguments, and those too many."""
+        """Python's own errors name missing and excess arguments."""
         accounts, pool = self.accounts(), PerThread(self.no_connection)
         for act, words in (
             (lambda: accounts.login(email="ann", password="one"), "argument 'email'"),
@@ -95,7 +95,8 @@ class InPython(Base):
 
     @each(64, 128, 8191)
     def test_a_number_of_mebibytes(self, memory):
-        """Warns once in a process, at the caller's line; a user's filter may refuse it."""
+        """Warns once in each process, at the caller's line; a user's filter may turn the warning
+        into an error."""
         with mock.patch.object(_hashers, "_has_warned", False):
             with warnings.catch_warnings(record=True) as told:
                 warnings.simplefilter("always")
@@ -123,7 +124,7 @@ class InPython(Base):
         self.assertRaisesRegex(InvalidRecordError, "^(?!.*first)", LOW.verify, "one", "two")
 
     def test_pools(self):
-        """Each kind of accounts names the pools that it accepts, and not the refused one."""
+        """Each kind of accounts names the pools that it accepts, but not the refused one."""
 
         async def not_asked():
             raise AssertionError

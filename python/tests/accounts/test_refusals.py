@@ -43,7 +43,7 @@ class Arguments(Base):
         self.accounts(tries=1, patience=0.0)
 
     def test_words_for_kinds(self):
-        """A word in place of a Kind is refused, before any connection is used."""
+        """A string instead of a Kind is refused before any connection is used."""
         accounts = self.accounts(connect=self.no_connection)
         for kind in ("change", "CHANGE", 3, None, Reply.REPLACED):
             with self.subTest(kind=kind):
@@ -95,8 +95,8 @@ class Arguments(Base):
 
     @each((str, "a\0"), (str, "\ud800"), (int, 2**63), (int, -(2**63) - 1))
     def test_keys_that_no_column_holds(self, key_type, key):
-        """No operation asks a server for a key that no column holds, whatever copy the caller
-        passes."""
+        """No operation queries a server for a key that no column can store, whatever copy the
+        caller passes."""
         dialect = self.another_dialect(key_type=key_type)
         accounts = self.accounts(dialect=dialect, connect=self.no_connection)
         self.assertIs(accounts.login(key, "x"), Reply.NO_ACCOUNT)
@@ -109,7 +109,7 @@ class Arguments(Base):
         self.conn.execute("ROLLBACK")
 
     def test_columns_that_do_not_exist(self):
-        """SQLite reads a misspelt column such as "emial" as a text, so the operation refuses the
+        """SQLite treats a misspelt column such as "emial" as a string, so the operation refuses the
         dialect."""
         self.give("one", "emial")
         for names in ({"key": "emial"}, {"record": "recrod"}):
@@ -121,7 +121,7 @@ class Arguments(Base):
         self.assertTrue(self.is_right("one", "emial"))
 
     def test_names_of_subclasses_of_str(self):
-        """A name of a subclass of str is the text that it holds, even if its `str` shows
+        """A name of a subclass of str counts as the text that it contains, even if its `str` shows
         another."""
         key = enum.Enum("Role", {"ANN": "ann"}, type=str).ANN
         accounts = self.accounts()
