@@ -1,11 +1,19 @@
 """A service that limits failed tries, from the line to its answer: the part that no clause
 covers."""
 
+import contextlib
+import itertools
+import os
+import pathlib
+import select
+import time
 from collections import Counter
+from collections.abc import Iterator
+from typing import NamedTuple
 
-from tests.credkeep.books import CHEAP, DONE, TAG, BookTest, Service, lined
+from tests.credkeep.books import CHEAP, DONE, RECORD, TAG, BookTest, Service, lined
 from tests.credkeep.doors import in_base64
-from tests.helpers import before_libc, shim
+from tests.helpers import before_libc, shim, until
 
 RIGHT, WRONG, NEW = map(in_base64, ("one", "two", "three"))
 LIMIT = 3
@@ -118,3 +126,123 @@ class TriesTest(BookTest):
                 self.begun({"cat": ""}).add("ann", "one")
                 found = self.answers_in_turn(*FAIL, *between, FAIL[0])
                 self.assertEqual((found[:LIMIT], found[-1]), (["no"] * LIMIT, answer))
+
+
+class State(NamedTuple):
+    """What stands at ann when a try comes: the service's options, the lines that were answered
+    before, and a line that comes with the try, if any. If every password gets the same answer, it
+    is `later` or that of a wrong one."""
+
+    options: list[str]
+    lines: list[str]
+    beside: list[str]
+    answer: str
+
+
+# The password of RECORD, another one, and one that is new.
+OLD, OTHER, FRESH = map(in_base64, ("password", "two", "three"))
+MISS = f"verify ann {OTHER}"
+LIMITED = ["--tries", str(LIMIT)]
+STATES = {
+    "failed once": State(LIMITED, [MISS], [], ""),
+    "must wait": State(LIMITED, [MISS] * (LIMIT - 1), [MISS], "later 1"),
+    "locked": State([], ["lock ann"], [], "wrong"),
+}
+# Operations that change the record, since it has other costs than the service, and their answers.
+CHANGING = {
+    f"change ann {{}} {FRESH}": ("replaced", "wrong"),
+    "upgrade ann {}": ("upgraded", "wrong"),
+    "remove ann {}": ("removed", "wrong"),
+    "login ann {}": ("yes", "no"),
+}
+# Accounts whose changes are sent before a try, and behind it.
+BEFORE, BEHIND = ([f"{word}{at}" for at in range(8)] for word in ("before", "behind"))
+
+
+class PlacesTest(BookTest):
+    """The place of an answer among those to changes of other accounts, which wait together for the
+    disk."""
+
+    def setUp(self) -> None:
+        super().setUp()
+        clock, self.hold = self.room / "clock", self.room / "hold"
+        clock.write_text("5000")
+        shims = before_libc(f"{shim('clock')}:{shim('holds')}")
+        self.environment = {**shims, "CLOCK": str(clock), "HOLD": str(self.hold)}
+
+    @contextlib.contextmanager
+    def held(self) -> Iterator[int]:
+        """A pipe, a byte of which lets one sync go on. At the end all go on."""
+        os.mkfifo(self.hold)
+        pipe = os.open(self.hold, os.O_RDWR)
+        try:
+            yield pipe
+        finally:
+            self.hold.unlink()
+            os.close(pipe)
+
+    def answers(self, state: State, lines: list[str]) -> list[str]:
+        """The answers to tagged lines of many accounts, in their order. All come while a change of
+        another account is synced, and those that are hashed behind the first change wait for its
+        sync."""
+        self.begun(dict.fromkeys(("ann", "bob", *BEFORE, *BEHIND), RECORD))
+        words = ["--at-once", "1", *state.options]
+        with self.book.tagged(*words, env=self.environment) as service:
+            for line in state.lines:
+                service.ask(f"t {line}")
+            with self.held() as pipe:
+                service.send(lined([change_of("bob")]))
+                until(lambda: is_asleep(service), "a sync waits")
+                service.send(lined(lines))
+                until(lambda: is_asleep(service), "the lines have come")
+                while not select.select([service.stdout], [], [], 0)[0]:
+                    os.write(pipe, b".")
+                    until(lambda: is_asleep(service), "the next sync waits")
+            done = service.end()
+        self.assertEqual((done.status, done.faults), (0, ""))
+        first, *answers = done.written.splitlines()
+        self.assertEqual((first, len(answers)), ("bob replaced", len(lines)))
+        return answers
+
+    def test_places(self) -> None:
+        """At an account with failed tries or a lock no answer waits for changes of others. So the
+        place of `later` or `wrong` doesn't tell whether the password is right."""
+        rows = itertools.product(STATES.items(), CHANGING.items(), (OLD, OTHER))
+        for (name, state), (line, (right, wrong)), password in rows:
+            told = {"": right if password == OLD else wrong, "wrong": wrong}
+            answer = f"try {told.get(state.answer, state.answer)}"
+            lines = [f"beside {it}" for it in state.beside] + [*map(change_of, BEFORE)]
+            lines += [f"try {line.format(password)}", *map(change_of, BEHIND)]
+            with self.subTest(name, line=line.format(password)):
+                answers = self.answers(state, lines)
+                self.assertIn(answer, answers)
+                behind = [f"{name} replaced" for name in BEHIND]
+                after = answers[answers.index(answer) :]
+                self.assertEqual([it for it in after if it in behind], behind)
+
+    def test_turns_at_one_account(self) -> None:
+        """A right password that came before wrong ones is answered before them, and never by
+        `later`: its change waits for others, and they don't overtake it."""
+        for line, (right, _) in CHANGING.items():
+            tries = [f"try {line.format(OLD)}", *[f"miss {MISS}"] * LIMIT]
+            lines = [*map(change_of, BEFORE), *tries, *map(change_of, BEHIND)]
+            with self.subTest(line):
+                answers = self.answers(State(LIMITED, [], [], ""), lines)
+                found = [it for it in answers if it.startswith(("try", "miss"))]
+                miss = "miss absent" if right == "removed" else "miss no"
+                self.assertEqual(found, [f"try {right}", *[miss] * LIMIT])
+
+
+def change_of(name: str) -> str:
+    """A change of an account, with the account's name as its tag."""
+    return f"{name} change {name} {OLD} {FRESH}"
+
+
+def is_asleep(service: Service) -> bool:
+    """Whether each thread of a service waits, at some looks one after another."""
+    for _ in range(4):
+        time.sleep(0.01)
+        stats = pathlib.Path(f"/proc/{service.process.pid}/task").glob("*/stat")
+        if any(it.read_text().rpartition(")")[2].split()[0] != "S" for it in stats):
+            return False
+    return True

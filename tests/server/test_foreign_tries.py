@@ -1,8 +1,15 @@
 """Tests of bin/credkeep-server: failed tries at users of an old file, whom the server counts."""
 
 from foreign_case import MAKERS, ForeignCase, made_by
-from served import WRONG
+from served import FRESH, SECRET, WRONG, Service, field_of
 from tests.helpers import run
+from daemon.book import password_of
+
+SETTING = "$fast$c=2"
+# Tries of each operation, with their passwords left out.
+TRIES = ["verify {} {}", "login {} {}", "remove {} {}"]
+TRIES += [f"change {{}} {{}} {FRESH}", f"change {{}} {{}} {FRESH} {SETTING}"]
+TRIES += ["upgrade {} {}", f"upgrade {{}} {{}} {SETTING}"]
 
 
 class ForeignTries(ForeignCase):
@@ -139,3 +146,50 @@ class ForeignTries(ForeignCase):
                 login verify {name} {{wrong}} -> no
                 """
             )
+
+    def lines_at_book(self, service: Service, line: str, name: str, password: str) -> list[str]:
+        """The lines that come to the book for a try, without its name and its password."""
+        before = len(service.asked())
+        said = service.client("admin").ask(line.format(name, password))
+        self.assertEqual(said, "no" if line.startswith(("verify", "login")) else "wrong")
+        lines = [it.split(" ") for it in service.asked()[before:]]
+        self.assertEqual({it[1] for it in lines}, {name})
+        return [" ".join([it[0], *it[3:]]) for it in lines]
+
+    def test_work_at_who_is_barred(self) -> None:
+        """A right password of a barred user takes the book's work of a wrong one of another user:
+        the same lines, in which only the password differs."""
+        record = made_by(MAKERS["sha1"], "secret")
+        self.file.write_text(f"ada:{record}:::::::nologin\nbob:{record}\n")
+        service = self.over("--tries", "0")
+        for place in ("the file", "the book"):
+            for line in TRIES:
+                with self.subTest(line, place=place):
+                    barred = self.lines_at_book(service, line, "ada", SECRET)
+                    self.assertEqual(barred, self.lines_at_book(service, line, "bob", WRONG))
+                    self.assertIn(" ".join(line.format("", "").split()), barred)
+            if place == "the file":
+                service.talk("admin reset ada {secret} -> enrolled")
+                service.talk("admin reset bob {secret} -> enrolled")
+
+    def test_password_in_place_of_a_barred_one(self) -> None:
+        """The book gets another password in place of a barred user's. It has no NUL, at which some
+        schemes hash nothing, and isn't shorter."""
+        record = made_by(MAKERS["sha1"], "secret")
+        self.file.write_text(f"ada:{record}:::::::nologin\n")
+        service = self.over("--tries", "0")
+        client = service.client()
+        for password in [b"", b"secret", b"x" * 73, b"x" * 256] * 60:
+            self.assertEqual(client.ask(f"verify ada {field_of(password)}"), "no")
+        client.talk(f"verify ada {field_of(b'x' * 257)} -> bad 13 password")
+        client.talk(f"change ada - {'A' * 940} -> bad 13 password")
+        passwords = [password_of(it.split(" ")[2].encode()) for it in verifies_of(service)]
+        sizes = [len(it or b"") for it in passwords]
+        self.assertEqual(sizes, [24, 24, 73, 256] * 60 + [257])
+        self.assertEqual([it for it in passwords if not it or b"\0" in it], [])
+        self.assertEqual(len({*passwords}), len(passwords), "a password was drawn twice")
+
+
+def verifies_of(service: Service) -> list[str]:
+    """The tries that came to the book by `verify`."""
+    return [it for it in service.asked() if it.startswith("verify ")]

@@ -163,7 +163,7 @@ class Endings(Case):
         need("systemd-socket-activate")
         for option, name, said in (
             ("--datagram", "admin", "systemd passed no stream socket named login"),
-            ("", "other", "systemd handed over no stream socket with the name admin"),
+            ("", "other", "systemd passed no stream socket named admin"),
         ):
             room, kind = self.room(), socket.SOCK_DGRAM if option else socket.SOCK_STREAM
             words = f"systemd-socket-activate {option} --fdname=login:{name} -l {room}/a"

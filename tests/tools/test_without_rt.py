@@ -44,6 +44,7 @@ NEEDING = [
     ),
     ("python tools/tree.py run the gate", 1, [f"{RT} run the gate", BESIDE]),
     ("python bench/keep/run.py", 1, ["{top}/crates/credkeep/out/credkeep is not there"]),
+    ("python bench/server/beside.py .", 1, ["{top}/crates/credkeep/out/credkeep is not there"]),
     ("python tools/statements.py", 0, ["docs/STATEMENTS.txt has the line of each promise"]),
     ("python tools/definitions_page.py", 0, ["docs/DEFINITIONS.md has the definitions"]),
 ]

@@ -192,11 +192,11 @@ class Judge:
         if self.foreign is None:
             raise InvalidRecordError(refused.number, f"{refused}{FOREIGN_HINT}")
         # A text of another scheme, which any upgrade replaces.
-        if right is None:
-            self._spend(self.sample, request, self._secrets)
-        if right is not True:
-            return _wrong(request), copy
-        return self._at_right(request, copy)
+        if right is True:
+            return self._at_right(request, copy)
+        # The hook has compared the password itself, unless its answer is None.
+        self._spend(self.sample, request, self._secrets if right is None else ())
+        return _wrong(request), copy
 
     def _at_record(self, request: Request, copy: str) -> tuple[Reply, Copy]:
         """The result for a record of ours, under any of the secrets."""

@@ -19,7 +19,7 @@ sys.path[:0] = str(PACKAGE), str(PACKAGE.parent)
 os.environ["PYTHONPATH"] = f"{PACKAGE}:{os.environ.get('PYTHONPATH', '')}".rstrip(":")
 
 import servers
-from rigzumal import LowMemoryWarning, PasswordHasher, VerifyMismatchError
+from rigzumal import LowMemoryWarning, PasswordHasher, VerifyMismatchError, _library
 from rigzumal.accounts import Accounts, PerThread, Sqlite, _judgement, cli
 from rigzumal.accounts._session import Session, run  # noqa: F401: of each test
 from rigzumal.accounts.types import Kind, Request
@@ -205,13 +205,16 @@ class Base(unittest.TestCase):
     @contextlib.contextmanager
     def hashes(self, count):
         """The block must hash this many times: steps, and checks of a dummy. Without a secret, a
-        step that may write a record always hashes for it."""
+        step that may write a record always hashes for it. A step refuses a text of another scheme,
+        and hashes nothing for it."""
         step, dummy = (mock.Mock(wraps=it) for it in (_judgement.step, _judgement.is_right))
         with mock.patch.multiple(_judgement, step=step, is_right=dummy):
             yield
         made = []
         for call in step.mock_calls:
             kind, copy, secret = call.args[0], call.args[1], call.args[5]
+            if copy is not None and not _library.is_record(copy):
+                continue
             if copy is not None or kind is Kind.ENROL:
                 made.append(kind.value)
             if copy is not None and kind in (Kind.CHANGE, Kind.UPGRADE) and secret is None:

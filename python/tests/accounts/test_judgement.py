@@ -154,6 +154,16 @@ class Foreign(Base):
         self.assert_replies("remove ann one removed", accounts)
         self.assertIsNone(self.stands())
 
+    @each(("$2b$one", "one", "replaced"), ("$2b$one", "two", "wrong"), ("!shut", "one", "wrong"))
+    def test_hashes_of_a_change(self, stands, password, reply):
+        """A change costs two hashes, one of them the hook's, whether the password is right or
+        wrong. If the hook compares nothing, both are ours."""
+        self.put(stands)
+        hook = mock.Mock(wraps=self.hook)
+        with self.hashes(2 if stands == "!shut" else 1):
+            self.assert_replies(f"change ann {password} new {reply}", self.accounts(foreign=hook))
+        hook.assert_called_once_with(stands, password.encode())
+
     def test_an_answer_is_true_false_or_none(self):
         """Any other answer would count as true: nothing is stored, and no login succeeds."""
 

@@ -174,7 +174,7 @@ class InPython(Base):
             return made[-1]
 
         accounts = AsyncAccounts(PerUse(connect), self.dialect, LOW)
-        with self.assertRaisesRegex(TypeError, "no awaitable: use Accounts and PerThread"):
+        with self.assertRaisesRegex(TypeError, "an awaitable: use Accounts and PerThread"):
             asyncio.run(accounts.login("ann", "one"))
         (conn,) = made
         self.assertRaises(sqlite3.ProgrammingError, conn.execute, "SELECT 1")

@@ -2,10 +2,10 @@
 
 import asyncio
 import base64
-import os
 from collections.abc import Collection
 from contextlib import AsyncExitStack
 from dataclasses import replace
+from secrets import token_urlsafe
 from typing import BinaryIO
 from weakref import WeakValueDictionary
 
@@ -50,9 +50,8 @@ class Foreign:
         name, question = request.words[1], request
         is_barred = await self.file.bars(name)
         if is_barred and request.operation.tries:
-            # The answer takes a hash, counts as a wrong password, and changes nothing.
-            words = [b"verify", name, *map(password_of_nobody, request.words[2:3])]
-            question = replace(request, words=words)
+            # It takes as many hashes as a wrong password, counts as one, and changes nothing.
+            question = replace(request, words=with_wrong_password(request.words))
         answer = await self.answer_unbarred(question)
         if is_barred or await self.file.bars(name):  # the file may have changed
             return answer_to_barred(request, answer)
@@ -211,7 +210,7 @@ class Foreign:
         name, password = request.words[1], password_of(request.words[2]) or b""
         is_password = await asyncio.to_thread(is_right, line.record, password)
         is_same = await self.file.line(name) == line  # as before that hash
-        is_open = is_same and not line.why_shut(today()) and not await self.is_locked(name)
+        is_open = is_same and not await self.is_locked(name) and not line.why_shut(today())
         if not is_password or not is_open:
             self.tries.fail(name)
             return request.operation.wrong
@@ -246,10 +245,20 @@ class Foreign:
         return b""
 
 
-def password_of_nobody(field: bytes) -> bytes:
-    """A wrong password instead of one that may be right; a field that isn't a password stays
-    unchanged."""
-    return field if password_of(field) is None else base64.b64encode(os.urandom(24))
+def with_wrong_password(words: list[bytes]) -> list[bytes]:
+    """The words of a try with a password that nobody has; a field that isn't a password stays
+    unchanged.
+
+    A long password keeps its length, and the new one has no NUL: some old schemes don't hash a
+    password that is too long or has a NUL.
+    """
+    operation, name, *fields = words
+    password = password_of(fields[0]) if fields else None
+    if password is None:
+        return words
+    nobodys = token_urlsafe(18).encode()
+    field = base64.b64encode(nobodys + password[len(nobodys) :]).rstrip(b"=")
+    return [operation, name, field, *fields[1:]]
 
 
 def ends_record(word: bytes, row: bytes) -> bool:
