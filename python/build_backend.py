@@ -1,10 +1,10 @@
-"""Builds the wheel: pip calls it (PEP 517), and so does `make -C python wheel`.
+"""Builds the wheel; both pip (PEP 517) and `make -C python wheel` call this module.
 
     python3 build_backend.py FOLDER
 
-The wheel holds the library of `make -C c`, or with ARCH=arm64 in the environment of `make -C c
-ARCH=arm64`, which is built if it isn't there. It is for Linux on that processor, and for every
-Python 3: the library is loaded by ctypes.
+The wheel contains the library from `make -C c`, or, with ARCH=arm64 in the environment, from
+`make -C c ARCH=arm64`; the module builds the library if it is missing. The wheel is for Linux on
+that processor, and for every Python 3, since ctypes loads the library.
 """
 
 from __future__ import annotations
@@ -34,7 +34,7 @@ def version() -> str:
 
 
 def field(name: str) -> str:
-    """The value of this name in pyproject.toml's table of the project."""
+    """The value of this name in the project table of pyproject.toml."""
     found = re.search(rf'^{name} = "(.*)"', (HERE / "pyproject.toml").read_text(), re.MULTILINE)
     if found is None:
         sys.exit(f"pyproject.toml has no {name}")
@@ -42,7 +42,8 @@ def field(name: str) -> str:
 
 
 def tag() -> str:
-    """The wheel's tag: the newest glibc that the library names is the oldest that runs it."""
+    """The wheel's tag: the newest glibc version that the library requires is the oldest that runs
+    it."""
     library = LIBRARY.read_bytes()
     names = re.findall(rb"GLIBC_2\.(\d+)\0", library)
     machine = MACHINES[int.from_bytes(library[18:20], "little")]
@@ -50,7 +51,7 @@ def tag() -> str:
 
 
 def metadata() -> dict[str, bytes]:
-    """The files of the folder dist-info, but for RECORD."""
+    """The files of the folder dist-info, except RECORD."""
     about = f"""Metadata-Version: 2.1
 Name: rigzumal
 Version: {version()}
@@ -76,7 +77,7 @@ Tag: {tag()}
 
 
 def need_library() -> None:
-    """Builds the library if c/out lacks it. If the build fails, its last line gives the reason."""
+    """Builds the library if c/out lacks it. If the build fails, the last line gives the reason."""
     if LIBRARY.exists():
         return
     c = HERE.parent / "c"
@@ -91,7 +92,7 @@ def need_library() -> None:
 
 
 def package() -> dict[str, bytes]:
-    """The package's files, with the library."""
+    """The package's files, including the library."""
     need_library()
     files = {
         str(path.relative_to(HERE)): path.read_bytes()
@@ -108,9 +109,7 @@ def line_of(name: str, data: bytes) -> str:
 
 
 def write_wheel(directory: str, held: dict[str, bytes], about: dict[str, bytes]) -> str:
-    """Writes a wheel of these files into the folder, with what is said of them, and answers its
-    name.
-    """
+    """Writes a wheel of these files with its metadata into the folder, and returns its name."""
     folder = f"rigzumal-{version()}.dist-info"
     files = {**held, **{f"{folder}/{name}": data for name, data in about.items()}}
     record = "".join(line_of(name, data) for name, data in files.items())
@@ -141,7 +140,7 @@ def build_wheel(
     config_settings: Optional[dict[str, Any]] = None,
     metadata_directory: Optional[str] = None,
 ) -> str:
-    """Writes the wheel into the folder, and answers its name."""
+    """Writes the wheel into the folder, and returns its name."""
     held = package()
     return write_wheel(wheel_directory, held, {**metadata(), **about_components()})
 
@@ -151,15 +150,15 @@ def build_editable(
     config_settings: Optional[dict[str, Any]] = None,
     metadata_directory: Optional[str] = None,
 ) -> str:
-    """Writes a wheel that names this folder, for `pip install -e` (PEP 660): what is changed here
-    is changed for all who import it. The library is the one in c/out.
+    """Writes a wheel that refers to this folder, for `pip install -e` (PEP 660): changes here
+    affect everyone who imports the package. The library is the one in c/out.
     """
     need_library()
     return write_wheel(wheel_directory, {"rigzumal.pth": f"{HERE}\n".encode()}, metadata())
 
 
 def build_sdist(sdist_directory: str, config_settings: Optional[dict[str, Any]] = None) -> str:
-    """There is none: the library's proved code isn't built by Python."""
+    """No source distribution exists, since Python can't build the library's proved code."""
     sys.exit("there is no sdist: build a wheel, by `make -C python wheel`")
 
 

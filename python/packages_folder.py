@@ -1,9 +1,9 @@
-"""Prints the folder below a prefix in which Python looks for packages, for `make install`.
+"""Prints the folder below a prefix in which Python searches for packages, for `make install`.
 
     python3 packages_folder.py PREFIX
 
-Below a prefix where this Python doesn't look by itself, such as /opt/NAME, it is the folder where
-it would look if it were installed there itself.
+Below a prefix that this Python doesn't search by default, such as /opt/NAME, this is the folder
+that a Python installed there would search.
 """
 
 import os
@@ -13,7 +13,7 @@ import sysconfig
 
 
 def packages_folder(prefix: str) -> str:
-    """The first of the system's folders and the user's that lies in the prefix's lib."""
+    """The first folder of the system or the user that is in the prefix's lib."""
     prefix = os.path.normpath(prefix)
     for folder in (*site.getsitepackages(), site.getusersitepackages()):
         if folder.startswith(os.path.join(prefix, "lib", "")):

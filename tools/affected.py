@@ -1,13 +1,12 @@
 #!/usr/bin/env python3
-"""Prints the cost of a change: the proofs, the wrong bodies, the tests and the pages that it
-touches.
+"""Prints the cost of a change: the proofs, wrong bodies, tests and pages that it affects.
 
     python3 tools/affected.py [COMMIT]
 
-The change is the difference to COMMIT, or to the last commit, with the files that aren't committed
-yet. Each part is printed with the command that runs it, and about how many minutes that takes on
-this machine's processors, by tools/build_seconds.json and tools/job_seconds.json. The gate,
-`.ci/run`, runs all of these.
+The change is the difference from COMMIT, or from the last commit, including files that aren't
+committed. Each part is printed with the command that runs it and an estimate of its minutes on this
+machine's processors, from tools/build_seconds.json and tools/job_seconds.json. The gate, `.ci/run`,
+runs all of these.
 """
 
 from __future__ import annotations
@@ -91,7 +90,7 @@ def git(*words: str) -> str:
 
 
 def changed_files(commit: str) -> list[str]:
-    """The files that differ from a commit, or aren't committed; of a moved one both names."""
+    """The files that differ from a commit, or aren't committed; for a moved file, both names."""
     differ = git("diff", "--name-only", "--no-renames", commit)
     return sorted(
         {*differ.splitlines(), *git("ls-files", "--others", "--exclude-standard").splitlines()}
@@ -99,18 +98,18 @@ def changed_files(commit: str) -> list[str]:
 
 
 def changed_crates(files: Iterable[str], parts: str) -> set[str]:
-    """The crates of which a file of these folders has changed."""
+    """The crates with a changed file in these folders."""
     found = (re.match(rf"crates/(\w+)/(?:{parts})/", it) for it in files)
     return {it[1] for it in found if it} & {*listed()}
 
 
 def proved_again(crates: Collection[str]) -> list[str]:
-    """These crates and those above them, lowest first."""
+    """These crates and all crates above them, lowest first."""
     return [it for it in listed() if it in crates or {*all_below(it)} & {*crates}]
 
 
 def jobs_of(file: str) -> Collection[str]:
-    """The words of the jobs that look at a file."""
+    """The words of the jobs that read a file."""
     for folder in FOLDERS:
         if file.startswith(f"{folder.path}/"):
             at = file.removesuffix(".py")
@@ -119,14 +118,14 @@ def jobs_of(file: str) -> Collection[str]:
 
 
 def jobs_to_run(files: Iterable[str], proved: Iterable[str]) -> list[Job]:
-    """The jobs that look at one of these files, or at what is built of these crates."""
+    """The jobs that read one of these files, or the build results of these crates."""
     words = {word for it in files for word in jobs_of(it)}
     words |= {word for it in proved for word in OF_CRATES.get(it, ())}
     return jobs(words) if words else []
 
 
 def words_for(chosen: Iterable[Job]) -> str:
-    """The words that choose these jobs: a folder's word if all of its jobs are among them."""
+    """The words that select these jobs: a folder's word if they include all of its jobs."""
     names = {it.name for it in chosen}
     every = jobs()
     in_part = {it.folder for it in every if it.name not in names}
@@ -139,13 +138,13 @@ def words_for(chosen: Iterable[Job]) -> str:
 
 
 def elapsed(parts: Mapping[str, float], longest: float) -> str:
-    """The approximate time of these seconds side by side, and no less than the longest part."""
+    """The approximate time of these seconds in parallel, and at least that of the longest part."""
     minutes = max(sum(parts.values()) / len(os.sched_getaffinity(0)), longest) / 60
     return f"about {minutes:.0f} min" if minutes >= 1 else "under a minute"
 
 
 def chain(name: str, proofs: Mapping[str, float]) -> float:
-    """The seconds of a proof and of those that it waits for."""
+    """The seconds of a proof and of the proofs for which it waits."""
     return proofs.get(name, 0) + max((chain(it, proofs) for it in below(name)), default=0)
 
 

@@ -1,24 +1,24 @@
 #!/usr/bin/env python3
-"""Proves and builds a program from nothing, crates side by side, and runs it on the words that come
-after `--`, if that is there.
+"""Proves and builds a program from nothing, with crates in parallel, and runs it with the arguments
+after `--`, if `--` is present.
 
     python3 tools/build.py [--cpu LEVEL] [--built] [--object] [--note] [PROGRAM] [-- WORD..]
                                                                           (PROGRAM: credbook)
 
-The program is compiled for LEVEL: x86-64, x86-64-v2 or x86-64-v3, and without the flag for the
-highest of them whose features this processor has. With the level arm64 it is one for that
-processor, linked by Debian's gcc-aarch64-linux-gnu, in the crate's out/arm64. Where rt is missing,
-a C compiler links the program's object in c/proved/programs, which a tarball of `make dist` has. On
-standard error it says every half minute, and as each library is proved, how many are, and about how
-long the rest will take. Standard output has the program's output alone, and the script's status is
-the program's. The script reuses earlier builds of unchanged sources; with --built it does nothing
-else, and the status is 1 if the program isn't built for LEVEL. With --object, which `make dist`
-uses, the program is built again unless its object was kept (crates/NAME/out/objects). What each
-crate took is what it is expected to take the next time (crates/NAME/out/seconds), and with --note
-by those who build it first, too: tools/build_seconds.json, of four idle processors. `rt run` alone
-does the same in more time: one rt at a time may work above a library, so libraries that don't use
-each other are worked here in two copies of the sources, and what was proved is copied back. The
-variable RT names another rt.
+The program is compiled for LEVEL: x86-64, x86-64-v2 or x86-64-v3; without this option, for the
+highest level whose features this processor has. For the level arm64, Debian's gcc-aarch64-linux-gnu
+links the program, in the crate's out/arm64. If rt is missing, a C compiler links the program's
+object from c/proved/programs, which a tarball of `make dist` contains. On standard error the script
+prints every half minute, and after each library, how many libraries are proved and an estimate of
+the remaining time. Standard output contains only the program's output, and the script exits with
+the program's status. The script reuses earlier builds of unchanged sources; with --built it builds
+nothing, and the status is 1 if the program isn't built for LEVEL. With --object, which `make dist`
+uses, the script builds the program again unless its object was kept (crates/NAME/out/objects). The
+time of each crate is the estimate for the next build (crates/NAME/out/seconds), and with --note
+also for those who build it first: tools/build_seconds.json, for four idle processors. `rt run`
+alone does the same in more time: only one rt at a time may work above a library, so the script
+builds independent libraries in two copies of the sources, and copies the results back. The variable
+RT selects another rt.
 """
 
 import argparse
@@ -51,8 +51,8 @@ ARM64, TARGET = programs.ARM64, "aarch64-unknown-linux-gnu"
 
 
 def folders(room):
-    """Folders with the sources, each for one rt at a time. The repository itself is used before the
-    copies if it is free."""
+    """Folders with the sources, each for one rt at a time. If the repository itself is free, it is
+    used before the copies."""
     free = queue.PriorityQueue()
     free.put((0, TOP))
     for number in range(1, AT_ONCE):
@@ -65,7 +65,7 @@ def folders(room):
 
 
 def expected(name):
-    """Seconds that a crate is expected to take: what it took last here, or on another machine."""
+    """The estimated seconds for a crate: its last time here, or on another machine."""
     last = source(CRATES / name / "out/seconds")
     return max(float(last), 1) if last else json.loads(source(NOTED) or "{}").get(name, 60)
 
@@ -91,7 +91,7 @@ class Progress:
 
     @contextlib.contextmanager
     def of(self, name, what):
-        """Prints the begin and the end of each name, and notes its time."""
+        """Prints the beginning and the end of each name, and notes its time."""
         began = self.running[name] = time.monotonic()
         try:
             yield
@@ -104,8 +104,9 @@ class Progress:
             self.say(f"{name}: {what}, {seconds:.0f} s")
 
     def pace(self, done):
-        """The ratio of a crate's time here to the expected one. The last ones count most, since a
-        build's first ones also prepare what all need; a minute as expected precedes them."""
+        """The ratio of a crate's time here to the estimate. The most recent times count most, since
+        the first ones of a build also prepare what all crates need; a minute at the estimated pace
+        precedes them."""
         taken = foreseen = 60
         weight = 1
         for name in reversed(done):
@@ -115,8 +116,8 @@ class Progress:
         return taken / foreseen
 
     def rest(self):
-        """Seconds until all are done, AT_ONCE side by side and each after those below it, if each
-        takes as long as expected at the pace here."""
+        """The seconds until all are done, AT_ONCE in parallel and each after those below it, if
+        each takes as long as estimated at the pace here."""
         now, done, begun = time.monotonic(), {**self.done}, {**self.running}
         pace, at = self.pace(done), 0
         left = {
@@ -136,7 +137,7 @@ class Progress:
         return at
 
     def say(self, what, end="\n"):
-        """The last event, the progress, and the time of the rest."""
+        """The last event, the progress, and the remaining time."""
         minutes = max(round(self.rest() / 60), 1)
         rest = (
             f", about {minutes} minute{'s' if minutes > 1 else ''} left"
@@ -171,7 +172,7 @@ def missing_of(libraries):
 
 
 def build_all(libraries, progress):
-    """Builds each library once those below it are built."""
+    """Builds each library after those below it."""
     with tempfile.TemporaryDirectory(
         prefix="build-"
     ) as room, concurrent.futures.ThreadPoolExecutor(AT_ONCE) as pool:
@@ -197,8 +198,8 @@ def level_here():
 
 
 def sum_of(program, level, by=""):
-    """A sum over all that a built program depends on, over the program itself, and over who linked
-    it, if that wasn't rt."""
+    """A checksum over everything on which a built program depends, over the program itself, and
+    over its linker, if that wasn't rt."""
     sources = [*programs.sources(program), *([programs.CALLS] if by or level == ARM64 else [])]
     found = hashlib.sha256((level + by).encode())
     for file in [TOP / "crates.txt", *sources, files_of(program, level)[0]]:
@@ -217,7 +218,7 @@ LINKED = "cc"
 
 
 def is_built(program, level):
-    """Whether the program is up to date, as rt built it; without rt, as its packed object was
+    """Whether the program, as rt built it, is up to date; without rt, as its packed object was
     linked."""
     built, seal = files_of(program, level)
     if not (built.is_file() and seal.is_file()):
@@ -228,8 +229,8 @@ def is_built(program, level):
 
 
 def best_level(program):
-    """The highest level that a program can be built for and this processor has: where rt is
-    missing, of those it has an object for."""
+    """The highest level for which a program can be built and that this processor has: if rt is
+    missing, among the levels of its objects."""
     here = level_here()
     if has_rt():
         return here
@@ -247,7 +248,7 @@ def link_packed(program, level):
 
 
 def build_program(program, level, progress):
-    """Proves a program over its libraries and compiles it for a level."""
+    """Proves a program over its libraries, and compiles it for a level."""
     (built, seal), compiled = files_of(program, level), CRATES / program / "out" / f"{program}.o"
     for file in (built, compiled):
         file.unlink(missing_ok=True)
@@ -292,9 +293,7 @@ def main():
     )
     if is_lacking and asked.built:
         variable = "ARCH" if level == ARM64 else "CPU"
-        raise SystemExit(
-            f"{program} isn't built for {level}: make programs {variable}={level} does it"
-        )
+        raise SystemExit(f"{program} isn't built for {level}: run make programs {variable}={level}")
     if is_lacking and not has_rt():
         if not programs.PACKED.is_dir():  # a checkout has none, and a tarball has
             need_rt(f"prove and build {program}")

@@ -3,19 +3,20 @@
 
     python3 tools/compile_proved.py LEVEL LIBRARY.a        (the variable RT names another rt)
 
-LEVEL is x86-64, x86-64-v2, x86-64-v3, x86-64-v4 or arm64. The libraries below have to be built by
-rt lib. rattle is called as rt lib calls it, but with a folder of links to the toolchain whose clang
-is this script. The script changes the proved module, and passes all else to the toolchain's clang:
+LEVEL is x86-64, x86-64-v2, x86-64-v3, x86-64-v4 or arm64. rt lib must have built the libraries
+below. The script calls rattle as rt lib does, but with a folder of links to the toolchain in which
+clang is this script. The script changes the proved module, and passes everything else to the
+toolchain's clang:
 
-- Rattle has no prefetch, so cred_argon calls a function with an empty body where it would prefetch
-  a block. Its body becomes LLVM's prefetches, which change no value.
-- rattle drops `#[inline(always)]` of some functions. Over their calls the vectors of half a block
-  would be in memory, so they are inlined.
-- rt takes x86-64-v4 with Rattle's own compiler alone, whose code is slower. So the module is that
-  for x86-64-v3, of which the level is changed.
+- Rattle has no prefetch, so cred_argon calls a function with an empty body at each place for a
+  prefetch of a block. The script replaces that body by LLVM's prefetches, which change no value.
+- rattle drops `#[inline(always)]` from some functions. Calls of these functions would move the
+  vectors of half a block to memory, so the script inlines them.
+- For x86-64-v4, rt supports only Rattle's own compiler, whose code is slower. The script therefore
+  changes the level of the module for x86-64-v3.
 
-If the place of a change is missing in the module, the script ends. If the toolchain doesn't allow
-all this the status is 1, and the reason is the last line.
+If the module lacks the place of a change, the script stops. If the toolchain doesn't allow these
+changes, the status is 1, and the last line gives the reason.
 """
 
 import os
@@ -58,7 +59,7 @@ INLINED = (
 
 
 def with_prefetches(text):
-    """The module with prefetches where a block is asked for."""
+    """The module with prefetches at the places that request a block."""
     found = EMPTY_BODY.findall(text)
     if len(found) != 1 or text.count(f'define internal void @"{PREFETCHES}"') != 1:
         sys.exit(f"the module has {len(found)} empty functions {PREFETCHES}, and not one")
@@ -72,7 +73,7 @@ def with_prefetches(text):
 
 
 def with_inlined(text):
-    """The module with the functions inlined whose source asks for that."""
+    """The module with inlining for the functions whose source requests it."""
     for name in INLINED:
         head = re.compile(rf'^(define internal [^@\n]*@"{name}[^{{\n]*\) )(#\d+ \{{)', re.M)
         text, places = head.subn(r"\1alwaysinline \2", text)
@@ -82,7 +83,7 @@ def with_inlined(text):
 
 
 def at_level(text, level):
-    """The module for a level: for x86-64-v4 that for x86-64-v3, of which the level is changed."""
+    """The module for a level: for x86-64-v4, the one for x86-64-v3 with a changed level."""
     if level != "x86-64-v4":
         return text
     if V3 not in text:
@@ -91,7 +92,7 @@ def at_level(text, level):
 
 
 def be_clang(level, clang, words):
-    """Runs the toolchain's clang, with the changed module in place of the proved one."""
+    """Runs the toolchain's clang, with the changed module instead of the proved one."""
     if "module.bc" in words:
         as_text = "-S -emit-llvm -Xclang -disable-llvm-passes -O3 -o module.ll".split()
         target = [it for it in words if it.startswith("--target=")]
@@ -104,7 +105,7 @@ def be_clang(level, clang, words):
 
 
 def make_toolchain(kit, room, level):
-    """A folder of links to the toolchain, but for its clang."""
+    """A folder of links to the toolchain, except for its clang."""
     folder = pathlib.Path(room) / "toolchain"
     subprocess.run(["cp", "-rs", kit / "toolchain", folder], check=True)
     clang = folder / "bin/clang"
@@ -116,7 +117,7 @@ def make_toolchain(kit, room, level):
 
 
 def words_of(kit):
-    """The words of rt lib for rattle, of the crate and of the built ones below it."""
+    """The arguments of rt lib for rattle, for the crate and the built crates below it."""
     words = ["--crate-name", CRATE, "src/lib.rt", "--crate-type", "staticlib"]
     words += ["--extern", f"std={kit}/rlibs/std.rlib", "-L", f"dependency={kit}/rlibs"]
     for name in below(CRATE):
@@ -128,7 +129,7 @@ def words_of(kit):
 
 
 def build(level, target):
-    """Runs rattle, which writes the library; returns the reason of a failure, or nothing."""
+    """Runs rattle, which writes the library; returns the reason for a failure, or nothing."""
     page = subprocess.run([os.environ.get("RT", "rt"), "doc"], capture_output=True, text=True)
     kit = pathlib.Path(page.stdout.strip()).parent
     if page.returncode or not (kit / "toolchain/bin/clang").is_file():

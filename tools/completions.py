@@ -1,11 +1,11 @@
 #!/usr/bin/env python3
-"""Writes the completions of the programs for bash, zsh and fish, each into its folder. `make
-install` runs it.
+"""Writes the programs' completions for bash, zsh and fish, each into its folder. `make install`
+runs this script.
 
     python3 tools/completions.py [--remove] BASH_FOLDER ZSH_FOLDER FISH_FOLDER
 
-The commands and the options are those that the built programs show for --help, and credkeep-ask's
-own table of commands for a server. With --remove it removes the files that it writes.
+The commands and options come from the --help output of the built programs, and from credkeep-ask's
+own table of commands for a server. With --remove the script removes the files that it writes.
 """
 
 import os
@@ -27,8 +27,8 @@ OPTION = re.compile(
 
 
 class Command(NamedTuple):
-    """The options in the help of a program, or of one of its commands: each is its name, its
-    value's name and its text."""
+    """The options in the help of a program, or of one of its commands: for each, its name, the name
+    of its value and its text."""
 
     word: str
     text: str
@@ -67,10 +67,10 @@ class Program:
             if word != "help"
         ]
         if not self.top.options:
-            sys.exit(f"{path} --help names no option")
+            sys.exit(f"{path} --help lists no options")
 
     def after(self, *values):
-        """The pattern of words after a command whose first value is one of these."""
+        """The pattern of the words after a command whose first value is one of these."""
         # `add` needs a name that no account has yet
         below = [it for it in self.commands if it.word != "add"]
         shown = [(it.word, it.usage.partition(it.word)[2]) for it in below]
@@ -125,7 +125,7 @@ def written(template, fields):
 
 
 def files(folders):
-    """Each file with the shell that it is for, and the program."""
+    """Each file with its shell and its program."""
     bash, zsh, fish = map(pathlib.Path, folders)
     for name in PROGRAMS:
         yield from (

@@ -3,9 +3,10 @@
 
     python3 tools/debian_packages.py
 
-It needs root on a Debian, starts none of the services that packages have, and asks for nothing if
-nothing is missing. It always ends with status 0: where a package can't be had, or INSTALL=no is in
-the environment, it says so, and the tests that need the package are skipped by name.
+The script needs root on Debian, starts no services of these packages, and makes no requests if
+nothing is missing. The script always exits with status 0: if a package isn't available, or if
+INSTALL=no is in the environment, it says so, and the tests that need the package are skipped by
+name.
 """
 
 from __future__ import annotations
@@ -49,7 +50,7 @@ def missing() -> list[str]:
 
 @contextlib.contextmanager
 def no_services() -> Iterator[None]:
-    """Keeps packages from starting their services meanwhile; a signal ends this too."""
+    """Keeps packages from starting their services during the block; a signal also ends this."""
     for number in (signal.SIGTERM, signal.SIGHUP):
         signal.signal(number, lambda *_: sys.exit(1))
     is_ours = not POLICY.exists()
@@ -79,14 +80,14 @@ def get(*words: str) -> str:
 
 
 def known(names: list[str]) -> list[str]:
-    """The packages that this Debian has, by the fetched lists."""
+    """The packages that this Debian offers, by the fetched lists."""
     show = ["apt-cache", "show"]
     return [it for it in names if not subprocess.run([*show, it], capture_output=True).returncode]
 
 
 def install(names: list[str]) -> str:
-    """Installs packages; returns the reason of a failure, or nothing. Fetches the lists if they are
-    too old for the packages."""
+    """Installs packages; returns the reason for a failure, or nothing. Fetches the lists if they
+    are too old for the packages."""
     with no_services():
         if known(names) == names and not get("install", *names):
             return ""
@@ -95,7 +96,7 @@ def install(names: list[str]) -> str:
 
 def main() -> int:
     if shutil.which("dpkg-query") is None or shutil.which("apt-get") is None:
-        print("packages: this is no Debian: tests that need a missing program are skipped by name")
+        print("packages: this isn't Debian: tests skip by name what they lack")
         return 0
     names = missing()
     if not names:
@@ -107,7 +108,7 @@ def main() -> int:
     if fault := install(names):
         print(f"packages: {fault[-2000:]}")
     if left := missing():
-        print(f"packages: not to be had, so their tests are skipped: {' '.join(left)}")
+        print(f"packages: not available, so their tests are skipped: {' '.join(left)}")
     return 0
 
 

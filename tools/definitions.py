@@ -1,8 +1,9 @@
-"""The definitions of the crates' `specs/`, and which of them a text of antt rests on.
+"""The definitions in the crates' `specs/`, and those on which a text of antt depends.
 
-A definition is known by its place, ("cred_many", "Served", "HasCause"): its crate, its module, its
-name. The sum is over its words, and over the sources of its names that aren't definitions of ours.
-So a comment, the layout, the order of imports, and the file that it stands in change nothing.
+A definition is identified by its place, ("cred_many", "Served", "HasCause"): its crate, its module,
+its name. The checksum covers the words of the text, and the sources of those names that we don't
+define. A comment, the layout, the order of imports, and the file of a definition therefore change
+nothing.
 """
 
 from __future__ import annotations
@@ -30,7 +31,7 @@ MADE = {"declared", "contracts"}
 
 
 def words(text: str) -> list[str]:
-    """The words of antt, without a comma or semicolon that only the layout has before a bracket."""
+    """The words of antt, without a comma or semicolon before a bracket, which is only layout."""
     found = WORD.findall(COMMENT.sub("", text))
     behind = [*found[1:], ""]
     pairs = zip(found, behind)
@@ -44,11 +45,11 @@ def closing(found: list[str], start: int) -> int:
         depth += (found[at] == "{") - (found[at] == "}")
         if depth == 0:
             return at
-    raise ValueError(f"a brace that doesn't close: {' '.join(found[start : start + 9])}")
+    raise ValueError(f"an unclosed brace: {' '.join(found[start : start + 9])}")
 
 
 def entries(found: list[str]) -> Iterator[list[str]]:
-    """The parts between the commas outside of braces."""
+    """The parts between the commas outside braces."""
     entry: list[str] = []
     at = 0
     while at < len(found):
@@ -63,7 +64,7 @@ def entries(found: list[str]) -> Iterator[list[str]]:
 
 
 def imported(path: list[str], front: Place = ()) -> Iterator[tuple[str, Place]]:
-    """The imports of `A.B.{c, d as e}`: each local name, with the path that it is from."""
+    """The imports of `A.B.{c, d as e}`: each local name, with the path of its origin."""
     for entry in entries([part for it in path for part in it.split(".") if part]):
         if "{" in entry:
             opens = entry.index("{")
@@ -75,7 +76,7 @@ def imported(path: list[str], front: Place = ()) -> Iterator[tuple[str, Place]]:
 
 
 def parts(name: str) -> list[str]:
-    """A name, and if it is an operator's, `◌+◌`, the sign between its arguments."""
+    """A name or, for an operator such as `◌+◌`, the sign between its arguments."""
     return [name, *(it for it in name.split("◌") if it and it != name)]
 
 
@@ -87,13 +88,13 @@ def add_names(names: Names, path: list[str]) -> None:
 
 
 def pieces(text: str) -> list[str]:
-    """The parts of a file that begin in its first column, but for brackets that close there."""
+    """The parts of a file that begin in its first column, except for brackets that close there."""
     found = re.split(r"^(?=[^\s)}\]])", COMMENT.sub("", text), flags=re.M)
     return [it for it in found if it.strip()]
 
 
 def name_declared(piece: list[str]) -> str | None:
-    """The name that a piece declares; none if it is a case of the definition above it."""
+    """The name that a piece declares; none if it is a case of the definition before it."""
     rest = piece[next(at for at, it in enumerate(piece) if it not in MARKS) :]
     if rest[0] in DECLARED:
         return rest[1]
@@ -104,7 +105,7 @@ def name_declared(piece: list[str]) -> str | None:
 
 
 def constructors(piece: str) -> list[str]:
-    """The constructors that a piece declares, if it declares some data."""
+    """The constructors that a piece declares, if it declares a data type."""
     return re.findall(rf"^\s+({NAME}) :", piece, re.M) if "data" in words(piece)[:2] else []
 
 
@@ -125,7 +126,7 @@ class Meaning:
 
 
 class Definitions:
-    """All definitions of a tree, and those that a text rests on."""
+    """All definitions of a tree, and those on which a text depends."""
 
     def __init__(self, crates: pathlib.Path = CRATES) -> None:
         self.crates = {it.name for it in crates.iterdir()}
@@ -166,7 +167,8 @@ class Definitions:
         return ("Rattle", crate, "specs", *place)
 
     def origin(self, path: Place) -> Place:
-        """A path of a definition, from the module that has it: others may hand it on."""
+        """The path of a definition, from the module that defines it: other modules may re-export
+        it."""
         rest = path[3:]
         for end in range(len(rest), 0, -1):
             if further := self.handed_on.get((path[1], *rest[:end])):
@@ -174,7 +176,7 @@ class Definitions:
         return path
 
     def at(self, path: Place) -> Place | None:
-        """The definition that a path leads to; fields may follow its name."""
+        """The definition to which a path leads; fields may follow its name."""
         rest = path[3:]
         for end in range(len(rest), 0, -1):
             place = (path[1], *rest[:end])
@@ -188,17 +190,17 @@ class Definitions:
         return path[0] == "Rattle" and path[1] in self.crates
 
     def named(self, path: Place) -> str:
-        """The form of a name that is no definition of ours: the toolchain's by its whole path."""
+        """The form of a name that we don't define: the toolchain's, by its whole path."""
         if not self.is_ours(path):
             return ".".join(path)
         if path[2] == "specs" and path[3] not in MADE:
-            raise LookupError(f"{'.'.join(path)} is named, and isn't there")
+            raise LookupError(f"{'.'.join(path)} is named, but doesn't exist")
         return ".".join([path[1], *(it for it in path[3:] if not it[0].islower())])
 
     def meaning(self, text: Text) -> Meaning:
-        """The meaning of a text by itself: its words, and the definition of each name, since an
-        import may give a name to another definition: one of ours by its own name and words, and
-        another by its path."""
+        """The meaning of a text by itself: its words, and the definition of each name. An import
+        may rename a definition, so one of ours counts by its own name and words, and any other by
+        its path."""
         below, others = set(), set()
         for word in text.words:
             first, *fields = word.split(".")
@@ -218,7 +220,7 @@ class Definitions:
         return self.meanings[place]
 
     def below(self, text: Text) -> set[Place]:
-        """All definitions that a text rests on."""
+        """All definitions on which a text depends."""
         found: set[Place] = set()
         left = self.meaning(text).below
         while left:
@@ -227,7 +229,7 @@ class Definitions:
         return found
 
     def sum_of(self, text: Text) -> str:
-        """A sum over what a text says, and over all that it rests on."""
+        """A checksum over a text, and over everything on which it depends."""
         said = sorted(self.meaning_at(it).said for it in self.below(text))
         whole = "\n".join([self.meaning(text).said, *said])
         return hashlib.sha256(whole.encode()).hexdigest()[:16]

@@ -1,20 +1,20 @@
 #!/usr/bin/env python3
-"""Prints definitions into docs/DEFINITIONS.md, as crates/*/specs/ have them.
+"""Prints definitions from crates/*/specs/ into docs/DEFINITIONS.md.
 
     python3 tools/definitions_page.py [--write]
 
-A line of the page asks for the block of text behind it:
+A line of the page requests the block of text after it:
 
     <!-- definitions of CRATE.MODULE.NAME, .. up to CRATE.MODULE.NAME, .. -->
 
-A block has the definitions that are named first, and all of ours that they rest on, each with the
-comment above it, in the order in which they are first named. Those behind `up to` are its chapters:
-they stand last, without what they rest on. A block doesn't repeat the definitions of earlier
-blocks. A block ends with the names of the code and of the toolchain's libraries that it has, but
-for those of Rattle.std.specs.Prelude.
+A block contains the definitions that are named first, and all of our definitions on which they
+depend, each with the comment above it, in the order in which they are first named. The definitions
+after `up to` are its chapters: they come last, without those on which they depend. A block doesn't
+repeat the definitions of earlier blocks. A block ends with the names of code and of the toolchain's
+libraries that it uses, except those of Rattle.std.specs.Prelude.
 
---write prints the blocks anew. Without it the tool names the blocks that differ from the tree, and
-the status is 1 if any does.
+--write prints the blocks again. Without --write the tool lists the blocks that differ from the
+tree, and the status is 1 if any differs.
 """
 
 from __future__ import annotations
@@ -52,7 +52,7 @@ def texts_in(file: str) -> dict[str, str]:
 
 
 def texts() -> Iterator[tuple[Place, str]]:
-    """The text of each definition of the tree."""
+    """The text of each definition in the tree."""
     for file in sorted(CRATES.glob("*/specs/**/*.antt")):
         crate, _, *module = file.relative_to(CRATES).with_suffix("").parts
         for name, text in texts_in(source(file)).items():
@@ -60,7 +60,7 @@ def texts() -> Iterator[tuple[Place, str]]:
 
 
 def item_of(path: Place) -> str:
-    """The type or constant of the code that a path names: `cred_cli::Event` of
+    """The type or constant in the code that a path names: `cred_cli::Event` for
     `Rattle.cred_cli.specs.declared.event.Event.TheVariants.Begin`."""
     names = [it for it in path[3:] if it[0].isupper() and it != "TheConstants"]
     return "::".join([path[1], *names[:1]])
@@ -96,7 +96,8 @@ class Printer:
                 yield self.found.origin((*path, *fields))
 
     def below(self, roots: list[Place], chapters: list[Place]) -> list[Place]:
-        """Some definitions and all that they rest on, as they are first named, but for chapters."""
+        """Some definitions and all on which they depend, in the order in which they are first
+        named, except for chapters."""
         found: dict[Place, None] = {}
         left = [*reversed(roots)]
         while left:
@@ -116,7 +117,7 @@ class Printer:
         return [*listed_as("of the code", items), *listed_as("of the toolchain", library)]
 
     def block(self, said: str) -> str:
-        """The text that a line of the page asks for."""
+        """The text that a line of the page requests."""
         roots, chapters = (
             [self.place(it) for it in part.split(",") if it.strip()]
             for part in said.partition(" up to ")[::2]
@@ -135,7 +136,7 @@ class Printer:
 
 
 def printed(page: str) -> str:
-    """A page, with each of its blocks as the tree has it."""
+    """A page, with each of its blocks as in the tree."""
     printer = Printer()
 
     def block(found: re.Match[str]) -> str:
@@ -153,10 +154,10 @@ def check() -> Iterator[str | None]:
         yield f"docs/DEFINITIONS.md: {wrong}"
         return
     blocks = [it[0] for it in BLOCK.finditer(wanted)]
-    yield None if blocks else "docs/DEFINITIONS.md asks for no definitions"
+    yield None if blocks else "docs/DEFINITIONS.md has no block of definitions"
     for found, block in zip(BLOCK.finditer(page), blocks):
         said = found[1].partition(" up to ")[0]
-        wrong_block = f"docs/DEFINITIONS.md: {said} isn't as in specs/: `{WRITE}` corrects it"
+        wrong_block = f"docs/DEFINITIONS.md: {said} differs from specs/: `{WRITE}` corrects it"
         yield None if found[0] == block else wrong_block
 
 

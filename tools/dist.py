@@ -1,12 +1,12 @@
 #!/usr/bin/env python3
-"""Writes out/rigzumal-VERSION.tar.xz, and its sum beside it: `make dist` runs it.
+"""Writes out/rigzumal-VERSION.tar.xz with its checksum beside it; `make dist` runs this script.
 
     python3 tools/dist.py
 
-The tarball holds each committed file, the objects of the programs that tools/build.py --object kept
-(see tools/programs.py), and a list of what is compiled in it, with licences. The tarball doesn't
-need rt: a C compiler, make and Python build and install it. One commit and its objects give the
-same bytes, wherever, whenever and by whomever they are packed.
+The tarball contains each committed file, the objects of the programs that tools/build.py --object
+kept (see tools/programs.py), and a list of its compiled code with the licences. Without rt, a C
+compiler, make and Python can build and install the tarball. One commit and its objects always give
+the same bytes, wherever, whenever and by whomever they are packed.
 """
 
 import hashlib
@@ -28,22 +28,22 @@ OUT = TOP / "out"
 
 
 def git(*words):
-    """The output of git, without its configuration of line ends and owners."""
+    """The output of git, independent of configured line ends and owners."""
     words = ["git", "-c", f"safe.directory={TOP}", "-c", "core.autocrlf=false", *words]
     return subprocess.run(words, cwd=TOP, stdout=subprocess.PIPE, check=True).stdout
 
 
 def committed():
-    """Each committed file by its name, with its bytes, and whether it may be run."""
+    """Each committed file by its name, with its bytes, and whether it is executable."""
     if git("status", "--porcelain"):
-        sys.exit("make dist packs what is committed: commit your changes first")
+        sys.exit("make dist packs committed files: commit your changes first")
     with tarfile.open(fileobj=io.BytesIO(git("archive", "--format=tar", "HEAD"))) as archive:
         files = [it for it in archive if it.isfile()]
         return {it.name: (archive.extractfile(it).read(), bool(it.mode & 0o100)) for it in files}
 
 
 def objects():
-    """The objects of the programs, and of which sources they are."""
+    """The objects of the programs, and the sources of each object."""
     for level in (*programs.LEVELS, programs.ARM64):
         for program in programs.PROGRAMS:
             if programs.is_kept(program, level):
@@ -52,15 +52,14 @@ def objects():
                     packed = programs.PACKED.relative_to(TOP) / level / name
                     yield str(packed), ((folder / name).read_bytes(), False)
             elif level == programs.ARM64:
-                print(
-                    f"{program} for {level} isn't built, and is left out: make programs ARCH=arm64"
-                )
+                hint = "run make programs ARCH=arm64"
+                print(f"{program} for {level} isn't built, and is omitted: {hint}")
             else:
-                sys.exit(f"{program} for {level} isn't built: make dist does it")
+                sys.exit(f"{program} for {level} isn't built: run make dist")
 
 
 def tarball(files, seconds):
-    """A tarball of these files in the order of their names, which belong to nobody."""
+    """A tarball of these files in the order of their names, without owners."""
     packed = io.BytesIO()
     with tarfile.open(fileobj=packed, mode="w", format=tarfile.USTAR_FORMAT) as archive:
         for name, (data, is_program) in sorted(files.items()):

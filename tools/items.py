@@ -1,4 +1,4 @@
-"""The items of a file of Rattle, with their contracts."""
+"""The items in a file of Rattle, with their contracts."""
 
 from __future__ import annotations
 
@@ -34,7 +34,7 @@ class Token:
 
 @dataclasses.dataclass
 class Clause:
-    """A clause of a contract, or a ghost item, in antt; a lone clause has no name."""
+    """A clause of a contract, or a ghost item, in antt; a single clause has no name."""
 
     kind: str
     name: str
@@ -43,7 +43,7 @@ class Clause:
 
 @dataclasses.dataclass
 class Item:
-    """An item: the words before its braces, and those in them."""
+    """An item: the words before its braces, and those inside."""
 
     kind: str
     name: str
@@ -79,7 +79,7 @@ class File:
         return found
 
     def words(self, start: int, end: int) -> list[str]:
-        """Some words, without a comma that only the layout has before a bracket."""
+        """Some words, without a comma before a bracket, which is only layout."""
         found = [it.text for it in self.tokens[start:end]]
         behind = [*found[1:], ""]
         return [it for it, after in zip(found, behind) if it != "," or after not in (")", "}", "]")]
@@ -95,7 +95,7 @@ class File:
         return self.text_of(start + 1, self.closing[start])
 
     def until(self, start: int, end: int, stops: set[str]) -> int:
-        """The first of some words behind a place, outside of brackets."""
+        """The first of some words after a place, outside brackets."""
         at = start
         while at < end and self.tokens[at].text not in stops:
             at = self.closing.get(at, at) + 1
@@ -116,7 +116,8 @@ class File:
         return [it for it in found if it.kind != ";"]
 
     def attributes(self, at: int, end: int) -> tuple[int, list[str]]:
-        """The place behind some attributes, and those that change what an item means."""
+        """The place after some attributes, and the attributes that change the meaning of an
+        item."""
         found = []
         while at < end and self.tokens[at].text == "#":
             opens = self.until(at, end, {"["})
@@ -127,12 +128,12 @@ class File:
         return at, [" ".join(it) for it in found if it[0] not in UNSEEN]
 
     def item(self, at: int, end: int) -> tuple[Item, int]:
-        """The item at a place, and the place behind it."""
+        """The item at a place, and the place after it."""
         kind_at = self.until(at, end, KINDS | {";"})
         kind = self.tokens[kind_at].text if kind_at < end else ";"
         words = self.words(at, min(kind_at + 1, end))
         if "!" in words[:2]:
-            raise ValueError(f"a macro among items, whose items aren't seen: {words[0]}!")
+            raise ValueError(f"a macro among items, which hides its items: {words[0]}!")
         if kind == "const" and self.tokens[kind_at + 1].text == "fn":
             kind, kind_at = "fn", kind_at + 1
         name = self.tokens[kind_at + 1].text if kind_at + 1 < end else ""
@@ -156,7 +157,7 @@ class File:
         return self.tokens[at].text == "pub" and self.tokens[at + 1].text != "("
 
     def with_body(self, item: Item, at: int, end: int) -> int:
-        """Reads the contract and the body of an item, and returns its end."""
+        """Reads the contract and the body of an item, and returns the end of the body."""
         stop = self.until(at, end, ENDS_HEAD[item.kind])
         while stop < end and self.tokens[stop].text in CLAUSES:
             opens = self.until(stop, end, {"{"})
@@ -174,7 +175,7 @@ class File:
         return stop
 
     def fields(self, at: int, end: int) -> list[Item]:
-        """The fields of a struct, and the facts that it keeps of them."""
+        """The fields of a struct, and the facts that the struct keeps about them."""
         found = []
         while at < end:
             at, attributes = self.attributes(at, end)

@@ -1,4 +1,4 @@
-"""The tests of the tree, and the command of each folder's, for tools/run_tests.py."""
+"""The tests of the tree, and the command for each folder, for tools/run_tests.py."""
 
 from __future__ import annotations
 
@@ -16,7 +16,7 @@ TOLD = TOP / "tests/told.py"
 
 @dataclasses.dataclass(frozen=True)
 class Folder:
-    """A folder with modules of tests, each named by the part between `test_` and `.py`."""
+    """A folder with test modules, each named by the part between `test_` and `.py`."""
 
     path: str
     # Whether its modules are of the package `tests`, and not found from their own folder.
@@ -82,7 +82,7 @@ PROGRAMS = {
 
 @dataclasses.dataclass(frozen=True)
 class Job:
-    """The tests or the tool of one process."""
+    """The tests or the tool that run in one process."""
 
     name: str
     folder: str
@@ -136,8 +136,8 @@ def seconds() -> dict[str, float]:
 
 
 def jobs(words: Collection[str] = (), is_long: bool = False) -> list[Job]:
-    """The jobs with one of these words in their names, of every run or the long ones; the longest
-    come first, and those of unknown length."""
+    """The jobs with one of these words in their names, either those of every run or the long ones;
+    the longest jobs, and those of unknown length, come first."""
     every = [*programs(), *(job for folder in FOLDERS for job in modules_of(folder))]
     found = [it for it in every if any(word in it.name for word in words or ("",))]
     known = seconds()

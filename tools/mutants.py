@@ -1,11 +1,11 @@
-"""The standard changes of a file in Python, C or Rust, one at a time, for tools/mutate.py."""
+"""The standard mutations of a file in Python, C or Rust, one at a time, for tools/mutate.py."""
 
 import re
 from typing import NamedTuple
 
 
 class Mutant(NamedTuple):
-    """The bytes from start to end are replaced by new."""
+    """A mutation replaces the bytes from start to end by new."""
 
     start: int
     end: int
@@ -78,7 +78,7 @@ NO_CALL = TESTED | {"for", "switch", "sizeof", "return", "match", "pub", "in", "
 
 
 class Tokens:
-    """The tokens of a file and, of each, the bracket around it."""
+    """The tokens of a file and, for each token, the bracket around it."""
 
     def __init__(self, source, language):
         self.source, self.language = source.decode("latin-1"), language
@@ -251,7 +251,7 @@ class Tokens:
 
 
 def mutants_of(path):
-    """The mutants of a file, each once, and none that leaves it as it is."""
+    """The mutants of a file, each only once, and none equal to the file."""
     source = path.read_bytes()
     places = {
         (it.start, it.end, it.new): it for it in Tokens(source, LANGUAGES[path.suffix]).mutants()

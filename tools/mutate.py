@@ -5,20 +5,20 @@ through.
     python3 tools/mutate.py FILE [--sample N] [--seed S] [--jobs N] [--limit SECONDS]
                                  [--build COMMAND] --tests COMMAND..
 
-FILE is in Python, C or Rust. The tests run at the top of copies of the repository, with what lies
-in its folders `out`:
+FILE is in Python, C or Rust. The tests run at the top of copies of the repository, which include
+the contents of its `out` folders:
 
     python3 tools/mutate.py python/rigzumal/_parts.py --tests \\
         /usr/bin/python3 -m unittest discover -s python/tests/hashers -k library
     python3 tools/mutate.py c/src/base64.c --sample 40 --tests make -s -C c test
 
-Without --sample it tries all changes. First the tests have to pass in each copy, with nothing
-changed; five times what they took is the limit of a mutant, unless --limit names another. A mutant
-that ends in time with status 0 survives. One that Python can't compile, or that --build refuses
-(for C `make` and for Rust `cargo test --no-run` in the nearest folder that has a Makefile or
+Without --sample it tries all changes. First the tests must pass in each copy, with nothing changed;
+the time limit of a mutant is five times their time, unless --limit sets another. A mutant survives
+if its run ends in time with status 0. A mutant that Python can't compile, or that --build refuses
+(for C `make` and for Rust `cargo test --no-run` in the nearest folder with a Makefile or
 Cargo.toml), doesn't count as refused. The status is 1 if the tests fail with nothing changed, and
-otherwise 0. See that COMMAND runs tests at all: unittest of Python 3.11 ends with status 0 where -k
-names none, and then all survive.
+otherwise 0. Make sure that COMMAND runs any tests: unittest of Python 3.11 exits with status 0 if
+-k matches none, and then all mutants survive.
 """
 
 import argparse
@@ -46,7 +46,7 @@ def output(folder, *command):
 
 
 class Copy:
-    """The repository again, in a folder of its own."""
+    """A copy of the repository in a separate folder."""
 
     def __init__(self, top, room, file):
         self.top, self.file, self.original = room, room / file, (top / file).read_bytes()
@@ -69,8 +69,8 @@ class Copy:
         output(top, "cp", "-a", "--parents", "-t", room, *files)
 
     def passes(self, command, limit):
-        """Whether a command ends in time with status 0; nothing of its process group is left
-        then."""
+        """Whether a command ends in time with status 0; afterwards nothing of its process group
+        remains."""
         env = {**os.environ, "PYTHONDONTWRITEBYTECODE": "1"}
         quiet = {
             "stdin": subprocess.DEVNULL,

@@ -3,13 +3,14 @@
 
     python3 tools/pages.py
 
-The figures, times, versions and places that pages name, their links and pictures, the code that
-they have from files, the names that docs/PROMISES.md and docs/PLANTED.md give, and the promises
-that docs/STATEMENTS.txt has: each check below says what it compares. Each link leads to a file, and
-each picture has a text for those who can't see it.
+The tool compares the figures, times, versions and places that pages name, their links and pictures,
+the code that they include from files, the names in docs/PROMISES.md and docs/PLANTED.md, and the
+promises in docs/STATEMENTS.txt: each check below says what it compares. Each link must lead to a
+file, and each picture must have a text for readers who can't see it.
 
-Without rt the tool leaves out the checks that need the toolchain, and says so in a line. The last
-line is `N passed, M failed`, with `, K left out` then, and the status is 1 if anything failed.
+Without rt the tool omits the checks that need the toolchain, and says so on a line. The last line
+is `N passed, M failed`, followed by `, K left out` in this case, and the status is 1 if anything
+failed.
 """
 
 from __future__ import annotations
@@ -75,7 +76,7 @@ Facts = Iterable["str | None"]
 
 
 def git(*words: str) -> str:
-    """The output of git, whose status is 1 if it found nothing."""
+    """The output of git; status 1 means that git found nothing."""
     done = subprocess.run(["git", *words], cwd=TOP, capture_output=True, text=True)
     if done.returncode > 1:
         raise SystemExit(f"git {words[0]}: {done.stderr.strip()}")
@@ -87,7 +88,7 @@ def name_of(page: pathlib.Path) -> str:
 
 
 def versions() -> Facts:
-    """The fault of each file that has the version."""
+    """The fault of each file that contains the version."""
     there = (TOP / "VERSION").read_text().strip()
     for file, form in VERSIONED.items():
         said = re.search(form, (TOP / file).read_text(), re.M)
@@ -121,8 +122,8 @@ def house() -> Facts:
 
 
 def figures() -> Facts:
-    """The counts of README: the crates that the gate proves, the wrong bodies that it tries, and
-    its tests. No time is left open."""
+    """The counts in README: the crates that the gate proves, the wrong bodies that it tries, and
+    its tests. No time may be left open."""
     code = [source(it) for it in CRATES.glob("*/src/**/*.rt")]
     there = {
         "crates": len(listed()),
@@ -141,17 +142,17 @@ def figures() -> Facts:
 
 
 def in_minutes(elapsed: str) -> str:
-    """`7 min 23 s to 15 min 47 s` as README says it: `7 to 16`."""
+    """`7 min 23 s to 15 min 47 s` in the form of README: `7 to 16`."""
     found = re.findall(r"(?:(\d+) h )?(\d+) min(?: (\d+) s)?", elapsed)
     minutes = (int(h or 0) * 60 + int(m) + int(s or 0) / 60 for h, m, s in found)
     return " to ".join(f"{it:.0f}" for it in minutes)
 
 
 def times() -> Facts:
-    """README's times, with those of BUILDING's table, and the processors that they are of."""
+    """README's times, compared with BUILDING's table, and the number of processors."""
     readme, building = (" ".join(it.read_text().split()) for it in (README, BUILDING))
     rows = [re.search(rf"\| {re.escape(it)}[^|]*\| ([^|]*) \|", building) for it in TIMES]
-    processors = re.search(r"These are of [^.]*?(\w+ processors)", building)
+    processors = re.search(r"The times below are from [^.]*?(\w+ processors)", building)
     if processors is None or None in rows:
         lost = [it for it, row in zip(TIMES, rows) if row is None] or ["some number of processors"]
         yield f"docs/BUILDING.md has no time of {lost[0]}"
@@ -163,7 +164,7 @@ def times() -> Facts:
 
 
 def logic() -> Facts:
-    """The logic that the toolchain here proves in, and each page that doesn't name it."""
+    """The logic of the toolchain on this machine, and each page that doesn't name it."""
     [here] = re.findall(r"\blogic (\w+)", tree.told_by_rt("version"))
     for page in (README, BUILDING):
         named = f"{name_of(page)} doesn't name the toolchain's logic: {here}"
@@ -171,7 +172,7 @@ def logic() -> Facts:
 
 
 def stands(place: str) -> bool:
-    """Whether a place is there: a test, `CRATE::TEST`, a file by its path, or a wrong body of the
+    """Whether a place exists: a test, `CRATE::TEST`, a file by its path, or a wrong body of the
     gate, `CRATE/NAME`."""
     if "::" in place:
         return has_test(*place.split("::"))
@@ -179,8 +180,8 @@ def stands(place: str) -> bool:
 
 
 def planted() -> Facts:
-    """The wrong bodies of docs/PLANTED.md: the third column of its tables names where each is in
-    the gate, or tests that refuse it."""
+    """The wrong bodies in docs/PLANTED.md: the third column of its tables names the place of each
+    in the gate, or the tests that refuse it."""
     page = (TOP / "docs/PLANTED.md").read_text()
     rows = re.findall(r"^\| .*", re.sub(r"^\| .*\n\|-.*\n", "", page, flags=re.M), re.M)
     yield None if rows else "docs/PLANTED.md has no table of named wrong bodies"
@@ -197,7 +198,7 @@ def without_code(text: str) -> str:
 
 
 def anchors(page: pathlib.Path) -> set[str]:
-    """The anchors of a page's headings, as forges make them."""
+    """The anchors of a page's headings, as forges generate them."""
     heads = re.findall(r"^#+ (.*)$", without_code(source(page)), re.M)
     return {re.sub(r"[^\w -]", "", it.lower()).replace(" ", "-") for it in heads}
 
@@ -219,8 +220,8 @@ def links(page: pathlib.Path) -> Facts:
 
 
 def places(page: pathlib.Path) -> Facts:
-    """Each file or folder of the tree that a page names in code, seen from the top, from the page
-    or from a crate."""
+    """Each file or folder of the tree that a page names in code, relative to the top, to the page
+    or to a crate."""
     text = re.sub(r"```.*?```|\[[^\]]*\]\([^)]*\)", "", source(page), flags=re.S)
     for place in re.findall(rf"(?<![\w/.~-])((?:{FOLDERS})/[\w./-]*\w)", text):
         if place not in INSTALLED and not re.search(r"/out\b|[A-Z]{4}", place):
@@ -241,13 +242,13 @@ def variables() -> Facts:
 
 
 def plain(code: str) -> str:
-    """Code without what sets it in."""
+    """Code without its indentation."""
     return re.sub(r"[ \t]+", " ", re.sub(r"^[ \t]+", "", code, flags=re.M)).strip("\n")
 
 
 def callers(page: pathlib.Path) -> Facts:
-    """Code after a line `<!-- from FILE -->`: the file has it word for word, but for the part that
-    a line of two dots leaves out."""
+    """Code after a line `<!-- from FILE -->`: the file contains it word for word, except for the
+    part that a line of two dots omits."""
     form = r"^<!-- from (\S+) -->\n```\w+\n(.*?)^```$"
     for name, code in re.findall(form, page.read_text(), re.S | re.M):
         parts = re.split(r"^\s*(?://\s*)?\.\.\s*$", code, flags=re.M)
@@ -258,7 +259,7 @@ def callers(page: pathlib.Path) -> Facts:
 
 
 def rooms() -> Facts:
-    """A page for each crate, and its place in the picture."""
+    """Each crate must have a page, and a place in the picture."""
     picture = (TOP / "docs/pictures/crates.svg").read_text()
     for name in sorted(listed()):
         is_there = (CRATES / name / "README.md").is_file()
@@ -269,7 +270,8 @@ def rooms() -> Facts:
 
 
 def order() -> Facts:
-    """The table of docs/ARCHITECTURE.md: each crate has a row, below those of all that it uses."""
+    """The table in docs/ARCHITECTURE.md: each crate has a row, below the rows of all crates that it
+    uses."""
     page = source(TOP / "docs/ARCHITECTURE.md")
     rows = [re.findall(r"\(\.\./crates/(\w+)\)", it) for it in re.findall(r"^\| \[.*", page, re.M)]
     at = {name: number for number, row in enumerate(rows) for name in row}
@@ -280,7 +282,7 @@ def order() -> Facts:
 
 
 def definitions() -> Facts:
-    """Each file of definitions, in its crate's section of docs/DEFINITIONS.md."""
+    """Each file of definitions must be in its crate's section of docs/DEFINITIONS.md."""
     page = source(TOP / "docs/DEFINITIONS.md")
     sections = dict(re.findall(r"^## (\w+)\n(.*?)(?=^## |\Z)", page, re.S | re.M))
     for file in sorted(CRATES.glob("*/specs/**/*.antt")):
@@ -291,8 +293,8 @@ def definitions() -> Facts:
 
 
 def walks() -> Facts:
-    """The proofs by hand, which may give a ghost field any value: each is in a folder that is named
-    here."""
+    """The proofs by hand, which may give a ghost field any value: each must be in a folder that is
+    named here."""
     for proof in CRATES.glob("*/proofs/**/Proof.antt"):
         place = proof.relative_to(CRATES).as_posix()
         is_known = any(place.startswith(f"{it}/") for it in WALKS)
@@ -333,7 +335,7 @@ def facts() -> Iterator[str | None]:
 
 def main() -> int:
     unseen = [] if tree.has_rt() else OF_TOOLCHAIN.values()
-    return report([*facts()], [f"left out, as {tree.RT} isn't there: {it}" for it in unseen])
+    return report([*facts()], [f"omitted, since {tree.RT} is missing: {it}" for it in unseen])
 
 
 if __name__ == "__main__":

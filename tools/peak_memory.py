@@ -3,13 +3,13 @@
 
     python3 tools/peak_memory.py
 
-It runs tests of outside vectors, in the program that `rt test` or `rt ci` built last
-(crates/hash_tests/out/hash_tests_tests), each in a process of its own, where a shim before the C
-library's allocator adds up what was asked for and not yet given back. The most at any time is to be
-the memory of the parameters of the largest hash among them and at most SOME_KIB more. In tests of
-hashes that are made one after another in memory that is kept, all that was ever asked for is to be
-no more than that of one hash and SOME_KIB. A line for each test; the last line is `N passed, M
-failed`. The tool needs only the toolchain, whose compiler builds the shim.
+The script runs tests with external vectors in the program that `rt test` or `rt ci` built last
+(crates/hash_tests/out/hash_tests_tests), each in a separate process. A shim before the C library's
+allocator adds up the memory that is requested and not yet freed. The maximum must be at most
+SOME_KIB more than the memory that the parameters of the largest hash require. In tests of hashes
+that reuse kept memory, all requests together must be at most the memory of one hash and SOME_KIB.
+The script prints a line for each test; the last line is `N passed, M failed`. It needs only the
+toolchain, whose compiler builds the shim.
 """
 
 import sys
@@ -35,7 +35,7 @@ SOME_KIB = 64
 
 
 def looked_at(ending, word, kib):
-    """Measures a test: a line for it if its memory is too much, or too little."""
+    """Measures a test; returns a line for it if it uses too much or too little memory."""
     [test] = tests_of("hash_tests", ending)
     done, counted = counts(test)
     found = counted.get(word, 0)

@@ -1,11 +1,12 @@
 #!/usr/bin/env python3
-"""Draws the pictures of docs/pictures from text: the tree's own, and docs/pictures/*.txt.
+"""Draws the pictures in docs/pictures from text: from the tree's own files, and from
+docs/pictures/*.txt.
 
     /usr/bin/python3 tools/pictures.py [NAME..]                    (without a name, all of them)
 
-overtaken.svg, server.svg and kept-change.svg are drawn from the text beside them, speed.svg from
-the first table of bench/RESULTS.md, and crates.svg by graphviz's dot from crates.txt and
-around-the-crates.txt. tools/pages.py compares all but crates.svg with what they are drawn from.
+The script draws overtaken.svg, server.svg and kept-change.svg from the text beside them, speed.svg
+from the first table of bench/RESULTS.md, and crates.svg, with graphviz's dot, from crates.txt and
+around-the-crates.txt. tools/pages.py compares all pictures except crates.svg with their sources.
 """
 
 import html
@@ -41,7 +42,7 @@ LOOKS = (
 
 
 def lines_of(name):
-    """The lines of a text that say something."""
+    """The lines of a text that have content."""
     return [
         it
         for it in (PICTURES / name).read_text().splitlines()
@@ -50,7 +51,7 @@ def lines_of(name):
 
 
 def element(name, **attributes):
-    """An element of SVG with nothing in it; `_` in a name means `-`."""
+    """An SVG element without content; `_` in a name stands for `-`."""
     words = (f'{key.replace("_", "-")}="{value}"' for key, value in attributes.items())
     return f"<{name} {' '.join(words)}/>"
 
@@ -88,8 +89,8 @@ def svg(width, height, title, parts):
 
 
 def sequence(name):
-    """A sequence: a line of who takes part, `A | B`, and then `A > B: WORDS` for a step and `*
-    WORDS` for what all of them do."""
+    """A sequence: a line with the participants, `A | B`, followed by `A > B: WORDS` for a step and
+    `* WORDS` for an action of all participants."""
     title, who, *steps = lines_of(name)
     who = [it.strip() for it in who.split("|")]
     place = {it: 130 + 260 * i for i, it in enumerate(who)}
@@ -119,7 +120,7 @@ def sequence(name):
 
 
 def steps(name):
-    """Steps in their order, `WORDS | WHAT A CRASH LEAVES`: those that leave the same are in one
+    """Steps in their order, `WORDS | WHAT A CRASH LEAVES`: steps that leave the same result share a
     band."""
     title, heads, *rows = [[it.strip() for it in line.split("|")] for line in lines_of(name)]
     width, row = 900, 36
@@ -145,7 +146,7 @@ def steps(name):
 
 
 def setting(text):
-    """Costs as readers know them: `65536, 3, 1` is `64 MiB, t = 3, p = 1`."""
+    """Costs in the form that readers know: `65536, 3, 1` is `64 MiB, t = 3, p = 1`."""
     memory, passes, lanes = map(int, text.split(","))
     size = f"{memory / 1024:.3g} MiB" if memory >= 1024 else f"{memory} KiB"
     return f"{size}, t = {passes}, p = {lanes}"
@@ -176,7 +177,7 @@ def bars():
 
 
 def crates():
-    """Each crate of crates.txt but tests and examples, with the crates that it uses directly."""
+    """Each crate in crates.txt except tests and examples, with the crates that it uses directly."""
     shown = sorted(it for it in listed() if not is_test_or_example(it))
     return {
         it: sorted(
@@ -193,13 +194,13 @@ def cluster(name, label, colour, style, more=""):
 
 
 def node(line):
-    """A box for a thing that is no crate, for dot."""
+    """A box for something that isn't a crate, for dot."""
     _, name, words, _ = line
     return f'"{name.strip()}" [label="{name.strip()}\\n{words.strip()}"];'
 
 
 def crate_layers():
-    """The crates over one another, between what is tested above them and what is trusted below, as
+    """The crates above one another, between the tested parts above and the trusted parts below, as
     dot draws them."""
     title, *around = lines_of("around-the-crates.txt")
     graph = crates()
@@ -240,7 +241,7 @@ DRAWN = {
 
 
 def drawn(name):
-    """The text of a picture: one line, which has no readers."""
+    """The text of a picture as a single line, without comments for readers."""
     return " ".join(DRAWN[name]().split("\n")).strip() + "\n"
 
 
@@ -248,7 +249,7 @@ def check():
     """The fault of each picture that Python alone draws."""
     for name in DRAWN.keys() - {"crates.svg"}:
         is_new = (PICTURES / name).read_text() == drawn(name)
-        old = f"docs/pictures/{name} is of another text: run tools/pictures.py {name}"
+        old = f"docs/pictures/{name} differs from its text: run tools/pictures.py {name}"
         yield None if is_new else old
 
 

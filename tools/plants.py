@@ -1,15 +1,15 @@
 #!/usr/bin/env python3
-"""Plants a mistake in each folder that ships, one at a time, and checks that the tests refuse it.
+"""Plants a mistake in each folder that we ship, one at a time, and checks that the tests refuse it.
 
     python3 tools/plants.py [WORD..]
 
-A maintainer runs it before a release, once the gate has built all. The tool makes each change of
-the table below in a copy of the tree with its built files, and there tools/run_tests.py runs the
-jobs that the plant names, up to the first failure. A test that fails there with nothing planted
-refuses nothing: all jobs run once so first. If no other test fails, or the file lacks the text that
-is replaced, the plant is NOT REFUSED. With words only plants with one of them in their file's name
-are tried. Each line ends with the seconds of the plant's jobs. The last line is `N refused, M not`,
-and the status is 1 if one wasn't.
+A maintainer runs this script before a release, once the gate has built everything. The script makes
+each change of the table below in a copy of the tree with its built files, where tools/run_tests.py
+runs the jobs that the plant names, up to the first failure. A test that fails without a plant
+refuses nothing, so all jobs first run once without one. If no other test fails, or the file lacks
+the text to replace, the plant is NOT REFUSED. With words, the script tries only plants whose file
+names contain one of them. Each line ends with the seconds of the plant's jobs. The last line is
+`N refused, M not`, and the status is 1 if a plant wasn't refused.
 """
 
 from __future__ import annotations
@@ -33,7 +33,7 @@ BUILT += [f"crates/{name}/out/{name}" for name in ("credbook", "credkeep")]
 
 
 class Plant(NamedTuple):
-    """A file, a text of it, the text in its place, and the jobs that must fail."""
+    """A file, a text in it, the replacement, and the jobs that must fail."""
 
     file: str
     old: str
@@ -164,7 +164,7 @@ PLANTS = (
 
 
 def copied(room: pathlib.Path) -> pathlib.Path:
-    """A copy of the files of the tree, as a repository too, and of what is built."""
+    """A copy of the files of the tree and of the build results, as a repository."""
     listed = ["git", "ls-files", "--cached", "--others", "--exclude-standard"]
     names = subprocess.run(listed, cwd=TOP, capture_output=True, text=True, check=True).stdout
     built = [it for form in BUILT for it in TOP.glob(form) if it.is_file()]
@@ -179,7 +179,7 @@ def copied(room: pathlib.Path) -> pathlib.Path:
 
 
 def failures(top: pathlib.Path, words: Iterable[str], *options: str) -> list[str]:
-    """The tests that fail in the jobs of these words, or what says that none could run."""
+    """The failing tests in the jobs of these words, or a text that says that none could run."""
     done = subprocess.run(
         [sys.executable, str(top / "tools/run_tests.py"), *options, *words],
         cwd=top,
@@ -193,7 +193,7 @@ def failures(top: pathlib.Path, words: Iterable[str], *options: str) -> list[str
 
 
 def refusal(top: pathlib.Path, plant: Plant, failing: Collection[str]) -> str:
-    """The test that refuses a plant, of those that pass with nothing planted; or nothing."""
+    """The test that refuses a plant, among those that pass without a plant; or nothing."""
     path = top / plant.file
     text = path.read_text()
     if plant.old not in text:
@@ -213,7 +213,7 @@ def main() -> int:
     words = reader.parse_args().words or [""]
     chosen = [it for it in PLANTS if any(word in it.file for word in words)]
     if not chosen:
-        raise SystemExit(f"no plant is of a file with {' or '.join(words)} in its name")
+        raise SystemExit(f"no plant changes a file with {' or '.join(words)} in its name")
     refused = 0
     with tempfile.TemporaryDirectory(prefix="rigzumal-plants-") as folder:
         room = pathlib.Path(folder)
@@ -221,7 +221,7 @@ def main() -> int:
         top = copied(room)
         failing = failures(top, {it.jobs for it in chosen})
         for name in failing:
-            print(f"it fails with nothing planted: {name}", flush=True)
+            print(f"it fails without a plant: {name}", flush=True)
         for plant in chosen:
             began = time.monotonic()
             by = refusal(top, plant, failing)

@@ -1,9 +1,9 @@
-"""The objects of the programs, as rt compiled what it proved, and how a C compiler links them.
+"""The objects of the programs, as rt compiled the proved code, and how a C compiler links them.
 
-An object lies in LEVEL/NAME.o of a folder, beside NAME.sum with the sum of each source that it was
-compiled of. tools/build.py keeps those that it builds in crates/NAME/out/objects, and `make dist`
-packs them into a tarball's c/proved/programs, for machines without rt. c/programs/calls.c has the
-seven calls that the objects need of the toolchain's part in C.
+An object is in LEVEL/NAME.o of a folder, beside NAME.sum with the checksum of each of its sources.
+tools/build.py keeps the objects that it builds in crates/NAME/out/objects, and `make dist` packs
+them into c/proved/programs of a tarball, for machines without rt. c/programs/calls.c implements the
+seven calls of the toolchain's part in C that the objects need.
 """
 
 import hashlib
@@ -26,14 +26,16 @@ FLAGS += " -Wl,-z,relro,-z,now -Wl,-z,noexecstack"
 
 
 def sources(program):
-    """All that rt reads of a program's crate and of those below it, but for their lines."""
+    """All files of a program's crate and of the crates below it that rt reads, except for
+    crates.txt."""
     crates = [CRATES / it for it in [*all_below(program), program]]
     folders = [crate / part for crate in crates for part in ("src", "specs", "proofs")]
     return [it for folder in folders for it in sorted(folder.rglob("*")) if it.is_file()]
 
 
 def sums(program):
-    """The crates' lines of crates.txt as comments, and the sum of each source, for sha256sum -c."""
+    """The crates' lines of crates.txt as comments, and the checksum of each source, for sha256sum
+    -c."""
     names = "|".join([*all_below(program), program])
     lines = re.findall(rf"^(?:{names})[ :].*\n", source(TOP / "crates.txt"), re.M)
     summed = [(hashlib.sha256(it.read_bytes()).hexdigest(), it) for it in sources(program)]
@@ -42,12 +44,12 @@ def sums(program):
 
 
 def kept(program):
-    """The folder with the objects that were built here."""
+    """The folder with the objects built on this machine."""
     return CRATES / program / "out/objects"
 
 
 def keep(program, level, compiled):
-    """Keeps an object that was compiled of the sources as they are."""
+    """Keeps an object that was compiled from the present sources."""
     folder = kept(program) / level
     folder.mkdir(parents=True, exist_ok=True)
     shutil.copyfile(compiled, folder / f"{program}.o")
@@ -55,7 +57,7 @@ def keep(program, level, compiled):
 
 
 def other_source(program, level, folder):
-    """A source that isn't as it was when the object was compiled, or nothing."""
+    """A source that has changed since the object was compiled, or nothing."""
     was, now = (folder / level / f"{program}.sum").read_text(), sums(program)
     changed = sorted({*was.splitlines()} ^ {*now.splitlines()})
     if not changed:
@@ -64,12 +66,12 @@ def other_source(program, level, folder):
 
 
 def has_object(program, level, folder):
-    """Whether the folder has the program's object for a level, of whatever sources."""
+    """Whether the folder has the program's object for a level, from whatever sources."""
     return (folder / level / f"{program}.o").is_file()
 
 
 def is_kept(program, level):
-    """Whether the object of the sources as they are was kept here."""
+    """Whether the object of the present sources was kept here."""
     folder = kept(program)
     return has_object(program, level, folder) and not other_source(program, level, folder)
 
@@ -83,7 +85,8 @@ def link(compiled, built, level):
 
 
 def link_packed(program, level, built):
-    """Links the packed object of a program, unless it is of other sources than these."""
+    """Links the packed object of a program, unless it was compiled from other sources than the
+    present ones."""
     if not has_object(program, level, PACKED):
         raise SystemExit(
             f"{program}: no object for {level} in {PACKED.relative_to(TOP)}; only the toolchain's "
@@ -91,7 +94,7 @@ def link_packed(program, level, built):
         )
     if other := other_source(program, level, PACKED):
         raise SystemExit(
-            f"{program}: its object in {PACKED.relative_to(TOP)} is of other sources than these "
+            f"{program}: its object in {PACKED.relative_to(TOP)} was compiled from other sources "
             f"({other} differs), and only the toolchain's rt compiles them, which isn't published"
         )
     link(PACKED / level / f"{program}.o", built, level)

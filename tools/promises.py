@@ -3,13 +3,12 @@
 
     python3 tools/promises.py
 
-Each call is named by its path, `cred_argon::argon::argon2` (`input_len`, `err`): the function has
-to stand in that file, within the type that the path names, if it names one. Its contract has to
-have the clauses in brackets, or be a record of specs/ that has these fields. Each test
-`CRATE::TEST`, each file, and each definition that a file "has" has to be there. The list of what is
-trusted has each crate of the toolchain that ours stand on, and no others. No cell of a table has
-over 120 characters. The last line is `N passed, M failed`, and the status is 1 if anything
-failed."""
+Each call is named by its path, `cred_argon::argon::argon2` (`input_len`, `err`): the function must
+be in that file, within the type that the path names, if it names one. Its contract must have the
+clauses in brackets, or be a record of specs/ with these fields. Each test `CRATE::TEST`, each file,
+and each definition that a file "has" must exist. The list of trusted code must contain each crate
+of the toolchain that our crates use, and no others. No table cell may have over 120 characters. The
+last line is `N passed, M failed`, and the status is 1 if anything failed."""
 
 import fnmatch
 import re
@@ -54,8 +53,8 @@ def owner(text, place):
 
 
 def functions(path):
-    """The places in its file where a function of this path begins: within the type that it names,
-    or in none."""
+    """The places in its file where a function with this path begins: within the type that it names,
+    or outside any type."""
     *modules, name = path.split("::")
     text, types = source(file_of(path)), [it for it in modules if not it.islower()]
     head = rf"\b{types[-1]}\b" if types else r"\A\Z"
@@ -69,7 +68,7 @@ def contracts(path):
 
 
 def fields(name):
-    """The names of the fields of each record of this name."""
+    """The field names of each record with this name."""
     texts = (source(it) for it in CRATES.glob("*/specs/**/*.antt"))
     records = re.compile(rf"^pub record {name}\b.*?(?=^\S|\Z)", re.S | re.M)
     found = [it for text in texts for it in records.findall(text)]
@@ -77,14 +76,14 @@ def fields(name):
 
 
 def has_clause(contract, name):
-    """Whether a contract has a clause of this name, or is one record that has this field."""
+    """Whether a contract has a clause with this name, or is a single record with this field."""
     record = re.findall(r"\bensures\s*\{\s*(\w+)", contract)
     is_field = len(record) == 1 and name in fields(record[0])
     return is_field or re.search(rf"\bensures {name}\b", contract) is not None
 
 
 def calls(text):
-    """The faults of the calls that a text names, and of the clauses in brackets after each."""
+    """The faults of the calls that a text names, and of the clauses in brackets after each call."""
     for path, clauses in re.findall(r"`(\w+(?:::\w+)+)`(?:\s*\(((?:`\w+`(?:,\s*)?)+)\))?", text):
         crate, *middle = path.split("::")
         if crate not in listed():
@@ -100,7 +99,7 @@ def calls(text):
 
 
 def words(text):
-    """The faults of the bare names that carry a promise: each belongs to the crate that was named
+    """The faults of the bare names that carry a promise: each name belongs to the crate named
     before it."""
     for item in re.findall(r"^- \*Carried by\*.*?(?=^- |^#|^$|\Z)", text, re.S | re.M):
         crate = None
@@ -120,7 +119,8 @@ def words(text):
 
 
 def files(text):
-    """The faults of the files that a text names, and of the definitions that it says they have."""
+    """The faults of the files that a text names, and of the definitions that the text attributes to
+    them."""
     for name in FILES.findall(text):
         yield None if (TOP / name).is_file() else f"the file {name} isn't there"
     for name, words in re.findall(
@@ -131,7 +131,7 @@ def files(text):
 
 
 def cells(text):
-    """Each cell that is too long to be read."""
+    """Each cell that is too long."""
     for row in (it for it in text.splitlines() if it.startswith("|")):
         yield from (
             f"a cell of over 120 characters: {it.strip()[:60]}.."
@@ -141,7 +141,7 @@ def cells(text):
 
 
 def reached(libraries):
-    """The toolchain's crates that ours use: those of crates.txt, and the ones below each of
+    """The toolchain's crates that our crates use: those in crates.txt, and all crates below
     them."""
     found, more = set(), {
         "std",
@@ -162,8 +162,8 @@ def reached(libraries):
 
 
 def trusted(text, crates):
-    """The faults of the list of trusted code: a line that begins with names of crates, or `NAME_*`
-    for several, trusts these."""
+    """The faults of the list of trusted code: a line that begins with the names of crates, or with
+    `NAME_*` for several, trusts these."""
     heads = re.findall(
         r"^- ((?:`[^`]+`(?:, )?)+):", text.partition("\n## What is trusted\n")[2], re.M
     )
@@ -183,7 +183,7 @@ def trusted(text, crates):
 
 
 def check():
-    """The faults of the page's names."""
+    """The faults of the names on the page."""
     text = PAGE.read_text()
     return [
         it and f"docs/PROMISES.md: {it}"

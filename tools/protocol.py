@@ -1,12 +1,12 @@
 #!/usr/bin/env python3
-"""Writes the parts of other files that come from the server's table of answers.
+"""Writes the parts of other files that are generated from the server's table of answers.
 
     python3 tools/protocol.py [--write]
 
-The table is in python/rigzumal/server/daemon/protocol.py. Of it are the header of the PAM module
-(all of c/pam/answers.h), and between two marks of their own the replies of the clients for Python,
-the table of docs/ERRORS.md and the section ANSWERS of credkeep-server(8). Without --write it names
-the files that have another text, and the status is 1 if there is one.
+The table is in python/rigzumal/server/daemon/protocol.py. The script generates the header of the
+PAM module (all of c/pam/answers.h) and, between two marks, the replies of the Python clients, the
+table in docs/ERRORS.md and the section ANSWERS of credkeep-server(8). Without --write it lists the
+files with a different text, and the status is 1 if there are any.
 """
 
 import argparse
@@ -64,7 +64,7 @@ def replies():
 
 
 def rows_of_page():
-    """The table of docs/ERRORS.md."""
+    """The table in docs/ERRORS.md."""
     rows = ["| Answer | What it means | HTTP | `credkeep-ask` ends with |", "|---|---|--:|--:|"]
     of_http = set(OPERATIONS[b"verify"].answers.split())
     of_others = {word for it in OPERATIONS.values() for word in it.answers.split()} - of_http
@@ -76,7 +76,7 @@ def rows_of_page():
 
 
 def section():
-    """The section of the manual."""
+    """The section in the manual."""
     lines = []
     for word, answer in ANSWERS.items():
         text = re.sub(r"`([^`]*)`", r"\\fB\1\\fP", answer.meaning).replace("-", "\\-")
@@ -115,7 +115,7 @@ def written(text, made, begin, end):
 
 
 def texts():
-    """Each file, and the text that it ought to have."""
+    """Each file, and the text that it should have."""
     yield TOP / "c/pam/answers.h", header()
     for name, (make, begin, end) in PARTS.items():
         path = TOP / name
@@ -132,7 +132,7 @@ def main():
         if options.write:
             path.write_text(text)
         else:
-            print(f"{path.relative_to(TOP)} isn't of the table: tools/protocol.py --write")
+            print(f"{path.relative_to(TOP)} differs from the table: run tools/protocol.py --write")
             status = 1
     return status
 

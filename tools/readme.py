@@ -4,12 +4,12 @@ each.
 
     python3 tools/readme.py [FILE..]          (README.md, docs/*.md and crates/*/README.md)
 
-A session is a block marked `sh`; the block marked `text` right below is its output. All sessions of
-a page run in one bash and one folder, in their order, with the built programs of crates/*/out (`rt
-run` builds them) and this Python as `python3` in their path, and the Python package beside them.
-The folder holds links to crates/, c/ and python/ and nothing else. A session with no text below it,
-or that installs something, is named and not run. A session whose program is missing is named and
-skipped. The last line is `N passed, M failed`, and the status is 1 if anything failed or nothing
+A session is a block marked `sh`; the block marked `text` just below it is its output. All sessions
+of a page run in one bash and one folder, in order. Their path has the built programs of
+crates/*/out (`rt run` builds them) and this Python as `python3`, with the Python package. The
+folder contains only links to crates/, c/ and python/. The script lists, but doesn't run, a session
+without a text below it or one that installs something. It lists and skips a session whose program
+is missing. The last line is `N passed, M failed`, and the status is 1 if anything failed or nothing
 passed.
 """
 
@@ -43,7 +43,7 @@ def pages():
 
 
 def sessions_of(page):
-    """Each session with its line and the text that it has to print, or none."""
+    """Each session with its line number and the expected output, or none."""
     blocks = [*BLOCK.finditer(page), None]
     for block, below in zip(blocks, blocks[1:]):
         if block[1] == "sh":

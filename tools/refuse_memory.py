@@ -1,15 +1,16 @@
 #!/usr/bin/env python3
-"""Runs tests of a crate again and again, and refuses the first request for memory, then the second,
-and so on.
+"""Repeats the tests of a crate, and refuses the first request for memory, then the second, and so
+on.
 
     python3 tools/refuse_memory.py [CRATE [WORD]]
 
-The tests are those with the word in their names, `::refused` if none is given, in the program that
-`rt test` or `rt ci` built last (crates/CRATE/out/CRATE_tests); with no crate, of every crate of
-tests. Each is run with its Nth request for memory refused, for N from 1 to the first N that refuses
-nothing. A line for each test has how many requests were refused, and the numbers at which the test
-failed; the last line is `N passed, M failed`. `rt try --test --fail-alloc N` does the same for one
-N, and builds each time. The tool needs only the toolchain, whose compiler builds the refusing shim.
+The script runs the tests with the word in their names, `::refused` by default, in the program that
+`rt test` or `rt ci` built last (crates/CRATE/out/CRATE_tests); without a crate, in those of all
+test crates. Each test runs with its Nth memory request refused, for N from 1 to the first N that
+refuses nothing. A line for each test has the number of refused requests, and the numbers at which
+the test failed; the last line is `N passed, M failed`. `rt try --test --fail-alloc N` does the same
+for a single N, and builds each time. The script needs only the toolchain, whose compiler builds the
+shim that refuses memory.
 """
 
 import pathlib
@@ -40,7 +41,7 @@ def tests_of(crate, word):
     """The tests of a crate with the word in their names, each as a command."""
     program = CRATES / crate / "out" / f"{crate}_tests"
     if not program.exists():
-        sys.exit(f"{program} isn't there: run rt test in its crate, or rt ci")
+        sys.exit(f"{program} doesn't exist: run rt test in its crate, or rt ci")
     listed = subprocess.run(
         [program, "--list"], capture_output=True, text=True, check=True
     ).stdout.splitlines()

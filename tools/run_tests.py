@@ -1,19 +1,19 @@
 #!/usr/bin/env python3
-"""Runs the tests over what `rt ci` built, as many side by side as there are processors.
+"""Runs the tests over the results of `rt ci`, as many in parallel as the machine has processors.
 
     python3 tools/run_tests.py [--long] [--note] [--first] [WORD..]
 
-The jobs of tools/jobs.py run, those with one of the words in their names: each module of tests is a
-process of its own, and so are some tools. Meanwhile `make` builds the library and the PAM module
-from what was proved, or of c/proved where rt is missing, and the jobs that need them wait for that.
-The run prints the output of failed jobs. Each half minute a line names the running jobs. A test may
-be skipped only if tests/needs.py finds that the thing it names is missing. The last line is `tests:
-N passed, M failed, K skipped`, and the status is 1 if one failed. A signal ends the run with all
-that its jobs started; its last line is `tests: interrupted` then.
+The script runs the jobs of tools/jobs.py that have one of the words in their names: each test
+module is a separate process, and so are some tools. Meanwhile `make` builds the library and the PAM
+module from the proved code, or from c/proved if rt is missing, and the jobs that need them wait.
+The script prints the output of failed jobs. Every half minute a line lists the running jobs. A test
+may skip itself only if tests/needs.py finds that the thing it names is missing. The last line is
+`tests: N passed, M failed, K skipped`, and the status is 1 if any test failed. A signal ends the
+run and everything that its jobs started; the last line is then `tests: interrupted`.
 
---long runs the modules that every run leaves out. --note keeps how long each job took in
-tools/job_seconds.json, by which the longest begin first. --first begins no job after one that
-failed, and no test of a module after one that failed.
+--long runs the modules that every other run omits. --note stores the time of each job in
+tools/job_seconds.json, so that the longest jobs begin first. --first begins no job after a failed
+one, and no test of a module after a failed one.
 """
 
 from __future__ import annotations
@@ -58,7 +58,7 @@ if pathlib.Path("/usr/include/security/pam_modules.h").exists():
 
 
 def end_all(mark: str) -> None:
-    """Kills every process that has this mark."""
+    """Kills every process with this mark."""
     for place in pathlib.Path("/proc").glob("[0-9]*/environ"):
         with contextlib.suppress(OSError):
             if f"{mark};".encode() in place.read_bytes():
@@ -66,7 +66,7 @@ def end_all(mark: str) -> None:
 
 
 def interrupt(number: int, _: Any) -> None:
-    """Ends the run with all processes of its jobs, whose further output is lost."""
+    """Ends the run with all processes of its jobs, and drops their further output."""
     INTERRUPTED.set()
     os.write(sys.stdout.fileno(), b"tests: interrupted\n")
     os.dup2(os.open(os.devnull, os.O_WRONLY), sys.stdout.fileno())
@@ -98,7 +98,7 @@ class Done:
         self.judge()
 
     def run(self, told: pathlib.Path, printed: pathlib.Path) -> None:
-        """Runs the job to its end, or ends it with all that it started."""
+        """Runs the job to its end, or ends it with everything that it started."""
         mark, began = f"{os.getpid()}-{told}", time.monotonic()
         command = [it.format(told=told) for it in (*self.job.command, *self.words)]
         with open(printed, "wb") as output:
@@ -121,7 +121,7 @@ class Done:
         self.status = process.returncode = os.waitstatus_to_exitcode(status)
 
     def note(self, word: str, name: str, reason: str) -> None:
-        """The outcome of a test after one more line: a failure is never forgotten."""
+        """The outcome of a test after one more line; a failure is never forgotten."""
         if word == "all":
             self.is_whole = True
             return
@@ -132,8 +132,8 @@ class Done:
             self.tests[name] = f"{word} {reason}".strip()
 
     def judge(self) -> None:
-        """A test that has begun must have ended, and a module must have told of all its tests. A
-        job that is no module of tests is itself one test."""
+        """A test that has begun must end, and a module must report all its tests. A job that isn't
+        a test module is itself one test."""
         for name, word in self.tests.items():
             if word == "begun":
                 self.output += f"{name}: has not ended after {self.seconds:.0f} s\n"
@@ -160,7 +160,8 @@ def fault_of_build() -> str:
 
 
 class Progress:
-    """The running jobs, printed each half minute, and the outcomes of those that ended."""
+    """Prints the running jobs every half minute, and stores the outcomes of those that have
+    ended."""
 
     def __init__(self, count: int, is_first: bool = False) -> None:
         self.count, self.done = count, list[Done]()
@@ -181,8 +182,9 @@ class Progress:
         del self.running["make -C c"]
 
     def run_beside(self, chosen: list[Job]) -> None:
-        """Runs jobs side by side, but those that write into the same folders one after another. If
-        a job needs the library, the library is built first, beside jobs that don't need it."""
+        """Runs jobs in parallel, except that those which write into the same folders run one after
+        another. If a job needs the library, the script first builds the library, in parallel with
+        jobs that don't need it."""
         packing = [it for it in chosen if it.is_packing]
         queues = [packing, *([it] for it in chosen if not it.is_packing)]
         queues.sort(key=lambda queue: any(it.needs_library for it in queue))
@@ -192,7 +194,7 @@ class Progress:
             list(pool.map(self.run, queues))
 
     def run(self, queue: list[Job]) -> None:
-        """Runs jobs one after another, unless the library that they need isn't built."""
+        """Runs jobs one after another, unless the library that they need couldn't be built."""
         for job in queue:
             if INTERRUPTED.is_set() or job.needs_library and self.library.result():
                 return

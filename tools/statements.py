@@ -1,31 +1,33 @@
 #!/usr/bin/env python3
-"""Compares the crates' promises with docs/STATEMENTS.txt, which has a line for each.
+"""Compares the crates' promises with docs/STATEMENTS.txt, which has a line for each promise.
 
     python3 tools/statements.py [--write]
 
-A line is a sum and a name. The sum is over the words of the promise, and over all definitions in
-`specs/` and constants of the code that it rests on, in whatever crate. So a clause that is weakened
-changes its own line, and a definition those of the promises that rest on it. There is a line for
+A line consists of a checksum and a name. The checksum covers the words of the promise, and all
+definitions in `specs/` and constants of the code on which the promise depends, in any crate. A
+weakened clause therefore changes its own line, and a weakened definition the lines of the promises
+that depend on it. The file has a line for
 
 - each clause, `requires` and `ensures`, of a public function, of a trait and of an impl of a trait;
-- each ghost item, and each fact that a struct keeps of its fields;
-- each public function: its signature with its bounds, and whether its body is empty, as a law's is.
-  Those in RUNS count with their bodies, since their clauses tell what happens to the run in them;
+- each ghost item, and each fact that a struct keeps about its fields;
+- each public function: its signature with its bounds, and whether its body is empty, as that of a
+  law is. Functions in RUNS count with their bodies, since their clauses describe the run in those
+  bodies;
 - each public type, with its derives, texts of errors, variants and public fields; each impl of a
   trait; each public constant;
-- each crate: the names that it hands out, and its line in crates.txt; and HANDLES.
+- each crate: the names that it exports, and its line in crates.txt; and HANDLES.
 
-A signature, and what a crate hands out, count with what their imported names stand for. Refused is
-what no line would tell of: a macro among items, an import of all names, a file that no `mod` names,
-and an attribute that may hide an item, such as a condition other than `cfg(test)`.
+A signature, and the exports of a crate, count with the meaning of their imported names. The script
+refuses everything that no line would show: a macro among items, an import of all names, a file that
+no `mod` names, and an attribute that may hide an item, such as a condition other than `cfg(test)`.
 
-No line changes by a comment, the layout, the order of imports, a proof, another body, or where a
-file stands. A binder's or a definition's new name does change lines, as words are compared. What no
-line tells: the toolchain's own definitions, for which its logic stands; what is private in a type;
-and the crates of tests and examples, which promise nothing.
+A comment, the layout, the order of imports, a proof, a different body, or the file of an item
+changes no line. Renaming a bound variable or a definition does change lines, since the script
+compares words. No line shows the toolchain's own definitions, which its logic identifies; private
+parts of a type; or the crates of tests and examples, which promise nothing.
 
---write writes the file anew. Without, the names are printed whose lines differ, and the status is 1
-if there are some.
+--write writes the file again. Without --write the script prints the names whose lines differ, and
+the status is 1 if any differs.
 """
 
 from __future__ import annotations
@@ -63,7 +65,7 @@ def joined(words: Iterable[str]) -> str:
 
 
 def without_generics(words: list[str]) -> list[str]:
-    """Some words, without the `<..>` that they begin with."""
+    """Some words, without the `<..>` at their beginning."""
     depth = 0
     for at, word in enumerate(words):
         depth += {"<": 1, ">": -1}.get(word, 0)
@@ -114,14 +116,14 @@ def is_for_tests(item: Item) -> bool:
 
 
 def all_items(items: list[Item]) -> Iterator[Item]:
-    """Items, and those in their braces."""
+    """Items, and those inside their braces."""
     for item in items:
         yield item
         yield from all_items(item.inner)
 
 
 def sources_of(crate: str, crates: pathlib.Path) -> Iterator[Source]:
-    """The files of a crate's code, but for those that only its tests have."""
+    """The files of a crate's code, except those that only its tests use."""
     top = crates / crate / "src"
     found = {}
     for file in sorted(top.glob("**/*.rt")):
@@ -137,15 +139,16 @@ def sources_of(crate: str, crates: pathlib.Path) -> Iterator[Source]:
 
 
 def imports_of(item: Item) -> list[tuple[str, Place]]:
-    """The imports of a `use` of code: each local name, with its path."""
+    """The imports in a `use` of Rattle code: each local name, with its path."""
     path = item.head[item.head.index("use") + 1 :]
     if "*" in path:
-        raise ValueError(f"an import of names that aren't seen: {''.join(path)}")
+        raise ValueError(f"an import of unknown names: {''.join(path)}")
     return [*definitions.imported(["." if it == "::" else it for it in path])]
 
 
 def stated(item: Item, owner: Item | None, is_run: bool) -> list[str]:
-    """The text whose sum an item's line has: all that others see of the item except its clauses."""
+    """The text for the checksum of an item's line: everything that others see of the item except
+    its clauses."""
     words = [*item.attributes, *item.head]
     if item.kind == "fn" and owner is not None and owner.kind == "impl":
         words = [*owner.head, *words]
@@ -160,7 +163,7 @@ def stated(item: Item, owner: Item | None, is_run: bool) -> list[str]:
 
 
 class Statements:
-    """A line for each thing that some crates promise: its name, and its sum."""
+    """A line for each promise of some crates: its name, and its checksum."""
 
     def __init__(self, names: list[str], crates: pathlib.Path = CRATES) -> None:
         self.found = Definitions(crates)
@@ -206,8 +209,8 @@ class Statements:
                 definitions.add_names(file.names, definitions.words(item.clauses[0].text))
 
     def add_others(self, file: Source) -> None:
-        """Adds the meaning of a name of the code: an import from another crate or under another
-        name, and a type's other name. A crate's own file may have any name."""
+        """Adds the meaning of a name in the code: an import from another crate or under another
+        name, or the other name of a type. The file of a crate itself may have any name."""
         for item in all_items(file.items):
             if item.kind == "use":
                 for local, path in imports_of(item):
@@ -216,8 +219,8 @@ class Statements:
                 file.others.setdefault(item.name, set()).add(("type", *item.head))
 
     def whence(self, file: Source, path: Place) -> Place:
-        """The origin of an import: its crate and its name there, and its module too if several of
-        the crate have that name. A library of the toolchain is named whole."""
+        """The origin of an import: its crate and its name there, and also its module if several
+        modules of the crate have that name. A library of the toolchain counts as a whole."""
         is_own = path[0] in ("crate", "self", "super") or (file.crate, path[0]) in self.modules
         crate = file.crate if is_own else path[0]
         if crate not in self.found.crates:
@@ -226,7 +229,7 @@ class Statements:
         return (crate, *(path[1:-1] if several else ()), path[-1])
 
     def exported(self, sources: list[Source]) -> list[str]:
-        """The names that a crate hands out, with where each is from, and its public modules."""
+        """The names that a crate exports with their origins, and its public modules."""
         public = [(file, it) for file in sources for it in all_items(file.items) if it.is_public]
         names = {
             f"{'.'.join(self.whence(file, path))} as {local}"
@@ -262,7 +265,7 @@ class Statements:
 
 
 def promises() -> list[tuple[str, str]]:
-    """The name and the sum of each promise of the tree, by name."""
+    """The name and the checksum of each promise in the tree, by name."""
     names = [it for it in listed() if not is_test_or_example(it)]
     found = Statements(names)
     for name in names:
@@ -273,7 +276,7 @@ def promises() -> list[tuple[str, str]]:
 
 
 def differences(text: str, lines: list[tuple[str, str]]) -> list[str]:
-    """The change of each promise whose line a text lacks."""
+    """The change of each promise whose line is missing from a text."""
     was, now = collections.defaultdict(list), collections.defaultdict(list)
     for line in text.splitlines():
         if not line.startswith("#"):

@@ -1,6 +1,6 @@
-"""The tools' views of the tree and of the toolchain, and their reports.
+"""What the tools know of the tree and of the toolchain, and how they report.
 
-`python3 tools/tree.py run the gate` ends with status 1, and says why, where rt isn't there.
+If rt is missing, `python3 tools/tree.py run the gate` says why and exits with status 1.
 """
 
 from __future__ import annotations
@@ -30,7 +30,8 @@ def has_rt() -> bool:
 
 
 def need_rt(what: str) -> None:
-    """Ends a tool, in two lines, if the toolchain isn't there that alone can do this."""
+    """Ends a tool with a message of two lines if the toolchain, which this step needs, is
+    missing."""
     if not has_rt():
         raise SystemExit(NO_RT.format(rt=RT, what=what))
 
@@ -48,7 +49,7 @@ def kit() -> pathlib.Path:
 
 @functools.cache
 def listed() -> dict[str, tuple[str, list[str]]]:
-    """Each crate of crates.txt, with the rest of its line behind the colon."""
+    """Each crate in crates.txt, with the rest of its line after the colon."""
     lines = [it.split("#")[0].partition(":") for it in source(TOP / "crates.txt").splitlines()]
     return {head.split()[0]: (head, rest.split()) for head, _, rest in lines if head.strip()}
 
@@ -64,7 +65,7 @@ def all_below(name: str) -> list[str]:
 
 
 def is_test_or_example(name: str) -> bool:
-    """Whether a crate has tests of others, or is an example."""
+    """Whether a crate contains tests of other crates, or is an example."""
     return re.match(r"(test|example|hello)_|\w+_tests$", name) is not None
 
 
@@ -85,7 +86,7 @@ def has_edit(crate: str, name: str) -> bool:
 
 
 def tell_each(seconds: float, tell: Callable[[], None]) -> None:
-    """Prints a report at this interval, beside the program's work."""
+    """Prints a report at this interval, in parallel with the program's work."""
 
     def work() -> None:
         while True:
@@ -97,7 +98,7 @@ def tell_each(seconds: float, tell: Callable[[], None]) -> None:
 
 def report(found: Sequence[str | None], left_out: Sequence[str] = ()) -> int:
     """Prints the faults and the omissions, and the count of each; returns the program's status.
-    None stands for a claim that is right."""
+    None stands for a right claim."""
     failures = [it for it in found if it]
     counts = f"{len(found) - len(failures)} passed, {len(failures)} failed"
     counts += f", {len(left_out)} left out" if left_out else ""

@@ -1,25 +1,25 @@
 #!/usr/bin/env python3
-"""Plants wrong bodies, several at once, and asks of each whether the prover refuses the function
-that it changes.
+"""Plants wrong bodies, several at the same time, and checks for each whether the prover refuses the
+function that it changes.
 
     python3 tools/wrong_bodies.py [--all] [CRATE..] [-- COMMAND..]
 
-A wrong body is crates/CRATE/wrong-bodies/NAME.edit. A line `fn: PATH` names the function that has
-to be refused. Pairs of lines `old: TEXT`, `new: TEXT` change it: the old TEXT, one line, stands
-once in one file of the crate, or in the file that a line `file: PATH` before them names.
+A wrong body is crates/CRATE/wrong-bodies/NAME.edit. A line `fn: PATH` names the function that the
+prover must refuse. Pairs of lines `old: TEXT`, `new: TEXT` change it: the old TEXT, one line,
+occurs once in one file of the crate, or in the file that a line `file: PATH` before them names.
 
-Tried are those that the first table of docs/PLANTED.md names, and all of each crate that isn't as
-tools/wrong_bodies.sums has it: its files, its wrong bodies, and what can be cited of the crates
-below. With --all or a CRATE: all, or all of that crate. The sums file gets the line of each crate
-whose wrong bodies were all tried and refused. COMMAND, `rt ci`, runs meanwhile: a crate's turn
-comes once COMMAND has proved the crate. Without one the libraries below are those that `rt lib`
-builds.
+The script tries the wrong bodies that the first table of docs/PLANTED.md names, and all those of
+each crate that differs from tools/wrong_bodies.sums: in its files, its wrong bodies, or what it can
+cite from the crates below. With --all it tries all, and with a CRATE all of that crate. The sums
+file gets the line of each crate whose wrong bodies were all tried and refused. COMMAND, `rt ci`,
+runs in parallel: a crate's turn comes when COMMAND has proved the crate. Without a COMMAND the
+libraries below are those that `rt lib` builds.
 
-First the functions are proved as they stand, beginning with what `rt check` kept in the crate's
-out/, or an earlier run in .git/wrong-bodies. Then each wrong body is refused at a goal: the search
-doesn't prove it, or its written answer is no proof any more. A refusal is weaker evidence if an
-answer only names what the edit removed, or if a caller alone is refused, with nothing else planted.
-The status is 1 if one isn't refused, or can't be judged.
+The script first proves the unchanged functions, and reuses what `rt check` kept in the crate's
+out/, or an earlier run in .git/wrong-bodies. Then the prover must refuse each wrong body at a goal:
+the search doesn't prove the goal, or its written answer is no longer a proof. A refusal is weaker
+evidence if an answer only names what the edit removed, or if only a caller is refused, with no
+other plant. The status is 1 if a wrong body isn't refused, or can't be judged.
 """
 
 import argparse
@@ -58,13 +58,13 @@ def checked(path):
 
 
 def sum_of(files):
-    """A sum over what a check reads of these files, by their names."""
+    """A checksum over what a check reads of these files, by their names."""
     sums = [(name, hashlib.sha256(checked(files[name])).hexdigest()) for name in sorted(files)]
     return hashlib.sha256(repr(sums).encode()).hexdigest()
 
 
 class Bench:
-    """The place where one crate's wrong bodies are tried: a copy of its files, over built
+    """The place where the script tries one crate's wrong bodies: a copy of its files, over built
     libraries."""
 
     def __init__(self, crate, libraries, places):
@@ -79,8 +79,8 @@ class Bench:
         self.sum = sum_of(self.files())
 
     def files(self):
-        """The inputs of a verdict: the crate's files and wrong bodies, and the citable items of the
-        crates below, their functions without bodies, and their definitions."""
+        """The inputs of a verdict: the crate's files and wrong bodies, and the items of the crates
+        below that it can cite, their functions without bodies, and their definitions."""
         at = CRATES / self.crate
         names = [*self.texts, *(f"wrong-bodies/{it.name}.edit" for it in self.edits)]
         files = {name: at / name for name in names}
@@ -91,12 +91,12 @@ class Bench:
         return files
 
     def has(self, function):
-        """Whether the crate has a function of that name now: an edit may add one."""
+        """Whether the crate now has a function with that name: an edit may add one."""
         head = re.compile(rf"\bfn {function.split('::')[-1]}\b")
         return any(head.search(it) for it in self.texts.values())
 
     def words(self):
-        """The check, as `rt` has it."""
+        """The check, as `rt` runs it."""
         head, uses = listed()[self.crate]
         built, rlibs = self.libraries, kit() / "rlibs"
         root = "src/lib.rt" if "src/lib.rt" in self.texts else "src/main.rt"
@@ -135,7 +135,7 @@ class Bench:
 
 
 def link(one, other):
-    """A second copy, by links where the system allows them: a check replaces such files, and
+    """A second copy, made of links if the system allows them: a check replaces such files, but
     changes none."""
     if subprocess.run(["cp", "-al", one, other], capture_output=True).returncode:
         shutil.rmtree(other, ignore_errors=True)
@@ -150,14 +150,14 @@ def named_in_page():
 
 
 def checks_at_once():
-    """The number of checks that the processors and the memory allow."""
+    """The number of simultaneous checks that the processors and the memory allow."""
     memory = pathlib.Path("/proc/meminfo").read_text()
     free = int(re.search(r"MemAvailable:\s+(\d+)", memory)[1]) << 10
     return max(1, min(len(os.sched_getaffinity(0)), free // BYTES_OF_A_CHECK))
 
 
 class Trial:
-    """The wrong bodies of a run, each crate's once its libraries are built, and their outcomes."""
+    """The wrong bodies of a run, each crate's after its libraries are built, and their outcomes."""
 
     def __init__(self, asked, libraries, kept):
         self.asked, self.libraries, self.kept = asked, libraries, kept
@@ -195,7 +195,7 @@ class Trial:
             say(f"{edit}: NOT REFUSED, in {edit.function}: {why}")
 
     def try_group(self, bench, seed, group, planted):
-        """Judges the edits of a group, and tries each undecided one alone."""
+        """Judges the edits of a group, and tries each undecided edit alone."""
         with tempfile.TemporaryDirectory(prefix="wrong-bodies-") as room:
             kept = f"{room}/kept"
             link(seed, kept)
@@ -217,7 +217,7 @@ class Trial:
         return status == 1 and found and f"not there, but {found[1]}, which is weaker evidence"
 
     def try_crate(self, name):
-        """Tries the wrong bodies of a crate whose turn it is."""
+        """Tries the wrong bodies of the crate whose turn it is."""
         bench = Bench(name, self.libraries, self.places)
         is_whole = self.asked.all or name in self.asked.crates or self.sums.get(name) != bench.sum
         edits = [it for it in bench.edits if is_whole or str(it) in self.named]
@@ -231,7 +231,7 @@ class Trial:
                 SUMS.write_text("".join(lines))
 
     def try_edits(self, bench, edits):
-        """Tries edits of a crate: those that apply, over its functions as they are."""
+        """Tries the edits of a crate that apply, over its unchanged functions."""
         applying = [it for it in edits if it.planted(bench.texts) is not None]
         for it in edits:
             if it not in applying:
@@ -248,7 +248,8 @@ class Trial:
                 it.result()
 
     def prove_as_it_stands(self, bench, edits, seed):
-        """Proves the functions of edits unchanged, in a folder, and keeps that for later runs."""
+        """Proves the functions of edits unchanged, in a folder, and keeps the result for later
+        runs."""
         kept = self.kept / bench.crate
         begun = [it for it in (CRATES / bench.crate / "out/incremental", kept) if it.is_dir()]
         if begun:
@@ -258,7 +259,7 @@ class Trial:
         functions = sorted({it.function for it in edits if bench.has(it.function)})
         status, output = bench.check(bench.texts, seed, functions)
         if status:
-            raise RuntimeError(f"its functions aren't proved as they stand: {output[-2000:]}")
+            raise RuntimeError(f"its unchanged functions aren't proved: {output[-2000:]}")
         shutil.rmtree(kept, ignore_errors=True)
         link(seed, kept)
 
@@ -275,7 +276,7 @@ class Trial:
         return process.returncode
 
     def over_built(self):
-        """Tries the crates that are asked for over `rt lib`'s libraries."""
+        """Tries the requested crates over the libraries of `rt lib`."""
         for name in self.asked.crates or listed():
             for low in all_below(name):
                 subprocess.run([RT, "lib"], cwd=CRATES / low, check=True, stdout=subprocess.DEVNULL)
@@ -290,7 +291,7 @@ class Trial:
         say(f"{proved}{len(self.refused)} wrong bodies refused{waiting}")
 
     def end(self, status):
-        """Prints the last lines; returns the status of the program."""
+        """Prints the last lines, and returns the status of the program."""
         self.pool.shutdown()
         for name, it in self.crates.items():
             if it.exception():

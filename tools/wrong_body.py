@@ -1,4 +1,4 @@
-"""A wrong body: its place in its crate, beside others, and the verdict of a check."""
+"""A wrong body: its place in its crate, in combination with others, and the verdict of a check."""
 
 import re
 from typing import NamedTuple
@@ -21,7 +21,7 @@ class Change(NamedTuple):
     new: str
 
     def place(self, texts):
-        """The name of the file, or nothing if several have the text, or none."""
+        """The name of the file, or nothing if several files or none have the text."""
         if self.file:
             return self.file
         files = [name for name, text in texts.items() if self.old in text]
@@ -29,7 +29,7 @@ class Change(NamedTuple):
 
 
 class Edit:
-    """A wrong body, as its file has it."""
+    """A wrong body, as its file describes it."""
 
     def __init__(self, path):
         self.crate, self.name, self.changes = path.parts[-3], path.stem, []
@@ -44,7 +44,7 @@ class Edit:
         return f"{self.crate}/{self.name}"
 
     def planted(self, texts):
-        """The texts of a crate's files with this edit in them, or None if it doesn't apply."""
+        """The texts of a crate's files with this edit applied, or None if it doesn't apply."""
         found = dict(texts)
         for change in self.changes:
             file = change.place(found)
@@ -54,7 +54,7 @@ class Edit:
         return found if found != texts else None
 
     def is_local(self, texts):
-        """Whether the edit changes its function alone, and so none that is planted beside it."""
+        """Whether the edit changes only its function, and therefore no other plant."""
         for change in self.changes:
             above = texts[change.place(texts)].partition(change.old)[0]
             heads = HEAD.findall(above)
@@ -63,8 +63,8 @@ class Edit:
         return True
 
     def judge(self, output):
-        """The goal at which a check refuses its function. False: the function is proved. None: that
-        waits for another's proof."""
+        """The goal at which a check refuses its function. False: the function is proved. None: the
+        function waits for the proof of another."""
         name = re.escape(f"{self.crate}::{self.function}")
         # the lines above its own, up to another function's, and what is said of it
         line = re.search(rf"((?:^(?!fn ).*\n)*)^fn {name}: (.*)", output, re.M)
@@ -84,8 +84,8 @@ class Edit:
         return None if "it calls" in said else LOST_NAME
 
     def error_of_answer(self, output):
-        """The first error in the function's written answers that isn't of a lost name: the goal
-        that it begins with, or its first letters."""
+        """The first error in the function's written answers other than a lost name: the goal at its
+        beginning, or the first letters."""
         folder = self.function.replace("::", "/")
         form = rf"^\./proofs/{folder}/\w+\.antt:\d+:\d+: error: (.*)"
         errors = [it for it in re.findall(form, output, re.M) if not OF_NAMES.search(it)]
@@ -95,7 +95,7 @@ class Edit:
         return goal[0] if goal else errors[0][:80]
 
     def false_lemma(self, output):
-        """The lemma that the edit makes false, if the function's written answers rest on one."""
+        """The lemma that the edit makes false, if the function's written answers use one."""
         folder = self.function.replace("::", "/")
         form = rf"^\./proofs/{folder}/\w+\.antt:\d+:\d+: error: .* which was not admitted"
         if not re.search(form, output, re.M):
@@ -106,8 +106,8 @@ class Edit:
 
 
 def groups(edits, texts):
-    """Edits that can be planted together, each in a function of its own, with the texts in which
-    they are."""
+    """Edits that can be planted together, each in a different function, with the resulting
+    texts."""
     while edits:
         group, planted, later = [], texts, []
         for edit in edits:
@@ -122,7 +122,7 @@ def groups(edits, texts):
 
 
 def fits(edit, group, texts):
-    """Whether an edit may join those of a group."""
+    """Whether an edit can join a group."""
     if not group:
         return True
     is_own = edit.function not in [it.function for it in group]

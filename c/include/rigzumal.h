@@ -127,7 +127,7 @@ enum rigzumal_fault {
     RIGZUMAL_BLOCKS = 21,      /* p isn't 1 to 255 */
     RIGZUMAL_KEY_SIZE = 22,    /* the key size isn't 1 to 2^32 - 1 */
     /* Of a step. */
-    RIGZUMAL_NO_OPERATION = 23,  /* the number names no operation */
+    RIGZUMAL_NO_OPERATION = 23,  /* no operation has this number */
     RIGZUMAL_COPY = 24,          /* the copy is not a record */
     RIGZUMAL_LONG_PASSWORD = 25, /* a password has over 256 bytes */
     /* Of a generated salt. */

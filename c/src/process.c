@@ -36,7 +36,7 @@ uint64_t process_number(void) {
 }
 
 void process_end_child_of(uint64_t number) {
-    static const char said[] = "rigzumal: a forked child went on with its parent's call\n";
+    static const char said[] = "rigzumal: a forked child continued its parent's call\n";
     if (process_number() == number)
         return;
     if (write(STDERR_FILENO, said, sizeof said - 1) < 0) {

@@ -182,7 +182,7 @@ static void check_child(unsigned char *start, size_t size) {
     CHECK(close(streams[1]) == 0 && waitpid(child, &status, 0) == child);
     CHECK(WIFSIGNALED(status) && WTERMSIG(status) == SIGABRT);
     CHECK(read(streams[0], said, sizeof said - 1) > 0 && close(streams[0]) == 0);
-    CHECK(strstr(said, "a forked child went on with its parent's call\n") != NULL);
+    CHECK(strstr(said, "a forked child continued its parent's call\n") != NULL);
 }
 
 /* The whole of a new mapping is to have huge pages, once, and the rest is unmapped. It is the

@@ -1,11 +1,11 @@
 #!/usr/bin/env python3
-"""Builds the site of these pages in out/html, by Debian's Sphinx, for `make html`.
+"""Builds the site of these pages in out/html with Debian's Sphinx, for `make html`.
 
     /usr/bin/python3 docs/site/build.py [FOLDER]                 (FOLDER: out)
 
-FOLDER/site gets the input of Sphinx: the pages in their folders, with README.md as index.md; a page
-for each manual; and the references of C, from its header, and of Python, from docstrings. The last
-line is the first page's path. A warning is an error.
+FOLDER/site receives the input of Sphinx: the pages in their folders, with README.md as index.md; a
+page for each manual; and the references for C, from its header, and for Python, from docstrings.
+The last line of output is the path of the first page. A warning is an error.
 """
 
 import pathlib
@@ -32,12 +32,12 @@ LINK = re.compile(r"(\]\()([^)\s#:]+)((?:#[^)\s]*)?\))")
 
 
 def place(path):
-    """A file's place on the site, or None if it is no page."""
+    """A file's place on the site, or None if it isn't a page."""
     return PLACES.get(path) or (str(path.relative_to(TOP)) if path in PAGES else None)
 
 
 def link(page, target):
-    """A link of a page as the site has it: to another page, a picture, or a source."""
+    """A page's link in the form of the site: to another page, a picture, or a source file."""
     path = (page.parent / target).resolve()
     path = path / "README.md" if path.is_dir() else path
     if path.suffix in (".svg", ".png"):
@@ -49,7 +49,7 @@ def link(page, target):
 
 
 def staged(page):
-    """The text of a page, with its links as the site has them."""
+    """The text of a page, with links in the form of the site."""
     text = page.read_text()
     if page == promises.PAGE:
         text = clauses.linked(text)
@@ -60,7 +60,7 @@ def staged(page):
 
 
 def index(title, names):
-    """A page that lists others."""
+    """A page that lists other pages."""
     lines = [title, "=" * len(title), "", ".. toctree::", "   :maxdepth: 1", ""]
     return "\n".join([*lines, *(f"   {it}" for it in names), ""])
 

@@ -1,5 +1,5 @@
-"""Links each name of docs/PROMISES.md to its place: a call, a clause, a test, a file or a
-definition. tools/promises.py checks that each exists."""
+"""Links each name in docs/PROMISES.md to its place: a call, a clause, a test, a file or a
+definition. tools/promises.py checks that each name exists."""
 
 import re
 
@@ -51,7 +51,7 @@ def call(found):
 
 
 def carried(item):
-    """The names that carry a promise: a bare one belongs to the crate that was named before it."""
+    """The names that carry a promise: a bare name belongs to the crate named before it."""
     crate = None
 
     def name(found):
@@ -66,7 +66,7 @@ def carried(item):
 
 
 def held(found):
-    """A file with the definitions that it is said to have."""
+    """A file with the definitions that the page attributes to it."""
     file = TOP / found[1]
 
     def definition(word):

@@ -1,4 +1,4 @@
-"""Sphinx's settings for the site of the pages, which docs/site/build.py has laid out."""
+"""Sphinx's settings for the site of the pages; docs/site/build.py lays out its input."""
 
 import pathlib
 import sys

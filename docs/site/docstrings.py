@@ -1,5 +1,5 @@
-"""Marks the samples of docstrings as code: lines that are indented by four behind an empty line. A
-parameter's name has a colon behind it."""
+"""Marks the samples in docstrings as code: lines indented by four spaces after an empty line. A
+colon follows the name of a parameter."""
 
 from docutils import nodes
 
@@ -19,7 +19,7 @@ def samples(_, kind, name, thing, options, lines):
 
 
 def colons(app, doctree):
-    """Sphinx writes two hyphens between a name and its words."""
+    """Sphinx writes two hyphens between a name and its text."""
     for text in [*doctree.findall(nodes.Text)]:
         if text == " -- ":
             text.parent.replace(text, nodes.Text(": "))

@@ -1,4 +1,5 @@
-"""The reference of C as reStructuredText, from the comments and declarations of its header."""
+"""Writes the reference for C as reStructuredText, from the comments and declarations of its
+header."""
 
 import re
 
@@ -14,7 +15,7 @@ def indented(text):
 
 
 def words_of(comment):
-    """The words of a comment: lines that are indented by four are code, and names are code too."""
+    """The text of a comment: lines indented by four spaces are code, and so are names."""
     text = re.sub(r"^ \* ?", "", comment, flags=re.M).strip()
     return "\n\n".join(map(paragraph, re.split(r"\n\s*\n", text)))
 
@@ -40,7 +41,7 @@ def members(kind, body):
 
 
 def declared(text):
-    """The directives of a piece of C: the first, and those inside of it."""
+    """The directives for a piece of C: the first one, and those inside it."""
     if found := re.match(r"(enum|struct) (\w+) \{(.*)\};", text, re.S):
         kind, name, body = found.groups()
         rows = re.sub(r"\A (.*), (.*) \Z", r"\1,\n\2\n", body)
@@ -60,7 +61,7 @@ def signatures(kind, names):
 
 
 def page(text):
-    """The page of a header, whose pieces have empty lines between them."""
+    """The page of a header, whose pieces are separated by empty lines."""
     out = [f"{TITLE}\n{'=' * len(TITLE)}"]
     for piece in text.split("\n\n"):
         comment, code = re.match(r"(?:/\* (.*?)\*/\s*)?(.*)", piece.strip(), re.S).groups()

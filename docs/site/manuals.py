@@ -1,4 +1,4 @@
-"""The directive `manual:: FILE`: a manual page, by the macros of man(7) that ours have."""
+"""The directive `manual:: FILE`: a manual page, with the macros of man(7) that our manuals use."""
 
 import pathlib
 import re
@@ -16,7 +16,7 @@ def plain(text):
 
 
 def inline(text):
-    """The nodes of a line with fonts; a name before a section's number is a link."""
+    """The nodes of a line with fonts; a name before a section number is a link."""
     found = []
     for font, words in re.findall(r"(?:\\f(.)|\A)((?:\\[^f]|[^\\])+)", text):
         words = plain(words)
@@ -30,7 +30,7 @@ def inline(text):
 
 
 def arguments(text):
-    """The words of a macro; a text in quotes is one word."""
+    """The words of a macro; a quoted text is one word."""
     return [quoted or word for quoted, word in re.findall(r'"([^"]*)"|(\S+)', text)]
 
 
@@ -81,7 +81,7 @@ class Manual(Directive):
         self.end_list("")
 
     def end_list(self, _):
-        """Begins a paragraph in the section; within code adds an empty line."""
+        """Begins a paragraph in the section; inside code it adds an empty line."""
         if self.code:
             self.add("")
         else:
@@ -91,7 +91,7 @@ class Manual(Directive):
         self.text = None
 
     def begin_item(self, words):
-        """Begins an item, whose term is here or in the next line."""
+        """Begins an item, whose term is on this line or the next."""
         if not (self.section.children and isinstance(self.section[-1], nodes.definition_list)):
             self.section.append(nodes.definition_list())
         self.term, self.at, self.text = nodes.term(), nodes.definition(), None

@@ -1,4 +1,5 @@
-"""Pages of the files that `source:FILE#LINE` names: a link to it leads to that line on its page."""
+"""Pages of the files that `source:FILE#LINE` names: such a link leads to that line on the file's
+page."""
 
 import html
 import pathlib
@@ -26,7 +27,7 @@ PAGE = """<!doctype html>
 
 
 def find(app, doctree, page):
-    """Makes each link of a page lead to a page of a source."""
+    """Makes each such link lead to the page of its source file."""
     for link in doctree.findall(nodes.reference):
         uri = link.get("refuri", "")
         if uri.startswith(SCHEME):
@@ -47,7 +48,7 @@ def lexer(name):
 
 
 def write(app, fault):
-    """The page of each source, with a place L-1, L-2.. for each line."""
+    """The page of each source file, with a target L-1, L-2.. for each line."""
     looks = HtmlFormatter(linenos="inline", lineanchors="L", cssclass="highlight")
     for name in () if fault else sorted(app.env.sources):
         file = pathlib.Path(app.outdir, "source", f"{name}.html")

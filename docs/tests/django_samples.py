@@ -59,7 +59,7 @@ class SamplesTest(TestCase):
         self.assertIn("$m=19456,t=2,p=1$", User.objects.get().password)
 
     def test_wrapped_records(self):
-        """Wrapped records accept only the right password, which rehashes."""
+        """Wrapped records accept only the right password, and a login with it rehashes them."""
         md5 = hashers.MD5PasswordHasher
         listed = [f"{md5.__module__}.{md5.__qualname__}", "people.hashers.Argon2OverMD5"]
         for salt in (md5().salt(), "abcde"):
@@ -78,7 +78,7 @@ class SamplesTest(TestCase):
             self.assertStored("first")
 
     def test_views(self):
-        """The page's calls in a view: each line by itself."""
+        """The page's calls in a view: each line runs by itself."""
         change, reset = pathlib.Path("views").read_text().splitlines()
         request = SimpleNamespace(user=self.user)
         names = {"passwords": passwords, "request": request, "user": self.user}

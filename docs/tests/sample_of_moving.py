@@ -73,8 +73,8 @@ def files(text: str) -> dict[str, str]:
 
 
 def check_logins(accounts: Accounts, names: list[str], shut: list[str]) -> None:
-    """Only the right password lets in, also once a record is of Argon2. No password lets
-    the users in `shut` in, and an unknown name has no account."""
+    """Only the right password logs in, even after a record has moved to Argon2. No password logs in
+    the users in `shut`, and an unknown name has no account."""
     for name in names:
         for what, password in PASSWORDS.items():
             for typed in (password, text_of(password)):

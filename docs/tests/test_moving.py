@@ -48,7 +48,7 @@ class MovingTest(Case):
         self.run_sample("sample_of_a_hook.py", page)
 
     def test_a_table_with_bcrypt_and_an_ldif(self):
-        """No user gets in whom the old store keeps out."""
+        """No user can log in whom the old store bars."""
         need("perl")
         need_module("passlib", "bcrypt")
         self.run_sample("sample_of_moving.py", PAGE)
@@ -64,7 +64,7 @@ class MovingTest(Case):
         return (room / "records").read_text().splitlines()
 
     def test_lines_of_dovecot(self):
-        """A user who may log in from everywhere moves, with the record alone."""
+        """A user who may log in from everywhere moves, with only the record."""
         rest = "1000:1000::/home/x::"
         moves = [f"a{it}:{{{it}}}$argon2x:{rest}" for it in ("ARGON2ID", "argon2i", "Argon2")]
         moves += [f"ann:{{ARGON2ID}}$argon2x:{rest}x=nologins", "bare:{ARGON2ID}$argon2x"]
@@ -77,7 +77,7 @@ class MovingTest(Case):
         self.assertEqual(found, [f"{it.partition(':')[0]} $argon2x" for it in moves])
 
     def test_lines_of_htpasswd(self):
-        """Text behind a record and a colon is a comment, as to Apache and nginx."""
+        """Text after a record and a colon is a comment, as in Apache and nginx."""
         moves = ["ann:$apr1$x$y", "ben:$2y$05$z:his comment", "c d:{SHA}x=:a:b"]
         out = ["#x:$apr1$x$y", "x:!$apr1$x$y", "x:*", "x:!"]
         found = self.lines_of("htpasswd", "grep -vE", [*moves, *out])
@@ -100,7 +100,7 @@ class MovingTest(Case):
         self.assertEqual(moved[-2:], ["Ann.B+c@x.org", "b_c-d"])
 
     def test_names_that_are_one_to_a_database_of_django(self):
-        """No login gets the user of another name, even if the database takes both names for one."""
+        """No login gets the user of another name, even if the database treats both names as one."""
         need_module("django")
         form = r"^    # to_django.py\n((?:    .*\n)+)"
         (code,) = re.findall(form, PAGE.read_text(), re.M)

@@ -3,8 +3,8 @@ compiled or run.
 
     /usr/bin/python3 docs/tests/test_pages.py [-k NAME ..]
 
-The tests need `make -C c`, and some need credkeep. A test is skipped if this machine lacks a
-program or a package: tools/debian-packages.txt lists Debian's packages.
+The tests need `make -C c`, and some need credkeep. The tests skip themselves if this machine lacks
+a program or a package: tools/debian-packages.txt lists Debian's packages.
 """
 
 import functools
@@ -55,12 +55,12 @@ TESTED = {
 
 
 def samples(page):
-    """The pieces of code on a page, each with its language, but for those of a file."""
+    """The pieces of code on a page with their languages, except those from a file."""
     return BLOCK.findall(FROM_FILE.sub("", (TOP / page).read_text()))
 
 
 def sample_for(page, test):
-    """The code on a page that a test is named with."""
+    """The code on a page that names its test."""
     return [code for (_, code), (_, named) in zip(samples(page), TESTED[page]) if named == test]
 
 
@@ -142,7 +142,7 @@ class PagesTest(Case):
                 self.assertIn(pathlib.Path(page).name, (TOP / test).read_text(), test)
 
     def test_samples_of_hashing(self):
-        """On both pages a right password alone replaces a record, and an old record alone."""
+        """On both pages only a right password replaces a record, and only an old record."""
         made, word = 'record = hasher.hash("correct horse")', 'rehash(record, "correct horse")'
         old = made.replace("hasher", "hasher.replace(time_cost=1, memory_cost=8192)")
         for page in ("README.md", "python/README.md"):
@@ -228,7 +228,8 @@ assert hasher.check_needs_rehash(record) is {is_old}
         run(self.built_rust("page", main), env={"LD_LIBRARY_PATH": str(LIBRARIES)})
 
     def test_sample_of_the_crate(self):
-        """The login at the head of the crate stores a record by the right password alone."""
+        """The login in the documentation of the crate stores a record only for the right
+        password."""
         head = (TOP / "rust/src/lib.rs").read_text().split("//! ```\n")[1]
         code = "\n".join(it[4:] for it in head.splitlines() if not it.startswith("//! #"))
         used, rest = code.split("\n\n", 1)

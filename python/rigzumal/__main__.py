@@ -1,13 +1,13 @@
-"""Records at the shell, and the costs for this machine.
+"""Hashes passwords at the shell, and finds the costs for this machine.
 
     printf %s 'correct horse' | python3 -m rigzumal hash
     printf %s 'correct horse' | python3 -m rigzumal verify '$argon2id$v=19$..'
     python3 -m rigzumal calibrate --target-ms 250 --memory 64M
     python3 -m rigzumal accounts --help
 
-A password is never an argument. At a terminal the command asks for the password, unseen. Otherwise
-the password is all of standard input, even a newline at its end. The exit statuses are those of
-credkeep: for example, 4 means no.
+A password is never an argument. At a terminal the command asks for the password without echo.
+Otherwise the password is all of standard input, including a newline at its end. The exit statuses
+are those of credkeep: for example, 4 means no.
 """
 
 from __future__ import annotations
@@ -46,26 +46,26 @@ def _words() -> argparse.ArgumentParser:
     )
     words.add_argument("--version", action="version", version=_library.version())
     commands = words.add_subparsers(dest="command", required=True)
-    make = commands.add_parser("hash", help="writes a new record")
+    make = commands.add_parser("hash", help="prints a new record")
     make.set_defaults(act=_hash)
     add_costs(make)
-    make.add_argument("--empty", action="store_true", help="the password may be empty")
-    verify = commands.add_parser("verify", help="writes yes, or no with status 4")
+    make.add_argument("--empty", action="store_true", help="allow an empty password")
+    verify = commands.add_parser("verify", help="prints yes, or no with status 4")
     verify.set_defaults(act=_verify)
     verify.add_argument("record")
-    fit = "prints the highest costs that keep a hash within a time here"
+    fit = "prints the highest costs whose hash takes at most --target-ms"
     calibrate = commands.add_parser("calibrate", help=fit)
     calibrate.set_defaults(act=_calibrate)
     add = calibrate.add_argument
-    add("--target-ms", type=_target, default=250, help="milliseconds of a hash")
-    most = "at most, such as 64M; KiB without a unit"
+    add("--target-ms", type=_target, default=250, help="milliseconds for one hash")
+    most = "the most memory, such as 64M, or in KiB"
     add("--memory", type=memory, default=65536, help=most)
     add("--lanes", type=int, default=4)
-    threads = "that work the lanes of a hash; 1 for a service with many logins"
+    threads = "threads of one hash; 1 for a service with many logins"
     add("--threads", type=positive, default=1, help=threads)
-    below = "the costs may be below OWASP's least, m=19456 with t=2"
+    below = "allow costs below OWASP's minimum, m=19456,t=2"
     add("--below", action="store_true", help=below)
-    accounts = "accounts in a service's own database: accounts --help"
+    accounts = "manages accounts in a database: see accounts --help"
     commands.add_parser("accounts", help=accounts)
     return words
 
@@ -106,7 +106,7 @@ def _calibrate(given: argparse.Namespace) -> int:
         print(f"# {found.hasher.costs}: {found.milliseconds:.1f} ms", file=sys.stderr)
     if found.milliseconds > given.target_ms:
         lower = "" if given.below else "; --below allows lower ones"
-        say(f"the least costs take {found.milliseconds:.0f} ms here{lower}")
+        say(f"the lowest costs take {found.milliseconds:.0f} ms here{lower}")
     if busy:
         say(f"{busy}: an idle machine would allow higher costs")
     print(found.hasher.costs)
@@ -115,8 +115,8 @@ def _calibrate(given: argparse.Namespace) -> int:
 
 def _hint_at(record: str) -> str:
     """A hint about a record of another program, in words for people."""
-    unquoted = "" if record.startswith("$") else "in single quotes a shell leaves its $ alone"
-    return none_of_ours(record) or unquoted
+    quote = "put the record in single quotes, so that the shell keeps its $"
+    return none_of_ours(record) or ("" if record.startswith("$") else quote)
 
 
 def _run(given: argparse.Namespace) -> int:

@@ -1,4 +1,4 @@
-"""The highest costs that keep a hash within a time on this machine."""
+"""Finds the highest costs for which a hash fits a given time on this machine."""
 
 from __future__ import annotations
 
@@ -23,7 +23,7 @@ class Measured(NamedTuple):
 
 
 def measured(hasher: PasswordHasher, turns: int = 5) -> Measured:
-    """The best time of some hashes, after a first one that doesn't count."""
+    """The best time of several hashes, after a first one that doesn't count."""
     times = []
     for _ in range(turns + 1):
         begun = time.perf_counter()
@@ -33,7 +33,7 @@ def measured(hasher: PasswordHasher, turns: int = 5) -> Measured:
 
 
 def is_safe(hasher: PasswordHasher) -> bool:
-    """Whether the costs are OWASP's least for passwords, or higher; RFC 9106's are."""
+    """Whether the costs are at least OWASP's minimum for passwords; RFC 9106's costs are."""
     memory, passes = hasher.memory_cost, hasher.time_cost
     return memory >= _OF_ONE_PASS or memory >= LEAST_SAFE_MEMORY and passes >= 2
 
@@ -41,11 +41,11 @@ def is_safe(hasher: PasswordHasher) -> bool:
 def trials(
     target: float, memory: int, lanes: int, threads: int = 1, below: bool = False
 ) -> Iterator[Measured]:
-    """Costs to try, in turn: the last ones are the result.
+    """The costs to try, in order; the last ones are the result.
 
-    By RFC 9106, section 4, the trials use all of the memory (KiB), and then as many passes as the
-    target (milliseconds) allows. If one pass needs too long, the trials use less memory, down to
-    OWASP's least, or to Argon2's if the caller allows costs below OWASP's.
+    As RFC 9106, section 4, advises, the trials use all of the memory (KiB), and then as many passes
+    as the target (milliseconds) allows. If a single pass takes too long, the trials use less
+    memory, down to OWASP's minimum, or to Argon2's if the caller allows costs below OWASP's.
     """
     least = max(LEAST_MEMORY * lanes, 0 if below else LEAST_SAFE_MEMORY)
     found = measured(PasswordHasher(1, memory, lanes, threads=threads))
@@ -70,7 +70,7 @@ def trials(
 
 
 def why_busy() -> Optional[str]:
-    """A remark if other processes may use the processors, otherwise None."""
+    """A warning if other processes may be using the processors, otherwise None."""
     load, processors = os.getloadavg()[0], os.cpu_count() or 1
     if load <= processors / 2:
         return None

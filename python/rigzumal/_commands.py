@@ -1,4 +1,4 @@
-"""The exit statuses (those of credkeep) and the options that the commands at the shell share."""
+"""The exit statuses (those of credkeep) and the options that the shell commands share."""
 
 from __future__ import annotations
 
@@ -62,7 +62,7 @@ class Words(argparse.ArgumentParser):
     """A parser that exits with status 1 if it refuses a word.
 
     The parser accepts no abbreviation. Otherwise `--pass SECRET` would count as `--passes SECRET`,
-    and its error would show the value.
+    and the error message would show the value.
     """
 
     def __init__(self, **given: Any) -> None:
@@ -81,7 +81,7 @@ class Words(argparse.ArgumentParser):
         return given
 
     def error(self, message: str) -> NoReturn:
-        """Ends the program, and hides a word that names no command."""
+        """Ends the program, and hides an argument that isn't the name of a command."""
         hidden = r"invalid choice: .*(?=\(choose)"
         message = re.sub(hidden, "unknown word ", message, flags=re.S)
         self.print_usage(sys.stderr)
@@ -97,9 +97,10 @@ def _options_of(words: argparse.ArgumentParser, command: str) -> Iterator[str]:
 
 
 def _unknown(word: str, options: Sequence[str]) -> str:
-    """The fault of a word at a command with these options; the text doesn't show the word."""
+    """The fault of an argument at a command with these options; the text doesn't show the
+    argument."""
     if not word.startswith("-"):
-        return "a word too many; a password is never an argument: pipe or type it"
+        return "one argument too many; a password is never an argument: pipe or type it"
     said, meant = "an unknown option, which isn't shown", _meant(word, options)
     return f"{said}; is {meant} meant?" if meant else said
 
@@ -113,14 +114,14 @@ def _meant(word: str, options: Sequence[str]) -> str:
 
 
 def status_of(fault: Exception) -> Status:
-    """The status of a fault of the library, or of an argument."""
+    """The exit status for a fault of the library, or of an argument."""
     if isinstance(fault, OutOfMemoryError):
         return Status.MEMORY
     return Status.STREAM if isinstance(fault, NoRandomError) else Status.WORDS
 
 
 def ended(command: Callable[[], int]) -> int:
-    """The status of a command, also if it is refused, interrupted, or loses its streams."""
+    """The exit status of a command, even if it is refused or interrupted, or loses its streams."""
     try:
         with warnings.catch_warnings():
             warnings.simplefilter("ignore", LowMemoryWarning)  # `memory` has a line of its own
@@ -161,7 +162,7 @@ _OF_SCRYPT = {"log2_n": 17}
 
 def add_costs(words: argparse.ArgumentParser) -> None:
     """Adds the options for the costs of a new record."""
-    words.add_argument("--scrypt", action="store_true", help="by scrypt, not Argon2id")
+    words.add_argument("--scrypt", action="store_true", help="use scrypt instead of Argon2id")
     words.add_argument("--memory", type=memory, help="of Argon2, such as 64M (by default)")
     words.add_argument("--passes", type=int, help="of Argon2; by default 3")
     words.add_argument("--lanes", type=int, help="of Argon2; by default 4")
@@ -172,9 +173,9 @@ def hasher_of(given: argparse.Namespace) -> Union[PasswordHasher, ScryptHasher]:
     """The hasher of these costs; raises Refusal for a cost of the other scheme."""
     asked = {name: it for name, it in vars(given).items() if it is not None}
     of, others = _OF_ARGON2, _OF_SCRYPT
-    hint = "for scrypt: give --scrypt too"
+    hint = "for scrypt: add --scrypt"
     if given.scrypt:
-        of, others, hint = _OF_SCRYPT, _OF_ARGON2, "for Argon2: leave --scrypt out"
+        of, others, hint = _OF_SCRYPT, _OF_ARGON2, "for Argon2: omit --scrypt"
     for name in sorted(asked.keys() & others.keys()):
         raise Refusal(f"--{name.replace('_', '-')} is {hint}", Status.WORDS)
     costs = [asked.get(name, number) for name, number in of.items()]
@@ -184,7 +185,7 @@ def hasher_of(given: argparse.Namespace) -> Union[PasswordHasher, ScryptHasher]:
 def read_password(prompt: str = "Password", *, is_new: bool = False) -> bytes:
     """The password: all of standard input, or what the user types, twice for a new one.
 
-    Raises Refusal if the two differ, if there is none, or if it can't be read.
+    Raises Refusal if the two differ, if no password was typed, or if reading fails.
     """
     if sys.stdin is None:
         raise Refusal("standard input is closed", Status.STREAM)
@@ -200,13 +201,13 @@ def read_password(prompt: str = "Password", *, is_new: bool = False) -> bytes:
 
 
 def is_empty(password: bytes) -> bool:
-    """Whether a password is only the end of a line, as from an unset variable."""
+    """Whether a password is only a line end, as from an unset variable."""
     return not password.strip(b"\r\n")
 
 
 def hint(password: bytes, is_right: Callable[[bytes], bool]) -> Optional[str]:
-    """Advice, if the password would be right with another end of its line; otherwise None."""
-    newlines = "`printf %s` writes none, and `echo` one"
+    """Advice, if the password would be right with a different line end; otherwise None."""
+    newlines = "`printf %s` adds no newline, but `echo` does"
     bare = password[:-1] if password.endswith(b"\n") else password
     if bare != password:
         ends = [(bare, "without the newline", newlines)]

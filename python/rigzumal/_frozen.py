@@ -1,5 +1,5 @@
-"""A base class for named values that don't change. Dataclasses would do the same, but their module
-takes longer to import than all of the package."""
+"""A base class for immutable values with names. Dataclasses would do the same, but importing their
+module takes longer than importing this package."""
 
 from __future__ import annotations
 
@@ -11,14 +11,14 @@ if TYPE_CHECKING:
 
 
 class Frozen:
-    """Values that are equal, and have one hash, if all of their attributes are."""
+    """Two values are equal, and have the same hash, if all of their attributes are equal."""
 
     def __init__(self, *values: object, **named: object) -> None:
         """Sets all attributes, in the order in which the class lists them."""
         given = dict(zip(self.__annotations__, values), **named)
         names, count = self.__annotations__, len(values) + len(named)
         if given.keys() != names.keys() or count != len(names):
-            raise TypeError(f"the values are {', '.join(names)}")
+            raise TypeError(f"the constructor needs {', '.join(names)}")
         self._set(**given)
 
     def _set(self, **values: object) -> None:
@@ -30,7 +30,7 @@ class Frozen:
         return vars(self)
 
     def replace(self: Self, **changes: Any) -> Self:
-        """A copy with other values of some attributes."""
+        """A copy in which some attributes have other values."""
         return type(self)(**{**vars(self), **changes})
 
     def __replace__(self: Self, **changes: Any) -> Self:

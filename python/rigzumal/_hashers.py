@@ -43,7 +43,7 @@ class LowMemoryWarning(UserWarning):
 
 
 def _warn_of(memory_cost: int) -> None:
-    """Warns a caller that sets a low memory cost, once in a process."""
+    """Warns a caller that sets a low memory cost, once in each process."""
     global _has_warned
     if memory_cost >= LOW_MEMORY or _has_warned:
         return
@@ -52,7 +52,7 @@ def _warn_of(memory_cost: int) -> None:
     level, frame = 1, sys._getframe()
     while is_ours(frame) and frame.f_back is not None:
         level, frame = level + 1, frame.f_back
-    said = f"memory_cost={memory_cost} is {memory_cost} KiB, a low cost: 64 MiB are 65536"
+    said = f"memory_cost={memory_cost} means {memory_cost} KiB, which is low: 64 MiB is 65536"
     warnings.warn(said, LowMemoryWarning, level)
     _has_warned = True
 
@@ -95,13 +95,13 @@ class _Hasher(Frozen):
         """A new record of the password.
 
         Args:
-            password: the password, of any length below 2^32 bytes.
-            salt: 8 to 48 bytes (of scrypt 1 to 48); by default getrandom(2) generates one.
+            password: the password, shorter than 2^32 bytes.
+            salt: 8 to 48 bytes (for scrypt 1 to 48); by default getrandom(2) generates one.
 
         Raises:
             InvalidNumbersError: the salt is too short or too long.
-            OutOfMemoryError: too little memory was free.
-            NoRandomError: the system returned no salt.
+            OutOfMemoryError: the free memory was too small.
+            NoRandomError: the system returned no random bytes.
             TypeError: the password is neither bytes nor str, or the salt isn't bytes.
         """
         chosen: Union[bytes, int] = self.salt_len
@@ -113,18 +113,18 @@ class _Hasher(Frozen):
 
     @hidden
     def verify(self, hash: Secret, password: Secret) -> Literal[True]:
-        """True if the password is the record's.
+        """True if the password is right.
 
         Raises:
-            VerifyMismatchError: the record is of another password.
-            InvalidRecordError: the text is no record; the exception has its first fault.
-            OutOfMemoryError: too little memory was free.
+            VerifyMismatchError: the record belongs to another password.
+            InvalidRecordError: the text isn't a record; the exception names its first fault.
+            OutOfMemoryError: the free memory was too small.
         """
         self._verified(hash, password)
         return True
 
     def _verified(self, hash: Secret, password: Secret) -> int:
-        """The index of the secret with which the record was hashed."""
+        """The index of the secret that was used to hash the record."""
         for place, secret in enumerate(self._secrets()):
             # A hasher without a secret verifies records of scrypt too; a hasher with a secret
             # doesn't.
@@ -132,14 +132,14 @@ class _Hasher(Frozen):
             if fault not in (_library.MISMATCH, _library.SCHEME):
                 break
         if _library.OK < fault < _library.MEMORY and _is_record(password):
-            said = "the first argument is no record, and the second is one: pass the record first"
+            said = "the second argument is a record, but the first isn't: pass the record first"
             raise _library.InvalidRecordError(fault, said)
         _library.raise_fault(fault, hash)
         return place
 
     @hidden
     def verify_and_rehash(self, hash: Secret, password: Secret) -> Optional[str]:
-        """Checks the password; returns a new record if the record is old, and otherwise None.
+        """Checks the password, and returns a new record if the record is outdated, otherwise None.
 
         The call raises the exceptions of `verify` and `hash`.
         """
@@ -150,8 +150,8 @@ class _Hasher(Frozen):
     def check_needs_rehash(self, hash: Secret) -> bool:
         """Whether the record has another scheme, other costs or other sizes than a new one.
 
-        The record doesn't show its secret: only `verify_and_rehash` finds out which one it needs. A
-        text that is no record raises InvalidRecordError.
+        The record doesn't show its secret: only `verify_and_rehash` can determine which one it
+        needs. Raises InvalidRecordError for a text that isn't a record.
         """
         parts = _library.parts(hash)
         found = (parts.scheme, parts.version, parts.memory, parts.passes, parts.lanes)
@@ -160,7 +160,8 @@ class _Hasher(Frozen):
 
 
 def _is_record(password: Secret) -> bool:
-    """Whether a password is a record: other libraries take the two arguments in the other order."""
+    """Whether a password is a record: other libraries expect the two arguments in the other
+    order."""
     return isinstance(password, (str, bytes)) and _library.is_record(password)
 
 
@@ -169,31 +170,31 @@ class PasswordHasher(_Hasher):
 
     Attributes:
         time_cost: passes, 1 to 2^32 - 1.
-        memory_cost: in KiB, 8 a lane to 2097152.
+        memory_cost: in KiB, from 8 for each lane to 2097152.
         parallelism: lanes, 1 to 255.
-        hash_len: bytes of the tag, 4 to 64.
-        salt_len: bytes of a generated salt, 8 to 48.
+        hash_len: the size of the tag in bytes, 4 to 64.
+        salt_len: the size of a generated salt in bytes, 8 to 48.
         type: the kind of Argon2.
         secret: a pepper, which you keep apart from the records: RFC 9106's K. A hasher with a
-            secret verifies only records of that secret, and none of scrypt. The secret must not
-            be empty, so an unset variable is an error. No repr shows it.
-        threads: the number of threads that may compute the lanes of one record, with the
-            caller's; it changes no record. Use 1 in a service, where other logins use the other
+            secret verifies only records with that secret, and none of scrypt. The secret must not
+            be empty, so that an unset variable causes an error. No repr shows it.
+        threads: the number of threads that may compute the lanes of one record, including the
+            caller's; records don't show it. Use 1 in a service, where other logins use the other
             processors. Use `parallelism` in a program that hashes one password at a time: 64 MiB
             and four lanes take a third of the time on four idle processors. The library starts at
             most one thread for each processor, and none below 4 MiB.
-        secrets: the new pepper and older ones, instead of `secret`, while peppers rotate. A new
-            record uses the first, which is then `secret`. `verify` tries them all, so a wrong
-            password costs a hash for each. `verify_and_rehash` replaces records of older peppers.
-            b"" among the older ones is for records without a pepper.
+        secrets: the new pepper and older ones, instead of `secret`, to rotate peppers. A new
+            record uses the first, which is then `secret`. `verify` tries all of them, so a wrong
+            password costs a hash for each. `verify_and_rehash` replaces records with older peppers.
+            b"" among the older ones stands for records without a pepper.
 
     Raises:
-        InvalidNumbersError: a number is out of its range.
-        TypeError: a number is no int, or a secret isn't bytes.
-        ValueError: no such kind exists, both a secret and secrets are given, or a new record
+        InvalidNumbersError: a number is out of range.
+        TypeError: a number isn't an int, or a secret isn't bytes.
+        ValueError: no such kind exists, the caller passes both secret and secrets, or a new record
             would have an empty secret.
 
-    The constructor warns of a memory_cost below 8192 (8 MiB) by LowMemoryWarning, once in a
+    The constructor warns of a memory_cost below 8192 (8 MiB) with LowMemoryWarning, once in each
     process.
     """
 
@@ -226,9 +227,9 @@ class PasswordHasher(_Hasher):
         if several and one not in (None, several[0]):
             raise ValueError("pass secret or secrets, not both")
         if secrets is not None and not several:
-            raise ValueError("secrets is empty; without a pepper leave it out")
+            raise ValueError("secrets is empty: omit it if you have no pepper")
         if b"" in (one, *several[:1]):
-            raise ValueError("the secret is empty; without a pepper leave it out")
+            raise ValueError("the secret is empty: omit it if you have no pepper")
         self._set(
             time_cost=in_range("time_cost", time_cost, 1, _MOST, _PASSES),
             memory_cost=in_range("memory_cost", memory_cost, least, _MOST_MEMORY, _COST),
@@ -244,7 +245,7 @@ class PasswordHasher(_Hasher):
 
     @hidden
     def replace(self, **changes: Any) -> PasswordHasher:
-        """A copy with other values of some attributes."""
+        """A copy in which some attributes have other values."""
         if "secrets" in changes:
             changes = {"secret": None, **changes}
         return super().replace(**{"secrets": self.secrets or None, **changes})
@@ -263,14 +264,14 @@ class ScryptHasher(_Hasher):
 
     Attributes:
         log2_n: the cost N as a power of two, 1 to 23, below 16 * r.
-        block_size: r, 1 to 255. The table has 128 * r * N bytes, 2 GiB at most.
+        block_size: r, 1 to 255. The table has 128 * r * N bytes, at most 2 GiB.
         parallelism: p, 1 to 255; the caller's thread does all of the work.
-        hash_len: bytes of the key, 4 to 64.
-        salt_len: bytes of a generated salt, 1 to 48.
+        hash_len: the size of the key in bytes, 4 to 64.
+        salt_len: the size of a generated salt in bytes, 1 to 48.
 
     Raises:
-        InvalidNumbersError: a number is out of its range.
-        TypeError: a number is no int.
+        InvalidNumbersError: a number is out of range.
+        TypeError: a number isn't an int.
     """
 
     log2_n: int
@@ -320,12 +321,12 @@ def argon2(
 ) -> bytes:
     """Computes the Argon2 tag of hash_len bytes (RFC 9106), with memory_cost in KiB.
 
-    At most `threads` threads compute its lanes: see PasswordHasher.
+    At most `threads` threads compute the lanes: see PasswordHasher.
 
     Raises:
-        InvalidNumbersError: a number is outside its range.
-        OutOfMemoryError: too little memory was free.
-        TypeError: an input isn't bytes, or a number is no int.
+        InvalidNumbersError: a number is out of range.
+        OutOfMemoryError: the free memory was too small.
+        TypeError: an input isn't bytes, or a number isn't an int.
     """
     whole_number("type", type)
     numbers = (type, version, memory_cost, time_cost, parallelism)
@@ -344,9 +345,9 @@ def scrypt(
     """Computes the scrypt key of `length` bytes (RFC 7914), with N = 2^log2_n.
 
     Raises:
-        InvalidNumbersError: a number is outside its range.
-        OutOfMemoryError: too little memory was free.
-        TypeError: an input isn't bytes, or a number is no int.
+        InvalidNumbersError: a number is out of range.
+        OutOfMemoryError: the free memory was too small.
+        TypeError: an input isn't bytes, or a number isn't an int.
     """
     costs = _library.ScryptNumbers(*map(checked, (log2_n, r, p)))
     data = (*pair(_library.bytes_of(password)), *pair(_library.data_of(salt)))

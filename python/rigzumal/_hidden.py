@@ -1,8 +1,8 @@
-"""Keeps passwords out of reports of errors.
+"""Keeps passwords out of error reports.
 
 Sentry, cgitb, rich and Django's debug page show the variables of each frame that an exception has
-passed, except variables with certain names. So each public call that gets a password or a pepper
-empties such frames before an exception leaves it.
+passed, except those with certain names. Each public call that receives a password or a pepper
+therefore clears these frames before an exception leaves it.
 """
 
 from __future__ import annotations
@@ -20,13 +20,13 @@ if TYPE_CHECKING:
 
 
 def hidden(function: Function) -> Function:
-    """Wraps a function: its exceptions carry no variable of this package's frames. Frames of a
-    caller's hooks keep their variables."""
+    """Wraps a function so that its exceptions carry no variables of this package's frames. The
+    frames of a caller's hooks keep their variables."""
     return _hiding(function, hide)
 
 
 def hidden_below(function: Function) -> Function:
-    """Wraps a function: its exceptions carry no variable of any frame below it."""
+    """Wraps a function so that its exceptions carry no variables of any frame below it."""
     return _hiding(function, _hide_all)
 
 
@@ -45,7 +45,7 @@ def _hiding(function: Function, hides: Callable[..., None]) -> Function:
 
 
 def hide(raised: BaseException, handled: Optional[BaseException] = None) -> None:
-    """Empties this package's frames in the tracebacks of an exception and of its causes."""
+    """Clears this package's frames in the tracebacks of an exception and of its causes."""
     _empty(raised, handled, is_ours)
 
 

@@ -31,7 +31,7 @@ class RigzumalError(Exception):
 
     Attributes:
         number: the fault's number, as in rigzumal.h.
-        word: its name in one word, such as "salt".
+        word: the fault's name in one word, such as "salt".
     """
 
     def __init__(self, number: int, said: str = "") -> None:
@@ -44,19 +44,20 @@ class RigzumalError(Exception):
 
 
 class VerifyMismatchError(RigzumalError):
-    """The record is of another password."""
+    """The record belongs to another password."""
 
 
 class OutOfMemoryError(RigzumalError, MemoryError):
-    """Too little memory was free for the costs."""
+    """The free memory was too small for the costs."""
 
 
 class InvalidRecordError(RigzumalError, ValueError):
-    """The text is no record, or no setting; the exception has the first fault from the left."""
+    """The text isn't a record, or isn't a setting; the exception names the first fault from the
+    left."""
 
 
 class InvalidNumbersError(RigzumalError, ValueError):
-    """A cost, a kind, a version or a size is outside its range."""
+    """A cost, a kind, a version or a size is out of range."""
 
 
 class NoRandomError(RigzumalError):
@@ -71,7 +72,7 @@ _EXCEPTIONS: Final[dict[int, type[RigzumalError]]] = {
 
 
 def raise_fault(number: int, text: Secret = b"") -> None:
-    """Raises the exception for a fault's number and this record; 0 is no fault."""
+    """Raises the exception for a fault's number and this record; the number 0 means no fault."""
     if number == OK:
         return
     kind = _EXCEPTIONS.get(number)
@@ -81,7 +82,7 @@ def raise_fault(number: int, text: Secret = b"") -> None:
 
 
 def _range_of(text: Secret) -> str:
-    """The field of a record whose number is out of its range, and that range."""
+    """The field of a record whose number is out of range, and that range."""
     words = ctypes.create_string_buffer(TEXT_SIZE)
     is_range = _library.rigzumal_explain(words, TEXT_SIZE, text_bytes(text)) == RANGE
     return words.value.decode() if is_range else ""
@@ -90,8 +91,8 @@ def _range_of(text: Secret) -> str:
 def bytes_of(secret: Secret) -> bytes:
     """The bytes of a secret, or of another input that may be text.
 
-    The call raises TypeError for anything but bytes and text, and ValueError for a text without
-    UTF-8. No exception shows the secret.
+    Raises TypeError for any type except bytes and text, and ValueError for a text that UTF-8 can't
+    encode. No exception shows the secret.
     """
     if isinstance(secret, bytes):
         return secret
@@ -117,7 +118,7 @@ def data_of(data: object, wanted: str = "bytes") -> bytes:
 
 
 def text_bytes(text: Secret) -> bytes:
-    """The bytes of a record or a setting, as a string of C: no record has a zero byte."""
+    """The bytes of a record or a setting, as a C string: no record has a zero byte."""
     found = bytes_of(text)
     if b"\0" in found:
         raise InvalidRecordError(1)
@@ -125,12 +126,12 @@ def text_bytes(text: Secret) -> bytes:
 
 
 def _numbers(*names: str) -> list[tuple[str, Any]]:
-    """The fields of numbers in a structure."""
+    """The numeric fields of a structure."""
     return [(name, ctypes.c_uint32) for name in names]
 
 
 def _data(*names: str) -> list[tuple[str, Any]]:
-    """The fields of data in a structure: a pointer and a size for each."""
+    """The data fields of a structure: a pointer and a size for each."""
     kinds = (("", ctypes.c_char_p), ("_size", ctypes.c_size_t))
     return [(name + end, kind) for name in names for end, kind in kinds]
 
@@ -180,8 +181,8 @@ NAME: Final = "librigzumal.so.1"
 def _path() -> str:
     """The file that RIGZUMAL_LIBRARY names.
 
-    If the variable is unset, the path is that of the package's own library, of make's, of one in
-    the folder lib of the package's prefix, or the system's.
+    If the variable is unset, the library is that of the package, of make, of the folder lib in the
+    package's prefix, or of the system.
     """
     named = os.environ.get("RIGZUMAL_LIBRARY")
     if named:
@@ -201,7 +202,7 @@ def _load() -> Any:
     try:
         library = ctypes.CDLL(_path())
     except OSError as refused:
-        hint = "build it by `make -C c` with a C compiler alone, or name it in RIGZUMAL_LIBRARY"
+        hint = "build it with `make -C c`, or set RIGZUMAL_LIBRARY to its path"
         raise ImportError(f"{NAME} can't be loaded: {hint}: {refused}") from None
     text, size, to = ctypes.c_char_p, ctypes.c_size_t, ctypes.POINTER
     room, inputs = [text, size], to(Inputs)
@@ -233,21 +234,20 @@ def version() -> str:
 
 
 def trim() -> int:
-    """Returns the memory that the library keeps for the next hashes to the system; returns its
-    bytes.
+    """Returns the memory that the library keeps for later hashes to the system, and reports its
+    size in bytes.
 
-    The library keeps the memory of the hashes that ran at one time, up to the bound of `keep`. A
-    system that is short of memory reclaims it by itself. Use this call in a program that hashes
-    seldom.
+    The library keeps the memory of simultaneous hashes, up to the bound of `keep`. A system that is
+    short of memory reclaims it without this call. Use this call in a program that seldom hashes.
     """
     return int(_library.rigzumal_trim())
 
 
 def keep(most: int) -> int:
-    """Sets the bound on the memory that the library keeps, in bytes, and returns the old bound.
+    """Sets the bound on the kept memory, in bytes, and returns the previous bound.
 
-    The default is 64 MiB, or the environment variable RIGZUMAL_KEEP. With 0 the library keeps no
-    memory.
+    The default is 64 MiB, or the value of the environment variable RIGZUMAL_KEEP. With 0 the
+    library keeps no memory.
     """
     whole_number("most", most)
     if not 0 <= most < 2**63:
@@ -268,7 +268,8 @@ def record(
     secret: Optional[bytes] = None,
     threads: int = 1,
 ) -> str:
-    """rigzumal_record_from; the salt is bytes, or the size of a salt that the library generates."""
+    """Calls rigzumal_record_from; the salt is bytes, or the size of a salt that the library
+    generates."""
     text = ctypes.create_string_buffer(TEXT_SIZE)
     given = (text, TEXT_SIZE, checked(tag_size), text_bytes(costs))
     drawn = (None, checked(salt)) if isinstance(salt, int) else pair(salt)
@@ -292,7 +293,7 @@ def check(
 
 
 def parts(text: Secret) -> RecordNumbers:
-    """rigzumal_parts of a record; refuses costs, which have no tag."""
+    """Calls rigzumal_parts on a record; refuses costs, which have no tag."""
     found = RecordNumbers()
     raise_fault(_library.rigzumal_parts(found, text_bytes(text)), text)
     if found.tag_size == 0:
@@ -307,12 +308,12 @@ def is_record(text: Secret) -> bool:
 
 
 def check_text(text: Secret) -> None:
-    """rigzumal_record_fault: raises InvalidRecordError if the text is no record."""
+    """Calls rigzumal_record_fault, and raises InvalidRecordError if the text isn't a record."""
     raise_fault(record_fault(text_bytes(text)), text)
 
 
 def in_range(name: str, number: int, least: int, most: int, fault: int) -> int:
-    """The number; raises InvalidNumbersError with this fault if the number is out of range."""
+    """The number; raises InvalidNumbersError with this fault if it is out of range."""
     whole_number(name, number)
     if not least <= number <= most:
         said = f"{name} must be {least} to {most}, not {number}"
@@ -321,13 +322,14 @@ def in_range(name: str, number: int, least: int, most: int, fault: int) -> int:
 
 
 def whole_number(name: str, number: object) -> None:
-    """Raises a TypeError that names the number if it is no int."""
+    """Raises a TypeError that names the number if the value isn't an int."""
     if not isinstance(number, int) or isinstance(number, bool):
         raise TypeError(f"{name} must be an int, not {type(number).__name__}")
 
 
 def checked(number: int) -> int:
-    """A number that ctypes doesn't truncate; raises TypeError or OverflowError for any other."""
+    """A number that ctypes doesn't truncate; raises TypeError or OverflowError for any other
+    value."""
     whole_number("the number", number)
     if not 0 <= number < 2**32:
         raise OverflowError("the number must be 0 to 2^32 - 1")

@@ -1,4 +1,4 @@
-"""The form in which servers compare passwords, by RFC 8265."""
+"""Converts passwords to the form in which servers compare them, by RFC 8265."""
 
 from __future__ import annotations
 
@@ -22,12 +22,13 @@ _JOINERS = "\u200c\u200d"
 def opaque_string(text: str) -> str:
     """The text as RFC 8265's OpaqueString (section 4.2): in NFC, with each space as U+0020.
 
-    So a password is the same from each keyboard: macOS may send a letter and its accent, and
-    Windows both in one. Case and width stay. This function allows joiners and the selectors of
-    emoji everywhere, while the RFC allows them only in some contexts, or not at all.
+    A password is therefore the same from each keyboard: macOS may send a letter and its accent
+    separately, and Windows sends both as one character. The function doesn't change case and width.
+    The function allows joiners and emoji selectors everywhere, while the RFC allows them only in
+    some contexts, or not at all.
 
     Raises:
-        ValueError: the text is empty, or has a character that the RFC refuses: a control character,
+        ValueError: the text is empty, or has a character that the RFC forbids: a control character,
         a character that this Python's Unicode doesn't define, or an invisible one. The exception
         doesn't show the text.
     """

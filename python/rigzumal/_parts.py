@@ -1,4 +1,4 @@
-"""The numbers of a record, read without its password, and its base64 without padding."""
+"""Reads the numbers of a record without its password, and encodes base64 without padding."""
 
 from __future__ import annotations
 
@@ -20,8 +20,8 @@ class Parts(Frozen):
         memory: KiB for Argon2; log2 of N for scrypt.
         passes: the passes of Argon2; the block size r for scrypt.
         lanes: the lanes of Argon2; the parallelism p for scrypt.
-        salt_size: bytes of the salt.
-        tag_size: bytes of the tag.
+        salt_size: the size of the salt in bytes.
+        tag_size: the size of the tag in bytes.
     """
 
     scheme: str
@@ -34,7 +34,7 @@ class Parts(Frozen):
 
     @property
     def costs(self) -> tuple[str, int, int, int, int]:
-        """Scheme, version and numbers, which decide about a rehash."""
+        """The scheme, version and numbers, which determine whether a rehash is needed."""
         return self.scheme, self.version, self.memory, self.passes, self.lanes
 
 
@@ -42,7 +42,7 @@ def parts(record: Secret) -> Parts:
     """Reads the numbers of a record, for example to decide about a rehash.
 
     Raises:
-        InvalidRecordError: the text is no record; the exception has its first fault.
+        InvalidRecordError: the text isn't a record; the exception names its first fault.
     """
     found = _library.parts(record)
     scheme, *numbers = (getattr(found, name) for name, *_ in found._fields_)
@@ -55,7 +55,7 @@ def encoded(data: bytes) -> str:
 
 
 def decoded(letters: str) -> bytes:
-    """The bytes of a base64 text; raises ValueError if the text encodes no bytes."""
+    """The bytes of a base64 text; raises ValueError if the text isn't base64 of bytes."""
     data = a2b_base64(letters + "=" * (-len(letters) % 4))
     if encoded(data) != letters:
         raise ValueError("a salt or a tag is not base64")

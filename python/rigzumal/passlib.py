@@ -1,14 +1,14 @@
-"""passlib's handlers argon2 and scrypt over the proved library.
+"""The passlib handlers argon2 and scrypt, over the proved library.
 
 >>> import rigzumal.passlib
 >>> rigzumal.passlib.register()
 >>> from passlib.context import CryptContext
 >>> context = CryptContext(["argon2", "scrypt"], argon2__memory_cost=65536)
 
-The settings, the strings and the errors are passlib's own: each handler reads the strings of
-passlib's handler of the same name, and passlib's reads ours. `max_threads` is the number of threads
-that may compute the lanes of a record of Argon2. By default it is the number of lanes, as in
-passlib; set `argon2__max_threads=1` in a service with many logins at once.
+The settings, the strings and the errors are those of passlib: each handler reads the strings of
+passlib's handler with the same name, and passlib's handler reads ours. `max_threads` is the number
+of threads that may compute the lanes of an Argon2 record. By default it is the number of lanes, as
+in passlib; set `argon2__max_threads=1` in a service with many simultaneous logins.
 """
 
 # mypy: allow-subclassing-any
@@ -31,13 +31,13 @@ _TYPES = {"id": rigzumal.Type.ID, "i": rigzumal.Type.I, "d": rigzumal.Type.D}
 
 
 class _OneBackend:
-    """passlib's calls for handlers with backends; this handler has one backend."""
+    """passlib's calls for handlers with backends; this handler has a single backend."""
 
     backends = (_BACKEND,)
 
     @classmethod
     def get_backend(cls) -> str:
-        """The one backend's name."""
+        """The name of the single backend."""
         return _BACKEND
 
     @classmethod
@@ -47,10 +47,10 @@ class _OneBackend:
 
     @classmethod
     def set_backend(cls, name: str = "any", dryrun: bool = False) -> str:
-        """Chooses the one backend.
+        """Chooses the single backend.
 
         Raises:
-            MissingBackendError: the name is that of another backend.
+            MissingBackendError: the name belongs to another backend.
         """
         if not cls.has_backend(name):
             raise handlers.exc.MissingBackendError(f"no such backend: {name!r}")
@@ -58,7 +58,7 @@ class _OneBackend:
 
 
 class argon2(_OneBackend, _argon2._Argon2Common):
-    """passlib's argon2, with all of its settings, and `data`."""
+    """passlib's argon2, with all of its settings, including `data`."""
 
     name = "argon2"
     version = max_version = 0x13
@@ -74,7 +74,7 @@ class argon2(_OneBackend, _argon2._Argon2Common):
         """The parts of a record.
 
         Raises:
-            ValueError: the text is no record; also for broken base64, for which passlib raises a
+            ValueError: the text isn't a record; also for invalid base64, for which passlib raises a
                 TypeError.
         """
         try:
@@ -100,7 +100,7 @@ class argon2(_OneBackend, _argon2._Argon2Common):
 
 
 class scrypt(_OneBackend, _scrypt.scrypt):
-    """passlib's scrypt, of its own strings and of $7$."""
+    """passlib's scrypt, for its own strings and those of $7$."""
 
     name = "scrypt"
 
@@ -118,7 +118,7 @@ class scrypt(_OneBackend, _scrypt.scrypt):
 def register() -> None:
     """Replaces passlib's own handlers by these two, for contexts that you create afterwards.
 
-    Later imports of `passlib.hash.argon2` get the new handler too. If passlib's own handlers were
+    Later imports of `passlib.hash.argon2` also get the new handler. If passlib's own handlers were
     loaded before, passlib logs a warning about them.
     """
     handler: Any

@@ -325,4 +325,4 @@ class Debs(helpers.Case):
         """Programs that don't run on every processor aren't packed without a word."""
         words = ["CPU=x86-64-v2"] if "x86-64" in levels("credbook") else []
         output = run("make", "-s", "-C", TOP / "c/pam", "deb", *words, status=2)
-        self.assertRegex(output, r"credbook isn't built for x86-64(-v2)?: make programs CPU=")
+        self.assertRegex(output, r"credbook isn't built for x86-64(-v2)?: run make programs CPU=")

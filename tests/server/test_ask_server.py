@@ -232,7 +232,7 @@ class AskServer(Case):
         self.assertEqual(ended(words), (0, "no\n", ""))
         with open("/dev/full", "w") as full:
             done = ended(words, stdout=full)
-        self.assertEqual(done, (2, "", "credkeep-ask: the answer couldn't be written\n"))
+        self.assertEqual(done, (2, "", "credkeep-ask: the output couldn't be written\n"))
 
     @each(b"", b"1 del", b"2 deleted\n", b"* unavailable\n", b"1 unavailable\n")
     def test_a_server_that_ends(self, said: bytes) -> None:
@@ -240,4 +240,4 @@ class AskServer(Case):
         path = self.room() / "odd"
         with Peer(path, lambda _, it: it.sendall(said)):
             shown, status = self.asked([str(path), "delete", "ada"])
-        self.assertEqual((status, "may be stored or not" in shown), (5, True))
+        self.assertEqual((status, "may or may not be stored" in shown), (5, True))

@@ -80,9 +80,10 @@ class Earlier(Case):
         number, and the number of those whose account is gone."""
         folder = self.begun(MARKS + NOBODYS)
         service = self.serving("--tries", "0", folder=folder)
-        gone = f"{self.marks(folder)} is gone: 5 of its marks are in the book now"
+        gone = f"removed {self.marks(folder)}: 5 of its marks are now in the book"
         self.assertIn(f"credkeep-server: {gone}\n", service.log())
-        self.assertIn("4 of its marks were of names without an account, or a record", service.log())
+        dropped = "dropped 4 of its marks: their names have no account, or no record"
+        self.assertIn(dropped, service.log())
         service.talk("admin unlock ada -> unlocked\nlogin verify ada {secret} -> yes")
         service.talk("admin lock ada -> locked")
         service.stop()

@@ -212,8 +212,8 @@ class Foreign(ForeignCase):
         record."""
         lines = "fay:rl0uE2bX6fF1g cid:hunter2 dan:!$6$x Ada:{SHA}x gus:{PLAIN}hunter2 eve:{SHA}x"
         self.file.write_text(lines.replace(" ", "\n"))
-        log, why = self.over().log(), "plain text, or another scheme"
-        said = f"fay (DES), cid ({why}), dan (locked), Ada (no name of a book), gus ({why})\n"
+        log, why = self.over().log(), "plain text or an unknown scheme"
+        said = f"fay (DES), cid ({why}), dan (locked), Ada (not a name of a book), gus ({why})\n"
         self.assertIn(f"credkeep-server: {self.file}: 5 of 6 users can't move: {said}", log)
         self.assertNotIn("hunter2", log)
 

@@ -68,7 +68,7 @@ class FullDisks(Case):
                 service.talk(CHANGES)
                 service.talk(LOGINS)
         self.assertEqual(service.stats()["disk"], 2 * len(CHANGES.split("\n")[1:-1]))
-        self.assertEqual(service.log().count("its disk has under 8192 KiB left"), 1)
+        self.assertEqual(service.log().count("its disk has less than 8192 KiB left"), 1)
         ask = [str(TOP / "bin/credkeep-ask"), "--server", str(service.path("admin"))]
         refused = "credkeep-ask: disable is refused: disk (19; see docs/ERRORS.md)\n"
         self.assertEqual(ended([*ask, "disable", "ada"]), (5, "", refused))
@@ -104,7 +104,7 @@ class FullDisks(Case):
                 fill(folder, left)
                 service.talk(CHANGES)
                 service.talk(LOGINS)
-        self.assertEqual(service.log().count(f"{audit}: its disk has under 8192 KiB left"), 1)
+        self.assertEqual(service.log().count(f"{audit}: its disk has less than 8192 KiB left"), 1)
         (folder / "filler").unlink()
         service.talk("login change ada {secret} {fresh} -> replaced")
         self.assertIn('"operation": "change"', audit.read_text())

@@ -43,7 +43,7 @@ MISTAKES = {
     f"{SOCKET} '' x.db": "'' isn't an operation",
     f"{SOCKET} verify {SOCKET} verify x.db": "two sockets have the name a",
     f"{SOCKET} verify --socket b /tmp/never-made 0660 - verify x.db": "the name /tmp/never-made",
-    "--socket a /tmp/never-made 0660 nosuchgroup verify x.db": "there is no group nosuchgroup",
+    "--socket a /tmp/never-made 0660 nosuchgroup verify x.db": "the group nosuchgroup of",
     "--socket a /none/at/s 0660 - verify x.db": "/none/at: No such file or directory",
     f"--socket a /tmp/{'x' * 110} 0660 - verify x.db": "up to 107 bytes",
     f"{SOCKET} verify --audit /none/audit x.db": "/none/audit: No such file or directory",
@@ -97,7 +97,7 @@ class Mistakes(Case):
             (room / f"{module}.py").write_text(f"raise ImportError(name={module!r})")
             given = {"environment": {"PYTHONPATH": str(room)}, "waits": False, "folder": room}
             (room / "old").touch()
-            said = f"credkeep-server: an option needs python3-{module}, which is missing\n"
+            said = f"credkeep-server: an option needs the missing package python3-{module}\n"
             self.assertEqual(self.serving(option, f"{room}/old", **given).ended(), (1, said))
 
     def test_a_second_server(self) -> None:
@@ -110,7 +110,7 @@ class Mistakes(Case):
         words = (
             f"--credkeep {FAST_BOOK} --socket login {folder}/login.sock 0660 - all {folder}/u.db"
         )
-        said = f"credkeep-server: another server has {folder}/login.sock\n"
+        said = f"credkeep-server: another server uses {folder}/login.sock\n"
         self.assertEqual(ran(*words.split()), (1, "", said))
         self.assertNotIn("start:", first.log())
         self.assertFalse(first.path().exists(), "the socket is there before the book answers")

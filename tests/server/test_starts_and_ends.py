@@ -154,7 +154,7 @@ class Endings(Case):
             status, log = service.ended()
             self.assertTrue(17 < time.monotonic() - begun < 90, "18 to 30 s")
             self.assertIn("20 lines had no answer after 18 s", log)
-            is_killed = "killing the book: it still runs after 30 s" in log
+            is_killed = "killing the book's process, which still runs after 30 s" in log
             self.assertEqual((is_killed, status), (is_stopped, 128 + 9 if is_stopped else 0))
 
     def test_listening_fails(self) -> None:
@@ -162,8 +162,8 @@ class Endings(Case):
         order."""
         need("systemd-socket-activate")
         for option, name, said in (
-            ("--datagram", "admin", "systemd handed over no stream socket with the name login"),
-            ("", "other", "systemd handed over no stream socket with the name admin"),
+            ("--datagram", "admin", "systemd passed no stream socket named login"),
+            ("", "other", "systemd passed no stream socket named admin"),
         ):
             room, kind = self.room(), socket.SOCK_DGRAM if option else socket.SOCK_STREAM
             words = f"systemd-socket-activate {option} --fdname=login:{name} -l {room}/a"

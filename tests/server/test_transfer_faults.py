@@ -62,7 +62,7 @@ class Faults(TransferCase):
             admin.send(LINE)
             client = service.client()
             until(lambda: client.ask("known ada") == "unavailable", "it is refused")
-            self.assertIn("the book can't be opened again", service.log())
+            self.assertIn("the server can't reopen the book", service.log())
             if is_stopped:
                 service.process.terminate()
                 self.assertEqual(service.ended()[0], 5)

@@ -86,7 +86,7 @@ class Imports(TransferCase):
             service.talk(f"admin waits -> waits{left}")
             self.assertEqual(service.stats()["waits"], bool(left))
         service.talk("login verify ada {secret} -> yes")
-        self.assertEqual(service.log().count("1 names need not wait any longer"), 2)
+        self.assertEqual(service.log().count("1 names no longer have to wait"), 2)
 
     def test_ten_thousand(self) -> None:
         """One import adds ten thousand accounts while users log in; the next start has them too."""
@@ -307,7 +307,7 @@ class Copies(TransferCase):
         service = self.over()
         with open("/dev/full", "w") as full:
             done = ended([ASK, "--server", str(service.path("admin")), "export"], stdout=full)
-        self.assertEqual(done, Ended(2, "", "credkeep-ask: the answer couldn't be written\n"))
+        self.assertEqual(done, Ended(2, "", "credkeep-ask: the output couldn't be written\n"))
         path = self.room() / "peer"
         whole = b"1 ended 0 5 0\nada:\n"
         for said in (whole[:-1], whole.replace(b"5", b"x"), b"1 ended 0 5\nada:\n", b"1 ok\n"):

@@ -161,14 +161,14 @@ class Tries(Case):
         )
         service.set_clock(1)
         service.talk("login verify bob {secret} -> yes\nlogin verify bob {secret} -> yes")
-        lines = [it.partition(": ")[2] for it in service.log().splitlines() if " wait " in it]
+        lines = [it.partition(": ")[2] for it in service.log().splitlines() if " wait" in it]
         said = [
             "ada must wait after 2 failed tries",
-            "ada need not wait any longer: an administrator forgave it",
+            "ada no longer has to wait: an administrator forgave it",
             "bob must wait after 2 failed tries",
-            "bob need not wait any longer: a new password",
+            "bob no longer has to wait: a new password",
             "bob must wait after 2 failed tries",
-            "bob need not wait any longer: a right password",
+            "bob no longer has to wait: a right password",
         ]
         self.assertEqual(lines, said)
 

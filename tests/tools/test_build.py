@@ -193,7 +193,7 @@ class Build(Case):
         done = self.build("--built", "--cpu", "x86-64-v2", "program")
         self.assertEqual(
             (done.status, done.faults),
-            (1, "program isn't built for x86-64-v2: make programs CPU=x86-64-v2 does it\n"),
+            (1, "program isn't built for x86-64-v2: run make programs CPU=x86-64-v2\n"),
         )
         (self.top / "crates/low/src/lib.rt").write_text("// changed\n")
         self.assertEqual(self.build("--built", "--cpu", "x86-64", "program").status, 1)
@@ -218,7 +218,7 @@ class Build(Case):
         done = self.build("--built", "--cpu", "arm64", "program")
         self.assertEqual(
             (done.status, done.faults),
-            (1, "program isn't built for arm64: make programs ARCH=arm64 does it\n"),
+            (1, "program isn't built for arm64: run make programs ARCH=arm64\n"),
         )
         self.assertEqual(self.asked(), [])
         # an object of an earlier build isn't taken

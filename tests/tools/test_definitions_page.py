@@ -99,7 +99,7 @@ limit = 64
 ```
 """
 AS_THEY_ARE = ["docs/DEFINITIONS.md has the definitions as they are"]
-ANEW = "isn't as in specs/: `python3 tools/definitions_page.py --write` corrects it"
+ANEW = "differs from specs/: `python3 tools/definitions_page.py --write` corrects it"
 
 
 class DefinitionsPage(Case):
@@ -172,7 +172,7 @@ class DefinitionsPage(Case):
     @each(
         ("low.Sizes.limit", "low.Sizes.least", "the definition low.Sizes.least isn't there"),
         ("low.Sizes.most", "low.most", "the definition low.most isn't there"),
-        ("definitions of", "names of", "docs/DEFINITIONS.md asks for no definitions"),
+        ("definitions of", "names of", "docs/DEFINITIONS.md has no block of definitions"),
     )
     def test_lost(self, old: str, new: str, wrong: str) -> None:
         """The tool reports a missing name, and a page without blocks."""

@@ -281,7 +281,7 @@ UNSEEN = [
         "low/src/limits.rt",
         "const HALF",
         "more!();\nconst HALF",
-        "a macro among items, whose items aren't seen: more!",
+        "a macro among items, which hides its items: more!",
     ),
     ("low/src/lib.rt", "mod inner;", "#[cfg(any())]\nmod inner;", f"{HIDES}cfg ( any ( ) )"),
     ("low/src/inner.rt", "use", "#![cfg(any())]\nuse", f"{HIDES}cfg ( any ( ) )"),
@@ -297,7 +297,7 @@ UNSEEN = [
         "low/src/lib.rt",
         "use crate::limits::LIMIT;",
         "use crate::limits::*;",
-        "an import of names that aren't seen: crate::limits::*",
+        "an import of unknown names: crate::limits::*",
     ),
 ]
 
@@ -385,5 +385,5 @@ class Statements(Case):
     def test_lost_definition(self) -> None:
         """The tool reports a name that leads to no definition, without a traceback."""
         self.replace("low/specs/Bounds.antt", "pub data Size ", "pub data Sizes ")
-        told = "docs/STATEMENTS.txt: Rattle.low.specs.Bounds.Size.Small is named, and isn't there"
+        told = "docs/STATEMENTS.txt: Rattle.low.specs.Bounds.Size.Small is named, but doesn't exist"
         self.assertEqual(self.told(), (1, [told]))

@@ -16,7 +16,7 @@ PATH = ":".join(
 )
 RT = "rt isn't there: only the Rattle toolchain, which isn't published, can"
 BESIDE = "Without it `make -C c` builds the library for C, Python, Rust and PHP"
-LIBRARY = "librigzumal.so.1 can't be loaded: build it by `make -C c` with a C compiler alone"
+LIBRARY = "librigzumal.so.1 can't be loaded: build it with `make -C c`"
 
 # A command, its status, what its lines begin with.
 NEEDING = [
@@ -85,7 +85,7 @@ class WithoutRt(helpers.Case):
         """The parts that need the toolchain are left out, and named; the rest is compared."""
         lines = self.ended("python tools/pages.py").written.splitlines()
         self.assertRegex(lines[-1], r"^\d{4} passed, \d+ failed, 2 left out$")
-        left_out = [it for it in lines if it.startswith("left out, as rt isn't there: ")]
+        left_out = [it for it in lines if it.startswith("omitted, since rt is missing: ")]
         self.assertEqual(len(left_out), 2)
 
     def test_gate(self) -> None:

@@ -1,4 +1,4 @@
-"""Accounts over blocking drivers, and for asyncio: the operations that callers use."""
+"""The operations that callers use, for blocking drivers and for asyncio."""
 
 from __future__ import annotations
 
@@ -23,11 +23,11 @@ T = TypeVar("T")
 
 
 class Accounts(Operations[Pool]):
-    """Password records in a service's own table.
+    """Keeps password records in a service's own table.
 
-    A row is an account; NULL in the record's column means an account without a record. The
-    operations run in their own transactions, on connections in autocommit without an open
-    transaction. Any number of threads may use one object.
+    Each row is an account; NULL in the record column means an account without a record. The
+    operations run in their own transactions, on autocommit connections without an open transaction.
+    Any number of threads may use one object.
 
     Args:
         pool: a callable that returns a context manager of a connection to the primary. After any
@@ -35,78 +35,80 @@ class Accounts(Operations[Pool]):
             the connection, or roll back, before it lends the connection again.
         dialect: the dialect of the database, with the names of the table and its columns.
         hasher: PasswordHasher or ScryptHasher, for the costs of new records. Its tags must have 32
-            bytes. Its `threads` have no effect. With a secret, a record of scrypt counts as one of
-            another scheme. With `secrets`, a login replaces a record of an older secret.
+            bytes. Its `threads` has no effect. With a secret, a scrypt record counts as one of
+            another scheme. With `secrets`, a login replaces a record with an older secret.
         replica: a pool of a replica, for the copies of records. The replica may lag, since each
-            answer comes from the primary's record. If it is down or refuses, operations read copies
+            answer depends on the primary's record. If it is down or refuses, operations read copies
             from the primary too.
         foreign: a function that checks passwords against records of other schemes, as (text,
-            password) -> bool or None. Any other answer is a TypeError, and nothing is stored.
+            password) -> bool or None. Any other answer raises a TypeError, and nothing is stored.
         upgrade_from: costs such as "$argon2i$v=19$m=65536,t=3,p=4" that an upgrade replaces even if
             the new costs aren't higher.
-        tries: the number of times to try an operation whose commit finds another record; 1 or more.
+        tries: how often to try an operation whose commit finds a different record; 1 or more.
         patience: the seconds to wait for a new connection, a busy server, or a lost answer; 0 or
-            more. It ends no statement that hangs, and no wait of a pool for a connection: set
+            more. It doesn't end a statement that hangs, or a pool's wait for a connection: set
             separate limits of some seconds for both.
         confirm: whether to confirm an answer without a change, such as a verify's, by writing the
-            record over itself. Use it with servers that show a change before it is safe (MariaDB
+            record again. Use it with servers that show a change before it is safe (MariaDB
             without a binary log). A login then costs as much as a change.
-        least_length: the fewest characters of a new password; a login has no such bound.
+        least_length: the minimum length of a new password; logins have no such bound.
         prepare: a function, such as `rigzumal.opaque_string`, that turns a password that is text,
             new or present, into the text for the hash. Use it from the table's first record on: a
-            record of another form of the password counts as one of another password.
+            record of a different form of the password counts as one of another password.
 
     Raises:
-        TypeError: the pool, the dialect, the hasher or the hook is of a wrong kind.
+        TypeError: the pool, the dialect, the hasher or the hook has a wrong type.
         ValueError: a number, or the size of the hasher's tag, is out of range.
-        InvalidRecordError: one of `upgrade_from` isn't costs.
+        InvalidRecordError: an entry of `upgrade_from` isn't costs.
 
     Each operation accepts `also`, a function of the driver's connection and the reply. The library
-    calls it in the operation's transaction, while the account's row is locked and before its record
-    is written. So your own rows, such as a session, are committed with the reply or not at all. If
-    the server undoes the transaction, the library calls `also` again in the next one; for CHANGED
-    it doesn't call it. An exception of `also` undoes everything and reaches the caller, unless it
-    is an error of the connection that means "again". `also` must leave the transaction open, must
-    not write the record, and must call no operation on the same table.
+    calls `also` in the operation's transaction, while it holds the lock of the account's row and
+    before it writes the record. Your own rows, such as a session, are therefore committed with the
+    reply or not at all. If the server undoes the transaction, the library calls `also` again in the
+    next one; it doesn't call `also` for CHANGED. An exception in `also` undoes everything and
+    reaches the caller, unless it is an error of the connection that calls for a retry. `also` must
+    leave the transaction open, must not write the record, and must not call an operation on the
+    same table.
 
     Every operation may raise:
-        TypeError: the key is of another type than its column, or a password is neither
+        TypeError: the key's type differs from its column's, or a password is neither
             bytes nor text; no row was read. A hook returned a wrong answer,
             or `also` has ended the transaction; no record was written.
-        ValueError: a new password is too short, has over 256 bytes or no UTF-8, or `prepare`
+        ValueError: a new password is too short, isn't UTF-8 or has over 256 bytes, or `prepare`
             refuses it; or the name of an enrolment is empty, or begins or ends with a blank. No row
             was read. A present password of such a form counts as wrong, after one hash.
         StoreFault: the table, the server or the connection has a fault.
-        InvalidRecordError: the record is of another scheme, and no hook accepts it.
-        Unavailable: no server did the operation in time, and nothing was stored.
-        OutcomeUnknown: at a change, or with `also`: COMMIT had no answer, and the row doesn't show
-            whether the change was stored.
-        OutOfMemoryError: too little memory was free for the costs.
+        InvalidRecordError: the record has another scheme, and no hook accepts it.
+        Unavailable: no server completed the operation in time, and nothing was stored.
+        OutcomeUnknown: after a change, or with `also`, COMMIT had no answer, and the row doesn't
+            show whether the change was stored.
+        OutOfMemoryError: the free memory was too small for the costs.
         Exception: any exception of the pool or the hooks.
     """
 
     _kind = Runtime
 
     def _done(self, doing: Coroutine[Any, Any, T]) -> T:
-        """The operation's answer; in AsyncAccounts the coroutine of it."""
+        """The operation's answer; in AsyncAccounts, a coroutine that returns it."""
         return run(doing)
 
     @hidden
     def enrol(self, key: Key, password: Secret, *, also: Hook = None) -> Reply:
         """Gives an account its first record: ENROLLED; EXISTS if it has one; NO_ACCOUNT.
 
-        Use it only for rows whose owner is known; for a sign-up use `new_record`.
+        Use this operation only for rows whose owner is known; for a sign-up use `new_record`.
         """
         return self._done(self._replied(Request(Kind.ENROL, key, password), also))
 
     @hidden
     def verify(self, key: Key, password: Secret, *, also: Hook = None) -> Reply:
-        """Whether the password is right: YES or NO; ABSENT if there is no record; NO_ACCOUNT."""
+        """Whether the password is right: YES or NO; ABSENT if the account has no record;
+        NO_ACCOUNT."""
         return self._done(self._replied(Request(Kind.VERIFY, key, password), also))
 
     @hidden
     def login(self, key: Key, password: Secret, *, also: Hook = None) -> Reply:
-        """A verify that also replaces a record of lower costs; its replies are those of a verify.
+        """A verify that also replaces a record with lower costs; its replies are those of a verify.
 
         If the new record can't be written (a full disk, an unknown outcome), the answer is still
         that of a verify.
@@ -120,7 +122,7 @@ class Accounts(Operations[Pool]):
         """Replaces the password: REPLACED; WRONG if the old one is wrong; ABSENT; NO_ACCOUNT;
         CHANGED.
 
-        CHANGED, a reply of every operation, means that the commit found another record `tries`
+        CHANGED, a reply of every operation, means that the commit found a different record `tries`
         times.
         """
         request = Request(Kind.CHANGE, key, password, new_password)
@@ -128,14 +130,14 @@ class Accounts(Operations[Pool]):
 
     @hidden
     def reset(self, key: Key, new_password: Secret, *, also: Hook = None) -> Reply:
-        """Sets a password without the old one: REPLACED; ENROLLED if there was no record;
+        """Sets a password without the old one: REPLACED; ENROLLED if the account had no record;
         NO_ACCOUNT."""
         request = Request(Kind.RESET, key, b"", new_password)
         return self._done(self._replied(request, also))
 
     @hidden
     def upgrade(self, key: Key, password: Secret, *, also: Hook = None) -> Reply:
-        """Replaces a record of lower costs: UPGRADED, or KEPT for others; WRONG; ABSENT;
+        """Replaces a record with lower costs: UPGRADED, or KEPT for other records; WRONG; ABSENT;
         NO_ACCOUNT."""
         return self._done(self._replied(Request(Kind.UPGRADE, key, password), also))
 
@@ -156,16 +158,15 @@ class Accounts(Operations[Pool]):
 
     @hidden
     def examine(self, *used: Kind) -> list[Fault]:
-        """The faults of the table, the server and the replica; empty if they have none.
+        """The faults of the table, the server and the replica; empty if none has a fault.
 
-        The trial writes a record into a new row, or into one of the table's if a new row is
+        The trial writes a record into a new row, or into an existing one if a new row is
         impossible, in a transaction that it rolls back. Pass Kind.REMOVE if the service removes
-        records: then a column that is NOT NULL is an error, and the trial also removes a record. On
-        SQLite `examine` warns of a full disk, as far as the filesystem reports it, but not of a
-        user's quota.
+        records: then a NOT NULL column is an error, and the trial also removes a record. On SQLite
+        `examine` warns of a full disk if the filesystem reports it, but not of a user's quota.
 
         Raises:
-            TypeError: an argument is no Kind.
+            TypeError: an argument isn't a Kind.
             StoreFault: the connection isn't in autocommit, or has a transaction open.
             Exception: whatever the driver raises.
         """
@@ -175,7 +176,7 @@ class Accounts(Operations[Pool]):
 
     @hidden
     def perform(self, request: Request, *, also: Hook = None) -> Answer:
-        """The whole operation, with the records before and after it."""
+        """Runs the whole operation; the answer has the records before and after it."""
         return self._done(self._perform(request, also))
 
     @hidden
@@ -192,7 +193,7 @@ class Accounts(Operations[Pool]):
     def commit(self, worked: Worked) -> Answer:
         """The third part: writes the new record if the row still has the copy.
 
-        If the row has another record, the reply is CHANGED, and `after` is that record.
+        If the row has a different record, the reply is CHANGED, and `after` is that record.
         """
         return self._done(self._commit(worked))
 
@@ -200,14 +201,14 @@ class Accounts(Operations[Pool]):
     def commit_in(self, conn: Any, worked: Worked) -> Answer:
         """The third part in a transaction that the caller begins and ends.
 
-        The reply counts once the caller's COMMIT is acknowledged; on PostgreSQL with a synchronous
-        standby that is a COMMIT without a warning. After CHANGED, and after any exception, roll
-        back and try again from BEGIN. An operation without a change locks its row, so that the
-        record stays until the transaction ends.
+        The reply counts once the server has acknowledged the caller's COMMIT; on PostgreSQL with a
+        synchronous standby, the acknowledgement must have no warning. After CHANGED, and after any
+        exception, roll back and start again from BEGIN. An operation without a change locks its
+        row, so that the record stays until the transaction ends.
 
         On SQLite the transaction must begin with BEGIN IMMEDIATE. On PostgreSQL it must be READ
         COMMITTED, or SERIALIZABLE if all transactions on these rows are. On MariaDB it may have any
-        level but READ UNCOMMITTED.
+        level except READ UNCOMMITTED.
 
         Raises:
             StoreFault: no transaction is open on the connection, it has PostgreSQL's level
@@ -220,7 +221,7 @@ class Accounts(Operations[Pool]):
 def _awaited(
     method: Callable[Concatenate[Accounts, P], T]
 ) -> Callable[Concatenate[AsyncAccounts, P], Coroutine[Any, Any, T]]:
-    """Wraps a blocking method: the same operation as a coroutine."""
+    """Wraps a blocking method as a coroutine with the same operation."""
 
     @functools.wraps(method)
     async def operation(accounts: Any, /, *args: P.args, **kwargs: P.kwargs) -> T:
@@ -244,14 +245,14 @@ def _awaited(
 class AsyncAccounts(Operations[AsyncPool]):
     """`Accounts` with coroutines, over psycopg's AsyncConnection.
 
-    Arguments, replies and exceptions are the same; `also` and `foreign` may be coroutine
-    functions. Hashes, and a `foreign` that is a function, run in threads of the executor,
-    so that other tasks go on. If a task is cancelled during a change, the change may be
-    done or not, as after `OutcomeUnknown`.
+    Arguments, replies and exceptions are the same; `also` and `foreign` may be coroutine functions.
+    Hashes, and a `foreign` that is a plain function, run in threads of the executor, so that other
+    tasks continue. If a task is cancelled during a change, the change may or may not be stored, as
+    after `OutcomeUnknown`.
 
     Args:
-        executor: a ThreadPoolExecutor, an argument only of AsyncAccounts. Each of its threads may
-            need the memory of one hash. The default is asyncio's own executor, which also looks up
+        executor: a ThreadPoolExecutor, only for AsyncAccounts. Each of its threads may
+            need the memory of one hash. The default is asyncio's own executor, which also resolves
             hosts.
     """
 

@@ -1,4 +1,4 @@
-"""Broken connections, failing servers, and the time limit of an operation."""
+"""Handles broken connections, failing servers, and the time limit of an operation."""
 
 from __future__ import annotations
 
@@ -30,7 +30,8 @@ _DSN_PASSWORD: Final = re.compile(
 
 @dataclass
 class Connections:
-    """The pools in which jobs run: of the primary, and perhaps of a replica that lags."""
+    """The pools in which jobs run: that of the primary, and optionally that of a lagging
+    replica."""
 
     runtime: Runtime
     primary: Any
@@ -41,8 +42,8 @@ class Connections:
     _asked_from: float = field(default=0.0, init=False)  # on, the replica
 
     async def at_replica(self, job: Job[Any]) -> Any:
-        """Runs a job once at the replica. Returns Undone if there is no replica, or if it fails or
-        refuses, or did so a moment ago."""
+        """Runs a job once at the replica. Returns Undone if no replica exists, if the replica fails
+        or refuses, or if it did so a moment ago."""
         begun = time.monotonic()
         if self.replica is None or begun < self._asked_from:
             return Undone(None)
@@ -62,7 +63,7 @@ class Connections:
             done = Undone(raised)
         is_passed_over = isinstance(done, Undone)
         if is_passed_over and not self._is_passed_over:
-            LOGGER.warning("the replica is passed over: %s", self._why(done))
+            LOGGER.warning("skipping the replica: %s", self._why(done))
         self._is_passed_over = is_passed_over
         return done
 
@@ -73,7 +74,7 @@ class Connections:
             return []
         is_away = not isinstance(done.cause, AccountsError) and done.reason
         kind, code = (warning, "away") if is_away else (fault_of, "refuses")
-        text = f"the replica is passed over: {self._why(done)}{done.reason}"
+        text = f"skipping the replica: {self._why(done)}{done.reason}"
         return [kind(f"replica-{code}", text)]
 
     def _why(self, done: Undone) -> str:
@@ -84,10 +85,10 @@ class Connections:
         return self.table.name(cause)
 
     async def patiently(self, job: Job[Any], patience: Optional[float] = None) -> Any:
-        """Runs a job at the primary until it is done, with pauses that grow.
+        """Runs a job at the primary until it is done, with growing pauses.
 
-        The call repeats a job that did nothing, after a lost connection or a transaction that the
-        server undid. It hashes no password again.
+        The method repeats a job that did nothing, after a lost connection or after a transaction
+        that the server undid. It computes no hash again.
         """
         begun, waits = time.monotonic(), None
         while True:
@@ -102,13 +103,14 @@ class Connections:
             name = self.table.name(cause)
             if waits.are_over:
                 kind = NoConnection if done.reason else Unavailable
-                raise kind(f"no server did the operation in time: {name}{done.reason}") from cause
+                text = f"no server completed the operation in time: {name}{done.reason}"
+                raise kind(text) from cause
             if waits.is_first:
-                LOGGER.warning("an operation is tried again: %s", name)
+                LOGGER.warning("retrying an operation: %s", name)
             await self.runtime.pause(waits.next(is_dead))
 
     async def _once(self, pool: Any, job: Job[Any]) -> Any:
-        """Runs a job; Undone if it stored nothing and may be tried again."""
+        """Runs a job once; returns Undone if the job stored nothing and may be repeated."""
         self.table.refuse_nested()
         try:
             return await self.runtime.use(pool, job)
@@ -124,7 +126,7 @@ class Connections:
 
 
 class Waits:
-    """Pauses that grow, for this many seconds in all."""
+    """Growing pauses, for this many seconds in all."""
 
     is_first = True
 
@@ -148,9 +150,9 @@ class Waits:
 
 
 def _reason(error: Exception) -> str:
-    """The cause of a missing connection, in the words of the server or the system.
+    """The reason for a missing connection, in the words of the server or the system.
 
-    The words quote no row, since nothing was sent; a password of the DSN is left out.
+    The text quotes no row, since nothing was sent; it omits a password in the DSN.
     """
     lines = [line.strip() for line in str(error).splitlines()]
     return ": " + _DSN_PASSWORD.sub(r"\1***", "; ".join(filter(None, lines)))[:_LONGEST]

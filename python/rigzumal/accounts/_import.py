@@ -1,4 +1,4 @@
-"""The rows of a table, for the command: all of them, and those that are added in batches."""
+"""The rows of a table, for the shell command: reads all rows, and adds rows in batches."""
 
 from __future__ import annotations
 
@@ -53,12 +53,12 @@ class Rows:
     def rename(self, key: Key, new: Key) -> bool:
         """Renames the account; False if it doesn't exist.
 
-        The driver's IntegrityError says that another account has the name.
+        Raises the driver's IntegrityError if another account has the name.
         """
         return self._changed("UPDATE {t} SET {k} = {m} WHERE {k} = {m}", new, key)
 
     def _changed(self, form: str, *values: Key) -> bool:
-        """Whether a statement changed a row, in a transaction that is committed."""
+        """Whether a statement changed a row; runs the statement in its own transaction."""
         dialect = self.dialect
         if not all(map(dialect.can_stand, values)):
             return False
@@ -73,7 +73,7 @@ class Rows:
 
 @dataclass
 class Import:
-    """Adds accounts with their records, in transactions of a batch each."""
+    """Adds accounts with their records, one transaction for each batch."""
 
     accounts: Accounts
     dialect: Dialect
@@ -83,10 +83,10 @@ class Import:
     copies: bool = True  # whether the engine still takes lines in its own way
 
     def take(self, file: pathlib.Path, key_of: Callable[[str], Key]) -> dict[str, int]:
-        """Adds the accounts of lines "NAME RECORD", and counts the outcomes.
+        """Adds the accounts in lines "NAME RECORD", and counts the outcomes.
 
-        The command reads all lines before it adds the first, and reads them again for each batch.
-        It reports refused lines on standard error.
+        The command reads all lines before it adds the first account, and reads them again for each
+        batch. It reports refused lines on standard error.
         """
         with _read_twice(file) as lines:
             total = self._checked(self._records(lines, key_of))
@@ -169,7 +169,8 @@ class Import:
         return words
 
     def _by_copy(self, session: Session, batch: Sequence[Line]) -> Optional[list[str]]:
-        """Writes a large batch in the engine's own way; None if it has none, or refuses it."""
+        """Writes a large batch in the engine's own way; None if the engine has no such way, or
+        refuses the batch."""
         if len(batch) <= SHARE or not self.copies:
             return None
         try:
@@ -182,9 +183,10 @@ class Import:
         return None
 
     def _by_shares(self, session: Session, batch: Sequence[Line]) -> list[str]:
-        """Writes a batch by large statements: first as if all names were new, then without that.
+        """Writes a batch with large statements: first as if all names were new, then without that
+        assumption.
 
-        If both fail, it writes line by line, which shows the account at fault.
+        If both attempts fail, it writes line by line, which shows the account with the fault.
         """
         # In the order of the names, which is the index's: its pages are read once each.
         lines = sorted(batch, key=_KEY)
@@ -248,7 +250,7 @@ class Import:
             raise
 
     def _put(self, session: Session, key: Key, record: str) -> str:
-        """Enrols an account, which may not exist yet, in the open transaction."""
+        """Enrols an account in the open transaction, and adds it if it doesn't exist."""
         if not run(session.execute(self.dialect.select, key)).rows:
             run(session.execute(self.dialect.insert, key))
         ticket = Ticket(Request(Kind.ENROL, key), None)
@@ -263,7 +265,7 @@ class Import:
 
 
 def _as_they_came(batch: Sequence[Line], words: Sequence[str]) -> list[str]:
-    """The outcomes of a batch's lines in their own order, from the order of their names."""
+    """The outcomes of a batch in the order of its lines, from the order of their names."""
     names: list[Any] = [name for name, _ in batch]
     places = sorted(range(len(batch)), key=names.__getitem__)
     ordered = [""] * len(batch)
@@ -274,7 +276,7 @@ def _as_they_came(batch: Sequence[Line], words: Sequence[str]) -> list[str]:
 
 @contextlib.contextmanager
 def _read_twice(file: pathlib.Path) -> Iterator[IO[str]]:
-    """The lines of a file; another file keeps those of a pipe until they are read again."""
+    """The lines of a file; a temporary file keeps the lines of a pipe for the second reading."""
     given: dict[str, Any] = {"encoding": "utf-8", "errors": "surrogateescape"}
     with open(file, **given) as lines:
         if lines.seekable():
@@ -287,7 +289,7 @@ def _read_twice(file: pathlib.Path) -> Iterator[IO[str]]:
 
 
 def line_of(name: object, record: Optional[str]) -> str:
-    """The line of an import; empty if the account has no record, or fits no line."""
+    """The line of an import; empty if the account has no record, or doesn't fit on a line."""
     text, line = str(name), f"{name} {record}"
     fits = text and record and line.isprintable() and " " not in record
     return line if fits and text == text.strip() else ""
@@ -306,7 +308,7 @@ def why(record: object, fault: Union[InvalidRecordError, str]) -> str:
 
 
 def _progress(done: int, total: int, begun: float) -> None:
-    """A bar on standard error, if it is a terminal and the import is long."""
+    """A progress bar on standard error, if standard error is a terminal and the import is long."""
     if not sys.stderr.isatty() or total <= BATCH:
         return
     took = time.monotonic() - begun

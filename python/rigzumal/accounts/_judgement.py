@@ -1,4 +1,4 @@
-"""The effect of a whole operation at the copy of a record, and the rules for its passwords."""
+"""The result of a whole operation on the copy of a record, and the rules for its passwords."""
 
 from __future__ import annotations
 
@@ -18,20 +18,21 @@ from rigzumal.accounts.types import Ticket, Worked, bytes_of_password
 Hasher = Union[PasswordHasher, ScryptHasher]
 
 Foreign = Callable[[str, bytes], Union[Optional[bool], Awaitable[Optional[bool]]]]
-"""Judges a text that is no record of ours: True if it is one of the password, or False.
+"""Checks a password against a record of another scheme: True if it is right, otherwise False.
 
-None says that no password is right and that the hook hashed nothing, as for a locked
-login: a hash of ours then makes the answer need as long. Any other answer is a TypeError.
-AsyncAccounts awaits a coroutine function, and calls a function in its executor.
+None means that no password is right and that the hook hashed nothing, as for a locked
+login: Rigzumal then computes a hash, so that the answer takes equally long. Any other answer
+raises a TypeError. AsyncAccounts awaits a coroutine function, and calls any other function in
+its executor.
 """
 
 Prepare = Callable[[str], str]
-"""The form of a password that is hashed, such as `rigzumal.opaque_string`.
+"""Converts a password to the form that is hashed, as `rigzumal.opaque_string` does.
 
-Its ValueError says that no account has such a password.
+It raises ValueError for a password that no account may have.
 """
 
-FOREIGN_HINT: Final = ": give Accounts a `foreign` that judges records of other schemes"
+FOREIGN_HINT: Final = ": pass Accounts a `foreign` that checks records of other schemes"
 _TAG_SIZE: Final = 32
 _KNOWN: Final = 64  # costs of which a judge knows whether they are upgraded
 # Their numbers in the library for C are their places.
@@ -63,8 +64,8 @@ class Passwords:
     def new(self, password: Secret) -> bytes:
         """The bytes of a new password.
 
-        The call raises TypeError if the password is neither bytes nor text, and ValueError if it is
-        too short or too long, has no UTF-8, or `prepare` refuses it.
+        Raises TypeError if the password is neither bytes nor text, and ValueError if it is too
+        short or too long, if UTF-8 can't encode it, or if `prepare` refuses it.
         """
         made = self._prepared(bytes_of_password(password))
         if len(made.decode(errors="replace")) < self.least_length:
@@ -74,7 +75,8 @@ class Passwords:
         return made
 
     def of(self, request: Request) -> Request:
-        """The request with its passwords in the hashed form; raises as `new` does."""
+        """The request with its passwords in the form that is hashed; raises the same exceptions as
+        `new`."""
         new = _NEW.get(request.kind)
         if new is None and self.prepare is None:
             return request
@@ -92,7 +94,7 @@ class Passwords:
         return made
 
     def _prepared(self, password: bytes) -> bytes:
-        """The bytes for the hash; bytes that are no text stay as they are."""
+        """The bytes to hash; bytes that aren't UTF-8 stay unchanged."""
         if self.prepare is None:
             return password
         try:
@@ -107,10 +109,10 @@ class Passwords:
 
 
 class Judge:
-    """Does requests on copies of records, with new records by the hasher of Accounts.
+    """Carries out requests on copies of records; the hasher of Accounts creates new records.
 
     Attributes:
-        sample: a record of the hasher's costs that no password is right for.
+        sample: a record with the hasher's costs for which no password is right.
         foreign: the hook for texts of other schemes, or None.
     """
 
@@ -143,11 +145,11 @@ class Judge:
             raise ValueError("upgrade_from has the hasher's own costs")
 
     def new_record(self, password: Secret) -> str:
-        """A new record of a password; raises as `bytes_of_password` does."""
+        """A new record of a password; raises the same exceptions as `bytes_of_password`."""
         return self._made(bytes_of_password(password))
 
     def question(self, ticket: Ticket) -> Optional[tuple[Foreign, str, bytes]]:
-        """The hook and its arguments, the record and the password; None if no hook has to
+        """The hook with its arguments, the record and the password; None if no hook has to
         answer."""
         request, copy = ticket.request, ticket.copy
         if self.foreign is None or not isinstance(copy, str):
@@ -158,10 +160,10 @@ class Judge:
         return self.foreign, copy, request.password
 
     def work(self, ticket: Ticket, right: Optional[bool] = None) -> Worked:
-        """The effect of the whole operation at the ticket's copy.
+        """The result of the whole operation on the ticket's copy.
 
-        `right` is the hook's answer to the ticket's question. An account without a
-        record costs as many hashes as a wrong password, and so does an unknown name.
+        `right` is the hook's answer to the ticket's question. An account without a record costs as
+        many hashes as a wrong password, and so does an unknown name.
         """
         request, copy = ticket.request, ticket.copy
         reply, after = self._judged(ticket, right)
@@ -197,7 +199,7 @@ class Judge:
         return _wrong(request), copy
 
     def _at_record(self, request: Request, copy: str) -> tuple[Reply, Copy]:
-        """The effect at a record of ours, with any of the secrets."""
+        """The result for a record of ours, under any of the secrets."""
         secrets = self._secrets
         if None in secrets and copy.startswith("$scrypt$"):
             secrets = (None,)
@@ -215,7 +217,7 @@ class Judge:
         return _wrong(request), copy
 
     def _stepped(self, request: Request, copy: Optional[str]) -> tuple[Reply, Copy]:
-        """The step's answer under the first secret, and the record after it."""
+        """The step's answer under the first secret, and the new record."""
         kind, password, secret = request.kind, request.password, self._secret
         if kind is Kind.UPGRADE and copy is not None and not self._is_upgraded(copy):
             is_kept = is_right(copy, password, secret)
@@ -226,14 +228,14 @@ class Judge:
         return step(kind, copy, password, new, setting, secret)
 
     def _spend(self, record: str, request: Request, secrets: Iterable[Optional[bytes]]) -> None:
-        """Computes as many hashes as a wrong password costs at a record of these costs."""
+        """Computes as many hashes as a wrong password costs for a record with these costs."""
         for secret in secrets:
             is_right(record, request.password, secret)
         if request.kind is Kind.CHANGE and self._secret is None:
             self._made(request.new_password)  # the step hashes it for a wrong password too
 
     def _at_right(self, request: Request, copy: str) -> tuple[Reply, Copy]:
-        """The effect of a right password at a record that any upgrade replaces."""
+        """The result of a right password for a record that any upgrade replaces."""
         if request.kind is Kind.VERIFY:
             return Reply.YES, copy
         if request.kind is Kind.REMOVE:
@@ -253,7 +255,7 @@ class Judge:
         return f"{self._hasher.costs}${encoded(salt)}"
 
     def _is_upgraded(self, record: str) -> bool:
-        """Whether an upgrade replaces a record, which its costs decide."""
+        """Whether an upgrade replaces a record, by its costs."""
         costs = record.rsplit("$", 2)[0]
         found = self._upgraded.get(costs)
         if found is None:
@@ -263,11 +265,11 @@ class Judge:
         return found
 
     def goes_up(self, found: Parts) -> bool:
-        """Whether an upgrade replaces a record of these numbers.
+        """Whether an upgrade replaces a record with these numbers.
 
-        No chain of upgrades leads back: within one scheme neither version, memory nor work falls,
-        and one of them rises. So two versions of a service with different costs don't replace
-        records back and forth.
+        A chain of upgrades never leads back: within one scheme, neither version, memory nor work
+        decreases, and one of them increases. Two versions of a service with different costs
+        therefore never replace records back and forth.
         """
         if found.costs in self._old:
             return True
@@ -278,7 +280,7 @@ class Judge:
 
 
 def verdict_of(answer: object) -> Optional[bool]:
-    """The hook's answer; raises TypeError for a pair, a word or a number."""
+    """The hook's answer; raises TypeError for a pair, a string or a number."""
     if answer is None or isinstance(answer, bool):
         return answer
     kind = type(answer).__name__
@@ -286,12 +288,12 @@ def verdict_of(answer: object) -> Optional[bool]:
 
 
 def _numbers_of(costs: str) -> tuple[str, int, int, int, int]:
-    """The numbers of costs; raises InvalidRecordError for another text, such as a record."""
+    """The numbers of costs; raises InvalidRecordError for any other text, such as a record."""
     try:
         return parts(f"{costs}${'A' * 22}${encoded(bytes(_TAG_SIZE))}").costs
     except InvalidRecordError as fault:
-        wanted = 'upgrade_from has costs such as "$argon2i$v=19$m=65536,t=3,p=4"'
-        raise InvalidRecordError(fault.number, f"{wanted}, and one isn't: {fault}") from None
+        wanted = 'upgrade_from needs costs such as "$argon2i$v=19$m=65536,t=3,p=4"'
+        raise InvalidRecordError(fault.number, f"{wanted} in each entry: {fault}") from None
 
 
 def _wrong(request: Request) -> Reply:
@@ -314,10 +316,10 @@ def step(
     setting: str = "",
     secret: Optional[bytes] = None,
 ) -> tuple[Reply, Optional[str]]:
-    """The reply of a whole operation at a record of ours, and the record after it.
+    """The reply of a whole operation on a record of ours, and the new record.
 
-    The call is rigzumal_step_from, which without a secret runs the proved rigzumal_step; it has no
-    reset. The setting is costs with a fresh salt, for a new record.
+    Calls rigzumal_step_from, which without a secret runs the proved rigzumal_step; it has no reset.
+    The setting of a new record: costs with a fresh salt.
     """
     size = _library.TEXT_SIZE if setting else 0
     text = ctypes.create_string_buffer(size) if setting else None
@@ -336,7 +338,7 @@ def step(
 
 
 def is_right(record: str, password: Secret, secret: Optional[bytes] = None) -> bool:
-    """Whether a record is of this password."""
+    """Whether the password is right for a record."""
     fault = _library.check(record, password, secret)
     if fault == _library.MISMATCH:
         return False

@@ -1,10 +1,10 @@
 """The operations, as coroutines.
 
-An operation reads the record (the copy), works without a connection, and commits by an
-UPDATE that compares the row's record with the copy. Its reply is that of the whole
-operation at one record, which the row had between the call and the answer: at the
-commit, or without a change when the primary was read. A copy from a replica is compared
-with the primary's record at the end.
+An operation reads the record (the copy), hashes without a connection, and commits by an UPDATE that
+compares the row's record with the copy. Its reply is that of the whole operation on a single
+record, which the row had between the call and the answer: at the commit, or, without a change, when
+the operation read the primary. The operation compares a replica's copy with the primary's record at
+the end.
 """
 
 from __future__ import annotations
@@ -40,7 +40,7 @@ AS_A_VERIFY: Final = {
 
 
 class Operations(Generic[AnyPool]):
-    """The operations over any runtime; Accounts and AsyncAccounts document them."""
+    """Runs the operations over any runtime; Accounts and AsyncAccounts document them."""
 
     _kind: ClassVar[type[Runtime]]
     _runtime: Runtime
@@ -81,7 +81,7 @@ class Operations(Generic[AnyPool]):
         self._connections = Connections(self._runtime, pool, replica, self._table, patience)
 
     def _before_commit(self, worked: Worked) -> None:
-        """Called before each COMMIT of a change is sent."""
+        """Called just before each COMMIT of a change."""
 
     async def _replied(self, request: Request, also: Hook) -> Reply:
         return (await self._perform(request, also)).reply
@@ -129,7 +129,7 @@ class Operations(Generic[AnyPool]):
     async def _perform(
         self, request: Request, also: Hook = None, patience: Optional[float] = None
     ) -> Answer:
-        """Runs the whole operation, and runs it again if the row changed before its commit."""
+        """Runs the whole operation, and repeats it if the row changed before the commit."""
         request = self._passwords.of(request)
         copy, is_settled = await self._first_copy(request, patience)
         for _ in range(self._tries):
@@ -154,7 +154,7 @@ class Operations(Generic[AnyPool]):
     async def _first_copy(
         self, request: Request, patience: Optional[float] = None
     ) -> tuple[Copy, bool]:
-        """A copy to work at, and whether it was read at the primary."""
+        """A copy to work on, and whether it comes from the primary."""
         key, connections = request.key, self._connections
         self._dialect.check_key(key)
         if not self._dialect.can_stand(key):
@@ -174,7 +174,7 @@ class Operations(Generic[AnyPool]):
     async def _commit(
         self, worked: Worked, also: Hook = None, patience: Optional[float] = None
     ) -> Answer:
-        """Compares and writes, at once or in a transaction of its own."""
+        """Compares and writes, either in one statement or in its own transaction."""
         key = worked.ticket.request.key
         if also is None and not self._dialect.can_stand(key):
             return Answer(Reply.NO_ACCOUNT, NO_ROW, NO_ROW)
@@ -195,15 +195,16 @@ class Operations(Generic[AnyPool]):
         return answer
 
     async def _settled(self, worked: Worked, also: Hook) -> Answer:
-        """Finds out whether a change was stored whose COMMIT had no answer.
+        """Finds out whether a change was stored if its COMMIT had no answer.
 
-        A record is written once, since its salt is fresh. So if the row has the new one, it was
-        written. It may not have reached the disk or the standby, so the operation writes it over
-        itself: that COMMIT waits for both, and a SELECT wouldn't.
+        A record is written only once, since its salt is fresh. If the row has the new record, the
+        change was therefore written. The change may not have reached the disk or the standby, so
+        the operation writes the record again: the COMMIT of that write waits for both, and a SELECT
+        wouldn't.
 
-        If the row has the copy, the change wasn't stored so far, and is sent again: a replaced
-        record never returns. NULL may return, if another client has removed the record since:
-        a second enrolment would bring it back.
+        If the row still has the copy, the change hasn't been stored so far, and is sent again: a
+        replaced record never returns. NULL may return, if another client has removed the record
+        since: a second enrolment would restore it.
         """
         waits, why = Waits(self._connections.patience, time.monotonic(), 0.01), ""
         refusals = 0
@@ -230,7 +231,7 @@ class Operations(Generic[AnyPool]):
         return cause is not None and self._dialect.verdict(cause) is Verdict.REFUSED
 
     async def _put_again(self, worked: Worked, also: Hook) -> bool:
-        """Whether the change is stored for good; False if another try may find out.
+        """Whether the change is permanently stored; False if another attempt may find out.
 
         Raises:
             OutcomeUnknown: the row has neither the copy nor the new record.

@@ -1,4 +1,4 @@
-"""A report on a table, for the command: groups of similar records, by the effect of a login on
+"""A report on a table for the shell command: groups similar records by the effect of a login on
 them."""
 
 from __future__ import annotations
@@ -44,14 +44,14 @@ def group_of(record: Optional[str], is_old: Callable[[Parts], bool]) -> Group:
 
 
 def costs_of(record: str) -> Optional[str]:
-    """Costs such as "$argon2id$v=19$m=65536,t=3,p=4"; None for another text."""
+    """Costs such as "$argon2id$v=19$m=65536,t=3,p=4"; None for any other text."""
     return record.rsplit("$", 2)[0] if _library.is_record(record) else None
 
 
 def report(
     rows: Iterable[tuple[Any, Optional[str]]], is_old: Callable[[Parts], bool]
 ) -> list[tuple[Group, int]]:
-    """Each group with its count: by state, the most frequent first."""
+    """Each group with its count, by state, and the most frequent first."""
     counts = Counter(group_of(record, is_old) for _, record in rows)
     order = list(State)
     return sorted(

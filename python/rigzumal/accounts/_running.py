@@ -1,8 +1,8 @@
-"""The running hooks: they show whether an operation runs within a hook.
+"""Keeps a list of the running hooks, which shows whether an operation runs within a hook.
 
-While an `also` runs, its operation keeps the row locked. Another operation on the same table could
-wait for that row, and no server detects this deadlock. Besides, PerThread's only connection is in
-use.
+While an `also` runs, its operation holds the lock of the row. Another operation on the same table
+could wait for that row, and no server detects this deadlock. In addition, PerThread's only
+connection is in use.
 """
 
 from __future__ import annotations
@@ -12,7 +12,7 @@ from typing import Any, Final
 
 
 class Also:
-    """A caller's `also` that runs, within an operation on a table over a pool.
+    """A running `also` of a caller, with the table and the pool of its operation.
 
     Attributes:
         is_over: whether the hook has ended: a task that it created keeps its context for ever.

@@ -1,7 +1,7 @@
 """The difference between blocking drivers and asyncio.
 
-All layers above are coroutines. Over a blocking driver they wait only for the driver, so `run`
-gets the answer at once.
+All layers above are coroutines. Over a blocking driver, coroutines wait only for the driver, so
+`run` gets their results at once.
 """
 
 from __future__ import annotations
@@ -24,7 +24,7 @@ Hook = Optional[Callable[[Any, Reply], Any]]
 
 
 class HookFailed(Exception):
-    """A caller's hook raised `error`, which the caller gets; nothing was stored."""
+    """A caller's hook raised `error`, which is passed to the caller; nothing was stored."""
 
     def __init__(self, error: Exception) -> None:
         super().__init__()
@@ -32,7 +32,7 @@ class HookFailed(Exception):
 
 
 def at_once(name: str, answer: Any) -> Any:
-    """The answer of a caller's function; raises TypeError if the function's body didn't run."""
+    """The answer of a caller's function; raises TypeError if its body didn't run."""
     if isinstance(answer, Coroutine):
         answer.close()
     if isinstance(answer, Awaitable):
@@ -43,7 +43,7 @@ def at_once(name: str, answer: Any) -> Any:
 
 
 class Result(NamedTuple):
-    """The answer to a statement: its rows, its row count, and the server's word."""
+    """The answer to a statement: its rows, its row count, and the server's command tag."""
 
     rows: list[tuple[Any, ...]]
     affected: int
@@ -60,7 +60,7 @@ class Session:
         self.conn, self._options = conn, options
 
     async def execute(self, sql: str, *values: object) -> Result:
-        """Runs a statement to its end: an open cursor would keep SQLite's snapshot."""
+        """Runs a statement to its end, since an open cursor would keep SQLite's snapshot."""
         cursor = self.conn.cursor()
         try:
             # Without values no driver looks for marks in it.
@@ -138,7 +138,7 @@ def _answer(end: Union[T, BaseException]) -> T:
 
 
 class Runtime:
-    """Waits as a thread does; `options` are those of its sessions."""
+    """Waits in the thread; `options` are those of its sessions."""
 
     enter = "__enter__"  # lends a connection of a pool
     _session: type[Session] = Session
@@ -149,7 +149,7 @@ class Runtime:
     ) -> None:
         if executor is not None and not isinstance(executor, self._executors):
             if not self._executors:
-                raise TypeError("an executor is for AsyncAccounts alone")
+                raise TypeError("only AsyncAccounts uses an executor")
             kind = type(executor).__name__
             raise TypeError(f"AsyncAccounts needs a ThreadPoolExecutor, not {kind}")
         self._options, self._executor = options, executor
@@ -159,11 +159,11 @@ class Runtime:
         return self._session(conn, self._options)
 
     async def use(self, pool: Any, job: Job[T]) -> T:
-        """Does a job on a connection of a pool, and returns the job's outcome even if the pool
-        raises or swallows an error after it.
+        """Runs a job on a connection of a pool, and returns the job's outcome even if the pool
+        raises or swallows an error afterwards.
 
-        A pool that rolls back a broken connection raises its own error instead of the
-        job's, and "COMMIT had no answer" would be read as "nothing was done".
+        A pool that rolls back a broken connection raises its own error instead of the job's;
+        "COMMIT had no answer" would then look like "nothing was stored".
         """
         ends: list[Union[T, BaseException]] = []
         try:
@@ -179,16 +179,16 @@ class Runtime:
         time.sleep(seconds)
 
     async def call(self, work: Callable[..., T], *args: Any) -> T:
-        """Runs a function that needs a processor for a while."""
+        """Runs a function that uses a processor for some time."""
         return work(*args)
 
     async def ask(self, name: str, hook: Callable[..., Any], *args: Any) -> Any:
-        """The answer of a caller's hook; the hook may hash too."""
+        """The answer of a caller's hook, which may also hash."""
         return at_once(name, hook(*args))
 
 
 class AsyncRuntime(Runtime):
-    """Waits as a task of asyncio does, and hashes in a thread of an executor."""
+    """Waits in a task of asyncio, and hashes in a thread of an executor."""
 
     enter = "__aenter__"
     _session = AsyncSession

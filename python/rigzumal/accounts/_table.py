@@ -1,8 +1,8 @@
-"""The operations' work on one connection.
+"""Does the work of operations on one connection.
 
-A change is one statement that commits, if the engine has one and the row shows
-afterwards whether it took effect. Otherwise it is a transaction: the comparison, a look
-at the new record, COMMIT.
+A change is a single statement that commits, if the engine has such a statement and the row shows
+afterwards whether it took effect. Otherwise the change is a transaction: the comparison, a read of
+the new record, COMMIT.
 """
 
 from __future__ import annotations
@@ -23,7 +23,7 @@ from rigzumal.accounts.types import StoreFault, Ticket, Worked
 
 ENDED: Final = (
     "`also` has ended the operation's transaction, closed its connection, or swallowed an"
-    " error by which the transaction has failed"
+    " error that made the transaction fail"
 )
 WROTE: Final = "`also` has changed the account's own record"
 NESTED: Final = (
@@ -33,23 +33,23 @@ NESTED: Final = (
 
 
 class Lost(Exception):
-    """The connection is broken, and nothing was stored; its cause says why."""
+    """The connection is broken, and nothing was stored; the cause gives the reason."""
 
 
 class Broken(Exception):
-    """COMMIT was sent, and no answer came."""
+    """COMMIT was sent, but no answer arrived."""
 
 
 @dataclass(frozen=True)
 class Undone:
-    """Nothing was stored, and the job may be tried again."""
+    """Nothing was stored, and the job may be repeated."""
 
     cause: Optional[BaseException]
     reason: str = ""  # why there is no connection, in words that quote no row
 
 
 class _Put(NamedTuple):
-    """A change of a trial."""
+    """A change in a trial."""
 
     reply: Reply
     after: Copy
@@ -66,12 +66,12 @@ class Table:
     pool: Any = None  # of the primary: accounts that share it are of one database
 
     def refuse_nested(self) -> None:
-        """Refuses an operation within an `also` on the same table."""
+        """Refuses an operation inside an `also` on the same table."""
         if runs_on(self.pool, self.dialect.table):
             raise TypeError(NESTED)
 
     def writes(self, worked: Worked) -> bool:
-        """Whether the operation writes: a change, or the copy over itself."""
+        """Whether the operation writes, either a change or the same record again."""
         if worked.reply.makes_change:
             return True
         return self.confirm and worked.ticket.copy is not NO_ROW
@@ -87,7 +87,7 @@ class Table:
         self._raise(caught)
 
     async def one(self, session: Session, sql: str, key: Key) -> Copy:
-        """The record that a statement reads; NO_ROW for a key that the column can't hold."""
+        """The record that a statement reads; NO_ROW for a key that the column can't store."""
         try:
             return _record((await session.execute(sql, key)).rows)
         except Exception as error:
@@ -98,7 +98,7 @@ class Table:
     async def change(
         self, session: Session, worked: Worked, also: Hook = None
     ) -> Union[Answer, Undone]:
-        """A change by one statement, or a transaction with a caller's hook in it."""
+        """Makes a change by one statement, or by a transaction that includes a caller's hook."""
         self.dialect.fresh(session.conn)
         done: Union[Answer, Undone, None] = None
         if also is None and self._is_of_one_statement(worked):
@@ -106,17 +106,17 @@ class Table:
         return done or await self._transaction(session, worked, also)
 
     def _is_of_one_statement(self, worked: Worked) -> bool:
-        """Whether one statement does the change, if the engine has one.
+        """Whether one statement makes the change, if the engine has such a statement.
 
-        From NULL to a record or back, the row doesn't show afterwards who wrote it. So the library
-        must know whether a connection broke before COMMIT.
+        If a record is added or removed, the row doesn't show afterwards who changed it. The library
+        must therefore know whether a connection broke before COMMIT.
         """
         copy, after = worked.ticket.copy, worked.after
         both = isinstance(copy, str) and isinstance(after, str)
         return bool(self.dialect.at_once) and both and copy != after
 
     async def _at_once(self, session: Session, worked: Worked) -> Union[Answer, Undone, None]:
-        """A change by one statement; None if only a transaction can show its outcome."""
+        """Makes a change by one statement; None if only a transaction can show its outcome."""
         dialect, copy, after = self.dialect, worked.ticket.copy, worked.after
         is_sent = False
         try:
@@ -165,10 +165,10 @@ class Table:
         return await self._undone(session, caught)
 
     async def _answer(self, session: Session, worked: Worked, also: Hook) -> Answer:
-        """Compares and writes, after a caller's hook got the reply.
+        """Compares and writes, after a caller's hook has received the reply.
 
-        The row is locked meanwhile. The record is written last, so that none is written
-        if the hook has ended the transaction.
+        The row is locked during the hook. The record is written last, so that nothing is written if
+        the hook has ended the transaction.
         """
         if also is None:
             return await self.compare(session, worked)
@@ -196,7 +196,7 @@ class Table:
         return answer
 
     def _is_open(self, session: Session) -> bool:
-        """Whether a healthy transaction is open on a connection, which may be closed."""
+        """Whether a healthy transaction is open on a connection, which may itself be closed."""
         try:
             mode = self.dialect.mode(session.conn)
         except Exception:
@@ -226,9 +226,9 @@ class Table:
             # NULL may have come back since the UPDATE, and stays by the lock.
             rows, count, _ = await dialect.put(session, worked.after, key, copy)
         if count == 0:
-            raise StoreFault("the row has the copy, and an UPDATE doesn't change it")
+            raise StoreFault("the row still has its old record, which an UPDATE doesn't change")
         if count != 1:
-            raise StoreFault(f"the UPDATE touched {count} rows instead of one")
+            raise StoreFault(f"the UPDATE changed {count} rows instead of one")
         # A trigger, a short column or a character set may have altered the record.
         if not dialect.returns:
             rows = (await session.execute(dialect.select, key)).rows
@@ -237,8 +237,8 @@ class Table:
         return Answer(worked.reply, copy, worked.after)
 
     async def examine(self, session: Session, record: str, used: Container[Kind]) -> list[Fault]:
-        """The faults that the engine or a trial shows: no catalogue shows a role that
-        may not update, a rule that does nothing, or a CHECK that no record passes."""
+        """The faults that only the engine or a trial shows: no catalogue shows a role that may not
+        update, a rule that does nothing, or a CHECK that no record passes."""
         self.dialect.fresh(session.conn)
         found = await self.dialect.examine(session)
         faults = [*found.faults, *(() if self.confirm else found.unless_confirmed)]
@@ -252,7 +252,7 @@ class Table:
         return faults + ([Fault(Severity.ERROR, "no-update", text)] if text else [])
 
     async def _trial(self, session: Session, puts: Sequence[_Put]) -> Optional[str]:
-        """The reason why one of these changes can't be written to a row."""
+        """The reason why a row can't store one of these changes."""
         fault, put = None, puts[0]
         try:
             await self.dialect.start(session)
@@ -266,7 +266,7 @@ class Table:
                     ticket = Ticket(Request(Kind.RESET, key), copy)
                     answer = await self.compare(session, Worked(ticket, put.reply, put.after))
                     if answer.reply is not put.reply:
-                        raise StoreFault("the server doesn't count the row that it has written")
+                        raise StoreFault("the server didn't count the row that it wrote")
                     await self.dialect.settle(session)
                     copy = put.after
         except StoreFault as raised:
@@ -287,7 +287,8 @@ class Table:
                 raise
 
     async def _row(self, session: Session) -> Optional[Key]:
-        """The key of a new row, or of any other; None if the table is empty and refuses a row."""
+        """The key of a new row, or of an existing one; None if the table is empty and refuses a
+        row."""
         dialect = self.dialect
         key = unused_key(dialect.key_type)
         try:
@@ -304,10 +305,10 @@ class Table:
         return found.rows[0][0] if found.rows else None
 
     async def _hook_failed(self, session: Session, error: Exception) -> Undone:
-        """Rolls back after a caller's hook has raised this.
+        """Rolls back after a caller's hook has raised this exception.
 
-        The operation is tried again only for errors of this connection: the hook may
-        have used others, whose errors look alike.
+        The library repeats the operation only after errors of this connection: the hook may have
+        used others, whose errors look the same.
         """
         verdict = Verdict.REFUSED
         if self.dialect.is_drivers(error):
@@ -320,7 +321,7 @@ class Table:
         raise Lost() from error
 
     async def _undone(self, session: Session, error: Exception) -> Undone:
-        """Rolls back after an error; raises it, or returns Undone for another try."""
+        """Rolls back after an error, and then raises it, or returns Undone for another attempt."""
         verdict = self.dialect.verdict(error) if is_of_driver(error) else None
         is_kept = verdict is not Verdict.LOST and await self._is_undone(session)
         if verdict is Verdict.AGAIN and is_kept:
@@ -328,7 +329,8 @@ class Table:
         self._raise(error)
 
     async def _is_undone(self, session: Session) -> bool:
-        """Rolls back, if possible; the pool closes a connection that a job raised on."""
+        """Rolls back if possible; the pool closes a connection on which a job raised an
+        exception."""
         try:
             await self.dialect.undo(session)
         except Exception:
@@ -338,8 +340,8 @@ class Table:
     def _raise(self, error: Exception) -> NoReturn:
         """Raises the exception that an error means.
 
-        The exception has only the number, and is raised outside of the handler: a
-        driver's text may quote the refused row, with the record.
+        The exception contains only the number, and is raised outside the handler: a driver's text
+        may quote the refused row, including the record.
         """
         if not is_of_driver(error):
             raise error
@@ -355,7 +357,7 @@ class Table:
 
 
 def judged(worked: Worked, now: Copy) -> Answer:
-    """The answer without a change, at the record that the statement found."""
+    """The answer without a change, for the record that the statement found."""
     if now == worked.ticket.copy:
         return Answer(worked.reply, now, now)
     return Answer(Reply.NO_ACCOUNT if now is NO_ROW else Reply.CHANGED, now, now)

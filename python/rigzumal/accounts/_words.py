@@ -1,4 +1,4 @@
-"""The words of the command, and the passwords that it reads."""
+"""The arguments of the shell command, and the passwords that it reads."""
 
 from __future__ import annotations
 
@@ -15,19 +15,19 @@ from rigzumal._commands import read_password
 
 
 def _options() -> Words:
-    """The options of each command, which may precede it too."""
+    """The options of each command, which may also precede the command."""
     words = Words(add_help=False, argument_default=argparse.SUPPRESS)
     words.add_argument("--database", metavar="URL")
     words.add_argument("--table", help="by default: accounts")
-    words.add_argument("--key", help="its column of names; by default: name")
-    words.add_argument("--record", help="its column of records; by default: record")
-    words.add_argument("--numbers", action="store_true", help="names are whole numbers")
+    words.add_argument("--key", help="the column of names; by default: name")
+    words.add_argument("--record", help="the column of records; by default: record")
+    words.add_argument("--numbers", action="store_true", help="the names are whole numbers")
     words.add_argument("--json", action="store_true", help="write lines of JSON")
     confirm = "confirm each answer by a write (docs/SCALE.md)"
     words.add_argument("--confirm", action="store_true", help=confirm)
     opaque = "hash RFC 8265's form of passwords, as prepare=rigzumal.opaque_string"
     words.add_argument("--opaque", action="store_true", help=opaque)
-    secret = "a file whose bytes are the pepper; again for an older one"
+    secret = "a file with the pepper; repeat it for older ones"
     words.add_argument("--secret", metavar="FILE", action="append", help=secret)
     add_costs(words)
     return words
@@ -56,13 +56,13 @@ def parser(description: str, texts: Mapping[str, str]) -> argparse.ArgumentParse
     for name in ("add", "check", "change", "reset", "disable", "delete", "rename"):
         made[name].add_argument("name", metavar="NAME")
     made["rename"].add_argument("new", metavar="NEW")
-    show = "write the record that was removed, as a line for import"
+    show = "print the removed record as a line for import"
     made["disable"].add_argument("--show", action="store_true", help=show)
     prometheus = "write Prometheus' text format"
     made["report"].add_argument("--prometheus", action="store_true", help=prometheus)
     file = 'lines "NAME RECORD"'
     made["import"].add_argument("file", metavar="FILE", type=pathlib.Path, help=file)
-    foreign = "accept records of other schemes, which your hook judges"
+    foreign = "accept records of other schemes, for your hook"
     made["import"].add_argument("--foreign", action="store_true", help=foreign)
     return words
 
@@ -74,7 +74,7 @@ def accounts_hasher(args: argparse.Namespace) -> Union[PasswordHasher, ScryptHas
     if not secrets:
         return hasher
     if not isinstance(hasher, PasswordHasher):
-        raise Refusal("scrypt has no pepper: leave --secret out", Status.WORDS)
+        raise Refusal("scrypt has no pepper: omit --secret", Status.WORDS)
     return hasher.replace(secrets=secrets)
 
 

@@ -1,12 +1,15 @@
-"""The command: python3 -m rigzumal accounts --database URL --table T COMMAND.
+"""The shell command: python3 -m rigzumal accounts --database URL --table T
+COMMAND.
 
-At a terminal the command asks for a password; otherwise the password is standard input, without one
-newline at its end. `change` reads two lines: the old password and the new one. The command refuses
-an empty password. The URL may be in RIGZUMAL_DATABASE instead, where no list of processes shows it.
+At a terminal the command asks for a password; otherwise it reads the password
+from standard input, without one newline at the end. `change` reads two lines:
+the old password and the new one. The command refuses an empty password. The URL
+may be in RIGZUMAL_DATABASE instead, so that no list of processes shows it.
 Write options before COMMAND or after it.
 
-The exit statuses are those of credkeep: 0 success or yes, 1 a wrong argument, 2 reading or writing
-failed, 3 out of memory, 4 no, 5 the database failed or has a fault, 6 refused input.
+The exit statuses are those of credkeep: 0 success or yes, 1 a wrong argument, 2
+reading or writing failed, 3 out of memory, 4 no, 5 the database failed or has a
+fault, 6 refused input.
 """
 
 from __future__ import annotations
@@ -61,7 +64,7 @@ def main(words: Optional[Sequence[str]] = None) -> int:
 
 @contextlib.contextmanager
 def _password_judged() -> Iterator[None]:
-    """Turns a ValueError of its block, which is about the password, into a Refusal."""
+    """Turns a ValueError of its block, which concerns the password, into a Refusal."""
     try:
         yield
     except RigzumalError:
@@ -71,13 +74,13 @@ def _password_judged() -> Iterator[None]:
 
 
 class _Command:
-    """The commands over one table: each returns its exit status."""
+    """The commands for one table: each returns its exit status."""
 
     def __init__(self, args: argparse.Namespace) -> None:
         self.args = args
 
     def close(self) -> None:
-        """Closes the connection, if there is one."""
+        """Closes the connection if one is open."""
         if "pool" in vars(self):
             self.pool.close()
 
@@ -139,12 +142,12 @@ class _Command:
         return key
 
     def copy(self, key: Key) -> Copy:
-        """The row's record; None if the row has none, and NO_ROW without a row."""
+        """The row's record; None if the row has none, and NO_ROW if no row exists."""
         return self.accounts.begin(Request(Kind.VERIFY, key)).copy
 
     @contextlib.contextmanager
     def record_judged(self, key: Key) -> Iterator[None]:
-        """Reports an InvalidRecordError of its block as a fault of the account's record."""
+        """Reports an InvalidRecordError in its block as a fault of the account's record."""
         try:
             yield
         except InvalidRecordError as fault:
@@ -152,13 +155,14 @@ class _Command:
             raise Refusal(why(self.copy(key), said), Status.DATABASE) from None
 
     def say(self, reply: Reply, *good: Reply) -> int:
-        """Prints a reply; returns the status of a no unless it is one of the good replies."""
+        """Prints a reply, and returns the status for no unless the reply is one of the good
+        ones."""
         words = {Reply.NO_ACCOUNT: "no account", Reply.ABSENT: "no record"}
         self.write(words.get(reply, reply.value), reply=reply.value)
         return Status.DONE if reply in good else Status.NO
 
     def write(self, text: str, /, **fields: object) -> int:
-        """Prints a line: the text, or the fields with --json."""
+        """Prints a line: the text, or the fields if --json is set."""
         print(json.dumps(fields, default=str) if self.args.json else text)
         return Status.DONE
 
@@ -267,7 +271,7 @@ class _Command:
             elif record is not None:
                 left_out += 1
         if left_out:
-            say(f"{left_out} accounts fit no line, and are left out: see --json")
+            say(f"{left_out} accounts don't fit on a line and are omitted: see --json")
         return Status.DATABASE if left_out else Status.DONE
 
     def show(self) -> int:

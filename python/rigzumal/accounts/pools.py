@@ -1,6 +1,6 @@
-"""The smallest pools, and SQLAlchemy's. psycopg_pool's `connection` is one too.
+"""The smallest pools, and a pool for SQLAlchemy. psycopg_pool's `connection` is a pool too.
 
-A pool of your own must close a connection, or roll back, after any exception, even a BaseException:
+Your own pool must close a connection, or roll it back, after any exception, even a BaseException:
 
     @contextmanager
     def pool():
@@ -42,7 +42,7 @@ _MAKERS: Final = {
 
 
 def check_pool(pool: object, enter: str) -> None:
-    """Raises TypeError for a connection, an engine or one use in place of a pool, and for a
+    """Raises TypeError for a connection, an engine or a single use instead of a pool, and for a
     PerThread or a PerUse of the other kind of accounts."""
     is_other = isinstance(pool, PerThread if enter == "__aenter__" else PerUse)
     # A context manager of contextlib's may be called too, as a decorator.
@@ -53,7 +53,7 @@ def check_pool(pool: object, enter: str) -> None:
 
 
 def check_connect(connect: object, of: str) -> None:
-    """Raises TypeError for a connection or a DSN in place of a function that opens one."""
+    """Raises TypeError for a connection or a DSN instead of a function that opens one."""
     if not callable(connect) or hasattr(type(connect), "cursor"):
         kind = type(connect).__name__
         raise TypeError(f"{of} needs a function that opens a connection, not a {kind}")
@@ -62,7 +62,7 @@ def check_connect(connect: object, of: str) -> None:
 def lent(pool: Any, enter: str) -> Any:
     """The context manager of a pool's connection; raises TypeError if it lacks `enter`.
 
-    A connection of psycopg or sqlite3 is a context manager too, but its end doesn't close the
+    A connection of psycopg or sqlite3 is also a context manager, but its exit doesn't close the
     connection.
     """
     lender = pool()
@@ -72,7 +72,7 @@ def lent(pool: Any, enter: str) -> Any:
     if inspect.iscoroutine(lender):
         lender.close()
     wanted = "`with`" if enter == "__enter__" else "`async with`"
-    fault = f"a pool gives connections by {wanted}, and this one returned"
+    fault = f"a pool lends connections by {wanted}, but this one returned"
     raise TypeError(f"{fault} a {kind.__name__}: {_MAKERS[enter]}")
 
 
@@ -94,9 +94,9 @@ class _Held:
 
 
 class PerThread:
-    """One connection for each thread, closed after any exception and with its thread.
+    """One connection for each thread; it is closed after any exception, and with its thread.
 
-    `connect` opens a connection in autocommit. After a fork the child opens its own, and
+    `connect` opens a connection in autocommit. After a fork the child opens its own connection, and
     doesn't use its parent's.
     """
 
@@ -110,7 +110,7 @@ class PerThread:
         return _Use(self)
 
     def close(self) -> None:
-        """Closes this thread's connection, if it has one."""
+        """Closes this thread's connection if one is open."""
         held = self._mine()
         self._local.held = None
         if held is not None:
@@ -175,10 +175,10 @@ _CONNECTING: Final = 4  # connections that are opened at a time: each holds up t
 
 
 class PerUse:
-    """A connection for each use, for AsyncAccounts; `connect` opens one in autocommit.
+    """Opens a connection for each use, for AsyncAccounts; `connect` opens one in autocommit.
 
-    If the task is cancelled, even while the connection opens, the connection is closed. For many
-    simultaneous uses a pool that keeps its connections is faster.
+    If the task is cancelled, even while the connection opens, the pool closes the connection. For
+    many simultaneous uses, a pool that keeps its connections is faster.
     """
 
     def __init__(self, connect: Callable[[], Awaitable[Any]]) -> None:
@@ -206,7 +206,7 @@ class PerUse:
             if not inspect.isawaitable(connecting):
                 with suppress(Exception):
                     connecting.close()  # type: ignore[attr-defined]
-                raise TypeError("`connect` returned no awaitable: use Accounts and PerThread")
+                raise TypeError("`connect` didn't return an awaitable: use Accounts and PerThread")
             opening = asyncio.ensure_future(connecting)
             try:
                 return await asyncio.shield(opening)
@@ -216,7 +216,7 @@ class PerUse:
 
 
 def _close(opening: asyncio.Future[Any]) -> None:
-    """Closes a connection that was opened after its task was cancelled."""
+    """Closes a connection that opened after its task was cancelled."""
     import asyncio
 
     if not opening.cancelled() and opening.exception() is None:
@@ -262,8 +262,8 @@ def of_engine(engine: Any) -> Any:
 
 @contextmanager
 def _drivers_error() -> Iterator[None]:
-    """Raises the driver's error inside SQLAlchemy's error: the dialect knows the meaning of the
-    driver's."""
+    """Raises the driver's error from inside SQLAlchemy's error, since the dialect knows only the
+    driver's errors."""
     try:
         yield
     except Exception as error:

@@ -1,12 +1,12 @@
 """The types of the operations: names, requests, answers, faults.
 
-A caller with its own transaction does an operation in three parts:
+A caller with its own transaction splits an operation into three parts:
 
     ticket = accounts.begin(Request(Kind.CHANGE, user_id, old, new))
     worked = accounts.work(ticket)             # no connection is held
     answer = accounts.commit_in(conn, worked)  # within a transaction that is open
 
-If an operation only has to commit some rows with its reply, its `also` is enough.
+If an operation only has to commit some rows together with its reply, `also` is enough.
 """
 
 from __future__ import annotations
@@ -48,7 +48,7 @@ class Reply(enum.Enum):
 
         def __bool__(self) -> bool:
             """Refuses `if accounts.login(..)`, which would let everybody in."""
-            fault = "a Reply is no truth value: compare with Reply.YES or the like"
+            fault = "a Reply has no truth value: compare it, for example with Reply.YES"
             raise TypeError(fault)
 
     @property
@@ -72,13 +72,13 @@ class Kind(enum.Enum):
 
 
 def check_kind(kind: object) -> None:
-    """Raises TypeError for a word in the place of a Kind, since it would equal no Kind."""
+    """Raises TypeError for a string instead of a Kind, since it would equal no Kind."""
     if not isinstance(kind, Kind):
         raise TypeError(f"pass a Kind, such as Kind.CHANGE, not a {type(kind).__name__}")
 
 
 class NoRow(enum.Enum):
-    """The copy of an account that doesn't exist."""
+    """The copy for an account that doesn't exist."""
 
     NO_ROW = "no row"
 
@@ -90,8 +90,8 @@ Copy = Union[str, None, NoRow]
 
 
 def bytes_of_password(password: Secret) -> bytes:
-    """The bytes of a password; raises as `new_record` does for a password that no account may
-    have."""
+    """The bytes of a password; raises the same exceptions as `new_record` for a password that no
+    account may have."""
     found = password if type(password) is bytes else bytes_of(password)
     if len(found) > LONGEST_PASSWORD:
         raise ValueError(f"a password has up to {LONGEST_PASSWORD} bytes")
@@ -103,8 +103,8 @@ class Request:
     """A requested operation on an account.
 
     Raises:
-        TypeError: the kind is no Kind, or a password is neither bytes nor text.
-        ValueError: a new password has over 256 bytes, or is text without UTF-8.
+        TypeError: the kind isn't a Kind, or a password is neither bytes nor text.
+        ValueError: a new password has over 256 bytes, or UTF-8 can't encode it.
     """
 
     kind: Kind
@@ -138,7 +138,7 @@ class Request:
 # Not frozen: frozen ones are slow, and each login builds three.
 @dataclass
 class Ticket:
-    """A request that was begun, with the copy of the account's record."""
+    """A request that has begun, with the copy of the account's record."""
 
     request: Request
     copy: Copy = field(repr=False)
@@ -146,7 +146,7 @@ class Ticket:
 
 @dataclass
 class Worked:
-    """The effect of the whole operation at the copy: its reply, and the record after it."""
+    """The result of the whole operation on the copy: its reply, and the new record."""
 
     ticket: Ticket
     reply: Reply
@@ -155,7 +155,7 @@ class Worked:
 
 @dataclass
 class Answer:
-    """A reply, the record at which it was judged, and the record after it."""
+    """A reply, the record against which it was decided, and the record afterwards."""
 
     reply: Reply
     before: Copy = field(repr=False)
@@ -171,7 +171,7 @@ class StoreFault(AccountsError):
 
 
 class Unavailable(AccountsError):
-    """No server did the operation in time; nothing was stored."""
+    """No server completed the operation in time; nothing was stored."""
 
 
 class NoConnection(Unavailable):
@@ -179,7 +179,7 @@ class NoConnection(Unavailable):
 
 
 class OutcomeUnknown(AccountsError):
-    """COMMIT was sent, no answer came, and the row doesn't show its outcome.
+    """COMMIT was sent, no answer arrived, and the row doesn't show the outcome.
 
     The change may be stored, may have been replaced since, or may still take effect.
     """

@@ -1,4 +1,4 @@
-"""The names of argon2-cffi, over the proved library.
+"""The interface of argon2-cffi, over the proved library.
 
 >>> from rigzumal import argon2_cffi as argon2
 >>> hasher = argon2.PasswordHasher.from_parameters(argon2.profiles.CHEAPEST)
@@ -6,9 +6,9 @@
 True
 
 Differences: this module has no `core`, no `ffi` and none of the functions that argon2-cffi calls
-legacy. A bool isn't accepted as a number, and the only versions are 16 and 19. As in argon2-cffi,
-`parallelism` is also the number of threads. But the library starts at most one thread for each
-processor, and none below 4 MiB. Each exception is also one of `rigzumal`.
+legacy. It doesn't accept a bool as a number, and the only versions are 16 and 19. As in
+argon2-cffi, `parallelism` is also the number of threads. However, the library starts at most one
+thread for each processor, and none below 4 MiB. Each exception is also an exception of `rigzumal`.
 """
 
 from rigzumal.argon2_cffi import exceptions, low_level, profiles

@@ -32,8 +32,8 @@ _TYPES: Final = {
 
 
 def _bytes_of(text: _Text, encoding: str) -> bytes:
-    """The bytes of a text; an error gives the place of a letter without bytes, and never the
-    letter."""
+    """The bytes of a text; an error names the position of a character that can't be encoded, but
+    never the character."""
     if isinstance(text, bytes):
         return text
     try:
@@ -45,7 +45,7 @@ def _bytes_of(text: _Text, encoding: str) -> bytes:
 
 
 def _check_types(**given: tuple[object, type]) -> None:
-    """Raises a TypeError that names the values of a wrong type."""
+    """Raises a TypeError that names the values with a wrong type."""
     wrong = [
         f"'{name}' must be a {kind.__name__} (got {type(value).__name__})"
         for name, (value, kind) in given.items()
@@ -65,15 +65,15 @@ class PasswordHasher:
 
     Args:
         time_cost: passes, 1 or more.
-        memory_cost: in KiB, 8 a lane to 2097152.
+        memory_cost: in KiB, from 8 for each lane to 2097152.
         parallelism: lanes, 1 to 255, and the number of threads that may compute them.
-        hash_len: bytes of the tag, 4 or more.
-        salt_len: bytes of a generated salt, 8 or more.
+        hash_len: the size of the tag in bytes, 4 or more.
+        salt_len: the size of a generated salt in bytes, 8 or more.
         encoding: the encoding of passwords that are text.
         type: the kind of Argon2.
 
     Raises:
-        TypeError: a value is of another type.
+        TypeError: a value has a wrong type.
     """
 
     __slots__ = ["_parameters", "encoding"]
@@ -114,16 +114,16 @@ class PasswordHasher:
 
     @classmethod
     def from_parameters(cls, params: Parameters) -> PasswordHasher:
-        """A hasher of these parameters, of version 0x13."""
+        """A hasher with these parameters, for version 0x13."""
         costs = params.time_cost, params.memory_cost, params.parallelism
         return cls(*costs, params.hash_len, params.salt_len, type=params.type)
 
     @hidden
     def hash(self, password: _Text, *, salt: Optional[bytes] = None) -> str:
-        """A new encoded hash; without a salt the call generates one.
+        """A new encoded hash; the call generates a salt if the caller passes none.
 
         Raises:
-            HashingError: a number or a size is outside its range, or memory is short.
+            HashingError: a number or a size is out of range, or memory is short.
         """
         secret = _bytes_of(password, self.encoding)
         salt = os.urandom(self.salt_len) if salt is None else salt
@@ -132,12 +132,12 @@ class PasswordHasher:
 
     @hidden
     def verify(self, hash: _Text, password: _Text) -> Literal[True]:
-        """True if the password is the hash's.
+        """True if the password is right for the hash.
 
         Raises:
-            VerifyMismatchError: the hash is of another password.
+            VerifyMismatchError: the hash belongs to another password.
             VerificationError: the verification failed for another reason.
-            InvalidHashError: the hash begins with none of Argon2's kinds, or isn't a string of C.
+            InvalidHashError: the hash doesn't begin with a kind of Argon2, or isn't a C string.
         """
         try:
             encoded = _bytes_of(hash, "ascii")
@@ -150,9 +150,9 @@ class PasswordHasher:
         return low_level.verify_secret(encoded, secret, kind)
 
     def check_needs_rehash(self, hash: _Text) -> bool:
-        """Whether the hash has other parameters than this hasher's.
+        """Whether the hash's parameters differ from this hasher's.
 
         Raises:
-            InvalidHashError: the text is no hash of Argon2.
+            InvalidHashError: the text isn't a hash of Argon2.
         """
         return self._parameters != extract_parameters(hash)

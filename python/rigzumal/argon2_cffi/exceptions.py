@@ -1,4 +1,4 @@
-"""argon2-cffi's exceptions; each is also an exception of `rigzumal`."""
+"""The exceptions of argon2-cffi; each is also an exception of `rigzumal`."""
 
 from __future__ import annotations
 
@@ -23,7 +23,7 @@ class _Said:
 
 
 class Argon2Error(_Said, rigzumal.RigzumalError):
-    """The base of the exceptions of hashing and verifying."""
+    """The base class of the exceptions of hashing and verifying."""
 
 
 class VerificationError(Argon2Error):
@@ -31,7 +31,7 @@ class VerificationError(Argon2Error):
 
 
 class VerifyMismatchError(VerificationError, rigzumal.VerifyMismatchError):
-    """The hash is of another password."""
+    """The hash belongs to another password."""
 
     def __init__(self, message: str = "", number: int = MISMATCH) -> None:
         super().__init__(message, number)
@@ -42,11 +42,11 @@ class HashingError(Argon2Error):
 
 
 class InvalidHashError(_Said, rigzumal.InvalidRecordError):
-    """The text is no hash of Argon2."""
+    """The text isn't a hash of Argon2."""
 
 
 InvalidHash = InvalidHashError
 
 
 class UnsupportedParametersError(ValueError):
-    """Never raised, and kept for code that names it: every system runs every parameter here."""
+    """Never raised, but kept for code that names it: every system runs every parameter here."""

@@ -1,4 +1,4 @@
-"""argon2-cffi's functions over raw bytes, and hashes with salts and tags of any length."""
+"""The functions of argon2-cffi over raw bytes, and hashes with salts and tags of any length."""
 
 from __future__ import annotations
 
@@ -115,8 +115,8 @@ class Parameters:
     Attributes:
         type: the kind.
         version: 19, or 16 for old hashes; 18 for old hashes without a version.
-        salt_len: bytes of the salt.
-        hash_len: bytes of the tag.
+        salt_len: the size of the salt in bytes.
+        hash_len: the size of the tag in bytes.
         time_cost: passes.
         memory_cost: in KiB.
         parallelism: lanes.
@@ -197,7 +197,7 @@ def extract_parameters(hash: Union[str, bytes]) -> Parameters:
     """The parameters of an encoded hash.
 
     Raises:
-        InvalidHashError: the text is no hash of Argon2.
+        InvalidHashError: the text isn't a hash of Argon2.
     """
     try:
         text = _library.bytes_of(hash)
@@ -220,7 +220,7 @@ def _form() -> re.Pattern[str]:
 
 
 def _fault_of(text: bytes) -> int:
-    """The fault of a record that is no hash here."""
+    """The fault of a record that isn't a valid hash here."""
     try:
         _library.parts(text)
     except _library.InvalidRecordError as fault:
@@ -235,8 +235,8 @@ def error_to_str(error: int) -> str:
 
 
 def _first_fault(it: Parameters) -> Optional[int]:
-    """libargon2's number for the first parameter that is too small, in its order of checks; None if
-    none is."""
+    """The libargon2 number for the first parameter that is too small, in its order of checks; None
+    if all are large enough."""
     faults = (
         (it.hash_len < 4, -2),
         (it.salt_len < 8, -6),
@@ -248,7 +248,7 @@ def _first_fault(it: Parameters) -> Optional[int]:
 
 
 def _tag(it: Parameters, secret: bytes, salt: bytes) -> bytes:
-    """The tag of these parameters, with a thread for each lane."""
+    """The tag for these parameters, computed with a thread for each lane."""
     numbers: dict[str, Any] = {**vars(it), "type": rigzumal.Type(it.type.value)}
     del numbers["salt_len"]
     return rigzumal.argon2(secret, salt, threads=it.parallelism, **numbers)
@@ -268,7 +268,7 @@ def hash_secret_raw(
     """The tag of hash_len bytes, with memory_cost in KiB and a thread for each lane.
 
     Raises:
-        HashingError: a number or a size is outside its range, or there is too little memory.
+        HashingError: a number or a size is out of range, or memory is short.
         TypeError: the secret or the salt isn't bytes.
     """
     secret, salt = _library.data_of(secret), _library.data_of(salt)
@@ -295,7 +295,7 @@ def hash_secret(
     type: Type,
     version: int = ARGON2_VERSION,
 ) -> bytes:
-    """The encoded hash, with the tag of hash_secret_raw, and its exceptions."""
+    """The encoded hash with the tag of hash_secret_raw; raises the same exceptions."""
     salt = _library.data_of(salt)
     costs = (time_cost, memory_cost, parallelism)
     tag = hash_secret_raw(secret, salt, *costs, hash_len, type, version)
@@ -305,11 +305,11 @@ def hash_secret(
 
 @hidden
 def verify_secret(hash: bytes, secret: bytes, type: Type) -> Literal[True]:
-    """True if the encoded hash is of this type and of the secret, with a thread for each lane.
+    """True if the encoded hash has this type and the secret is right; uses a thread for each lane.
 
     Raises:
-        VerifyMismatchError: the hash is of another secret.
-        VerificationError: the text is no hash of this type, or there is too little memory.
+        VerifyMismatchError: the hash belongs to another secret.
+        VerificationError: the text isn't a hash of this type, or memory is short.
     """
     hash, secret = _library.data_of(hash), _library.data_of(secret)
     if not hash.startswith(f"$argon2{type.name.lower()}$".encode()):
@@ -328,8 +328,8 @@ def verify_secret(hash: bytes, secret: bytes, type: Type) -> Literal[True]:
 
 
 def _verdict(hash: bytes, secret: bytes) -> int:
-    """The library's verdict, or ours for a salt of over 48 bytes or a tag of over 64, which it
-    refuses."""
+    """The library's verdict, or our own for a salt of over 48 bytes or a tag of over 64, which the
+    library refuses."""
     fault = _library.check(hash, secret, threads=_MOST_LANES)
     read = Encoded.read(hash) if fault in _OF_OURS else None
     if read is None:

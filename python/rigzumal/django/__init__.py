@@ -1,9 +1,9 @@
-"""Django's logins over the proved library, with an upgrade that undoes no change.
+"""Django's logins over the proved library, with upgrades that never undo a change.
 
-At a right login Django rehashes a record of old costs, by an UPDATE without a condition. A login
-that began before a change of the password then restores the old password. Here an UPDATE writes a
-record only if the row still has the record that the login was checked against. docs/DJANGO.md
-describes the settings.
+After a right login Django rehashes a record with old costs, by an UPDATE without a condition. If
+the password changed after that login began, the UPDATE restores the old password. In this package
+an UPDATE writes a record only if the row still has the record that the login checked.
+docs/DJANGO.md describes the settings.
 
     backends    CompareAndSetBackend
     users       a mixin for user models, and how a stock User gets it

@@ -1,8 +1,8 @@
-"""The admin of users, which undoes no change of a password.
+"""The admin of users, which never undoes a change of a password.
 
     admin.site.register(Person, UserAdmin)
 
-With RIGZUMAL_USER_COMPARES a stock User has this admin already, instead of Django's own.
+With RIGZUMAL_USER_COMPARES, a stock User already has this admin instead of Django's own.
 """
 
 # mypy: allow-subclassing-any
@@ -29,7 +29,8 @@ class UserAdmin(admin.UserAdmin):
     change_password_form = forms.AdminPasswordChangeForm
 
     def save_model(self, request: Any, obj: Any, form: Any, change: bool) -> None:
-        """Saves the user; writes the password only if the model compares or the form has set it."""
+        """Saves the user; writes the password only if the model compares or if the form has set
+        it."""
         compares = isinstance(obj, CompareAndSetMixin)
         if not change or compares or "password" in form.changed_data:
             super().save_model(request, obj, form, change)
@@ -39,14 +40,14 @@ class UserAdmin(admin.UserAdmin):
         obj.save(update_fields=names)
 
     def changeform_view(self, request: Any, *args: Any, **kwargs: Any) -> Any:
-        """The page of a user; it shows the form again if it couldn't write the password."""
+        """The page of a user; shows the form again if it couldn't write the password."""
         try:
             return super().changeform_view(request, *args, **kwargs)
         except RecordChanged:
             return self._again(request)
 
     def user_change_password(self, request: Any, id: str, form_url: str = "") -> Any:
-        """The page that sets a password; it shows the form again if the password was changed
+        """The page that sets a password; shows the form again if the password was changed
         meanwhile."""
         try:
             return super().user_change_password(request, id, form_url)

@@ -1,5 +1,5 @@
-"""The app: its checks for `manage.py check`, and, with
-RIGZUMAL_USER_COMPARES, a stock User that writes a record only over the one that it read."""
+"""The app: its checks for `manage.py check` and, with RIGZUMAL_USER_COMPARES, a stock User that
+replaces only the record that was read."""
 
 # mypy: allow-subclassing-any
 
@@ -27,7 +27,7 @@ class RigzumalConfig(AppConfig):
     has_started = False
 
     def ready(self) -> None:
-        """Django calls this after all models are loaded."""
+        """Django calls this method after it has loaded all models."""
         RigzumalConfig.has_started = True
         from django.contrib.auth import get_user_model
 
@@ -39,20 +39,21 @@ class RigzumalConfig(AppConfig):
 
 
 class AdminConfig(djangos.AdminConfig):
-    """`django.contrib.admin` with a site whose own change of the password compares."""
+    """`django.contrib.admin` with a site whose own page for changing the password compares."""
 
     default_site = "rigzumal.django.site.AdminSite"
     default = False
 
     def ready(self) -> None:
-        """Django calls this after all models are loaded."""
+        """Django calls this method after it has loaded all models."""
         if not apps.is_installed(RigzumalConfig.name):
             raise ImproperlyConfigured(_MISSING)
         super().ready()
 
 
 def require_app() -> None:
-    """Refuses a project with users if its INSTALLED_APPS lacks the app, and so the app's checks.
+    """Refuses a project with users whose INSTALLED_APPS lacks the app, and therefore the app's
+    checks.
 
     Raises:
         ImproperlyConfigured: the app is missing.

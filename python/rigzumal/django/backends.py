@@ -1,4 +1,4 @@
-"""A ModelBackend whose upgrade at a login compares before it writes.
+"""A ModelBackend that compares the record before it writes an upgrade at login.
 
     AUTHENTICATION_BACKENDS = ["rigzumal.django.backends.CompareAndSetBackend"]
 """
@@ -19,13 +19,13 @@ from rigzumal.django.apps import require_app
 
 
 class CompareAndSetBackend(ModelBackend):
-    """Django's ModelBackend, which undoes no change of a password.
+    """Django's ModelBackend, which never undoes a change of a password.
 
-    - At a right login it rehashes a record of old costs, by an UPDATE that compares the row's
-      record; if the record has changed, it checks the password against the new one.
-    - It reads the user from the database that it writes to, so a replica may lag.
-    - An unknown name and an inactive user cost one hash and two queries, like a wrong password; it
-      doesn't rehash an inactive user's record.
+    - After a right login the backend rehashes a record with old costs, by an UPDATE that compares
+      the row's record; if the record has changed, it checks the password against the new one.
+    - The backend reads the user from the database that it writes to, so a replica may lag.
+    - An unknown name or an inactive user costs one hash and two queries, like a wrong password; the
+      backend doesn't rehash an inactive user's record.
     """
 
     def __init__(self) -> None:

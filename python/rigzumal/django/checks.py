@@ -1,7 +1,7 @@
-"""The checks of `manage.py check`: they report wrong settings, and unprotected ways to write
+"""The checks of `manage.py check`: they report wrong settings, and unprotected ways of writing
 passwords.
 
-`manage.py check --database default`, and `migrate`, look at the records too.
+`manage.py check --database default`, and `migrate`, also examine the records.
 """
 
 from __future__ import annotations
@@ -68,10 +68,10 @@ def _password_field() -> Optional[Any]:
 
 
 def _classes(setting: str, number: str) -> tuple[list[tuple[str, type]], list[Any]]:
-    """The classes in a setting's list, with their paths, and the list's faults."""
+    """The classes in a setting's list with their paths, and the faults of the list."""
     listed = getattr(settings, setting)
     if isinstance(listed, str):
-        text = f"{setting} is a text instead of a list."
+        text = f"{setting} is a string instead of a list."
         return [], [_message(number, text, f"Put {listed!r} into a list.")]
     found: list[tuple[str, type]] = []
     faults = []
@@ -88,20 +88,20 @@ def _classes(setting: str, number: str) -> tuple[list[tuple[str, type]], list[An
             found.append((path, named))
         else:
             hint = "Name a class by its whole path."
-            faults.append(_message(number, f"{text} is no class.", hint))
+            faults.append(_message(number, f"{text} isn't a class.", hint))
     return found, faults
 
 
 def _misspelt(setting: str) -> str:
-    """A hint at a setting that has nearly this name."""
+    """A hint about a setting that has a similar name."""
     others = set(dir(settings)) - {setting}
     near = difflib.get_close_matches(setting, others, 1, 0.9)
     return f" The settings have {near[0]}: is {setting} meant?" if near else ""
 
 
 def backends(**_: Any) -> Messages:
-    """W001: the backend isn't used. W002: a backend that doesn't compare is used too. E012: a
-    backend can't be imported. W014: the model compares, under Django's own backend.
+    """W001: no backend compares. W002: an additional backend doesn't compare. E012: a backend can't
+    be imported. W014: the model compares, but under Django's own backend.
 
     A model's check_password compares under any backend that calls it.
     """
@@ -114,7 +114,7 @@ def backends(**_: Any) -> Messages:
     if _compares():
         if ModelBackend in found and not is_used:
             text = (
-                "The only ModelBackend is Django's own: a login that loses to changes answers"
+                "The only ModelBackend is Django's own: a login that meets changes answers"
                 " with an error page, and an inactive user's right password is rehashed."
             )
             yield _message("W014", text, hint)
@@ -135,16 +135,15 @@ def column(**_: Any) -> Messages:
     field = _password_field()
     width: Optional[int] = field.max_length if field else None
     if width is not None and width < WIDTH:
-        text = f"The password column has {width} letters, and a record up to {WIDTH}."
+        text = f"The password column has {width} characters, but a record up to {WIDTH}."
         yield _message("E003", text, f"Give it max_length={WIDTH}.")
 
 
 def hashers_listed(**_: Any) -> Messages:
-    """E015: one of PASSWORD_HASHERS can't be imported, or none is listed.
-    W004: another library hashes new records.
-    E013: another hasher has the name of ours, and judges its records.
+    """E015: one of PASSWORD_HASHERS can't be imported, or none is listed. W004: another library
+    hashes new records. E013: another hasher has the name of ours, and checks its records.
 
-    If two hashers have one algorithm, Django asks the later.
+    If two hashers have the same algorithm, Django uses the later one.
     """
     listed, faults = _classes("PASSWORD_HASHERS", "E015")
     yield from faults
@@ -152,23 +151,23 @@ def hashers_listed(**_: Any) -> Messages:
         maker = "The first of PASSWORD_HASHERS, which hashes new passwords,"
         hint = "Put 'rigzumal.django.hashers.Argon2PasswordHasher' before the others."
         hint += _misspelt("PASSWORD_HASHERS")
-        yield _message("W004", f"{maker} isn't Rigzumal's.", hint)
+        yield _message("W004", f"{maker} isn't from Rigzumal.", hint)
     judges = {getattr(it, "algorithm", None): it for _, it in listed}
     for path, ours in listed:
         judge = judges[getattr(ours, "algorithm", None)]
         if issubclass(ours, OURS) and not issubclass(judge, OURS):
-            text = f"{_path(judge)} comes after {path}, so Django asks it instead."
+            text = f"{_path(judge)} comes after {path}, so Django uses it instead."
             hint = f"Remove {_path(judge)}: Rigzumal's reads its records."
             yield _message("E013", text, hint)
 
 
 def isolation(**_: Any) -> Messages:
-    """W005: a transaction would read the record of the transaction's start."""
-    hint = "Leave the level out, or set READ COMMITTED."
+    """W005: a transaction would read the record as it was at the transaction's start."""
+    hint = "Remove the level, or set READ COMMITTED."
     for alias, database in settings.DATABASES.items():
         if _has_snapshots(database):
             text = f"The database {alias!r} has an isolation level of snapshots"
-            outcome = "in a transaction an old password is right, or the request fails"
+            outcome = "a transaction accepts an old password, or the request fails"
             yield _message("W005", f"{text}: {outcome}.", hint)
 
 
@@ -192,9 +191,9 @@ def _has_snapshots(database: Any) -> bool:
 
 def own_methods(**_: Any) -> Messages:
     """E006: our calls would skip a method of the user model."""
-    hint = "Give the model the CompareAndSetMixin, behind the class that has it."
+    hint = "Give the model the CompareAndSetMixin, after the class that has the method."
     for name in users.unreached_methods(get_user_model()):
-        text = f"{name} would be skipped, so logins are refused."
+        text = f"Logins are refused, since they would skip {name}."
         yield _message("E006", text, hint)
 
 
@@ -213,7 +212,7 @@ def _outcome() -> str:
 
 
 def admin_sites(**_: Any) -> Messages:
-    """W008: an admin's page of users, or of one's own password, is Django's."""
+    """W008: an admin page for users, or for one's own password, is Django's."""
     if not apps.is_installed("django.contrib.admin"):
         return
     from django.contrib.admin.sites import all_sites
@@ -236,7 +235,7 @@ def admin_sites(**_: Any) -> Messages:
 
 
 def url_views(**_: Any) -> Messages:
-    """W009: a URL leads to Django's own view of a change or of a reset."""
+    """W009: a URL leads to Django's own view for a change or a reset."""
     if not getattr(settings, "ROOT_URLCONF", None):
         return
     hint = "Include 'rigzumal.django.urls', or use the views of rigzumal.django.views."
@@ -263,17 +262,17 @@ def command(**_: Any) -> Messages:
     """W010: `manage.py changepassword` is Django's."""
     if get_commands().get("changepassword") == "django.contrib.auth":
         outcome = "a traceback" if _compares() else "undone"
-        text = "changepassword is Django's own: a change that came meanwhile is"
+        text = "changepassword is Django's own: a simultaneous change is"
         hint = "Put 'rigzumal.django' before 'django.contrib.auth' in INSTALLED_APPS."
         yield _message("W010", f"{text} {outcome}.", hint)
 
 
 def unlisted_hashers(databases: Any = None, **_: Any) -> Messages:
-    """W011: the table has records whose hasher isn't listed: their users can't log in."""
+    """W011: the table has records without a listed hasher: their users can't log in."""
     field = _password_field()
     if field is None or _classes("PASSWORD_HASHERS", "E015")[1]:
         return
-    hint = "List the hashers that you had before, behind Rigzumal's."
+    hint = "List your earlier hashers after Rigzumal's."
     for alias in databases or []:
         if not router.allow_migrate_model(alias, field.model):
             continue

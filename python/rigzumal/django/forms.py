@@ -1,7 +1,7 @@
-"""Django's forms of a change, of a reset and of the admin, which compare before they write.
+"""Django's forms for changes, resets and the admin, which compare before they write.
 
 `save` raises a ValidationError if the record was changed after the form was validated. Our views
-show the error; your own view shows it by `show(form, error)`. `commit=False` is a ValueError.
+show the error; your own view can show it with `show(form, error)`. `commit=False` is a ValueError.
 """
 
 # mypy: allow-subclassing-any
@@ -19,12 +19,12 @@ from django.utils.translation import gettext_lazy as _
 from rigzumal._hidden import hidden_below
 from rigzumal.django import passwords
 
-CHANGED = _("The password was changed meanwhile. Nothing was done; please begin again.")
+CHANGED = _("The password was changed meanwhile. Nothing was saved; please begin again.")
 
 
 @contextlib.contextmanager
 def lost_as_error() -> Iterator[None]:
-    """Turns RecordChanged into a ValidationError, for a `with`."""
+    """Turns RecordChanged into a ValidationError in a `with` block."""
     try:
         yield
     except passwords.RecordChanged:
@@ -32,12 +32,12 @@ def lost_as_error() -> Iterator[None]:
 
 
 def show(form: Any, error: ValidationError) -> None:
-    """Adds the error to the form's first field, since the admin's pages show no other error."""
+    """Adds the error to the form's first field, since the admin pages show no other errors."""
     form.add_error(next(iter(form.fields)), error)
 
 
 class _Comparing:
-    """A form that hides its frames from reports of errors, since they have passwords."""
+    """A form that hides its frames from error reports, since they contain passwords."""
 
     @hidden_below
     def full_clean(self) -> None:
@@ -48,7 +48,7 @@ class _Comparing:
     def save(self: Any, commit: bool = True) -> Any:
         """Writes the new password, unless the record was changed meanwhile."""
         if not commit:
-            fault = "a record is compared as it is written"
+            fault = "the comparison writes the record"
             raise ValueError(f"{fault}: commit=False is impossible")
         with lost_as_error():
             self._write()
@@ -56,7 +56,7 @@ class _Comparing:
 
 
 class PasswordChangeForm(_Comparing, forms.PasswordChangeForm):
-    """Changes the password of a user who types the old one."""
+    """Changes the password of a user who enters the old one."""
 
     _judged: Optional[str] = None
 
@@ -80,7 +80,7 @@ class PasswordChangeForm(_Comparing, forms.PasswordChangeForm):
 
 
 class SetPasswordForm(_Comparing, forms.SetPasswordForm):
-    """Sets the password of a user who followed a link; the link ends with the record."""
+    """Sets the password of a user who followed a link; the link becomes invalid with the record."""
 
     def _write(self) -> None:
         passwords.set_password(self.user, self.cleaned_data["new_password1"])

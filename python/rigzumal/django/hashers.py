@@ -1,8 +1,8 @@
 """Password hashers for Django's own strings, over the proved library.
 
-They read and write the strings of Django's own hashers of the same names. The costs are class
-attributes, as in Django's hashers: write a subclass for other costs. A subclass may wrap old hashes
-as Django's page "Password management" shows, and needs only its own `algorithm` and `encode`.
+The hashers read and write the strings of Django's own hashers with the same names. The costs are
+class attributes, as in Django's hashers: write a subclass for other costs. A subclass may wrap old
+hashes as Django's page "Password management" shows; it only needs its own `algorithm` and `encode`.
 """
 
 # mypy: allow-subclassing-any
@@ -37,12 +37,13 @@ _NUMBER = r"[1-9]\d{0,9}"
 
 
 def _tag(record: str) -> bytes:
-    """The tag at a record's end; scrypt's is padded."""
+    """The tag at the end of a record; scrypt's tag is padded."""
     return decoded(record.rpartition("$")[2].rstrip("="))
 
 
 class _RecordHasher(BasePasswordHasher):
-    """The common part of both hashers: it reads, compares and shows strings, and finds old ones."""
+    """The common part of both hashers: it reads, compares and shows strings, and detects old
+    ones."""
 
     _scheme: str
     _form: re.Pattern[str]  # of a record behind its algorithm
@@ -52,8 +53,8 @@ class _RecordHasher(BasePasswordHasher):
         require_app()
 
     def decode(self, encoded: str) -> dict[str, Any]:
-        """The parts of a record. For a text that is no such record it raises a ValueError that
-        doesn't show the text."""
+        """The parts of a record. For any other text it raises a ValueError that doesn't show the
+        text."""
         name, _, rest = encoded.partition("$")
         found = self._form.fullmatch(rest)
         if name != self.algorithm or not found:
@@ -70,10 +71,10 @@ class _RecordHasher(BasePasswordHasher):
 
     @hidden_below
     def verify(self, password: Password, encoded: str) -> bool:
-        """Whether the password is the record's; OutOfMemoryError if memory runs out.
+        """Whether the password is right for the record; raises OutOfMemoryError if memory runs out.
 
-        For a broken record, or numbers that the library refuses, every password is wrong,
-        and costs a hash like any other.
+        For a damaged record, or for numbers that the library refuses, every password is wrong, and
+        costs a hash like any other.
         """
         try:
             parts = self.decode(encoded)
@@ -85,7 +86,7 @@ class _RecordHasher(BasePasswordHasher):
         return hmac.compare_digest(made, _tag(parts["hash"]))
 
     def safe_summary(self, encoded: str) -> dict[str, Any]:
-        """The parts of a record that may be shown; the fault of a broken record."""
+        """The parts of a record that may be shown, or the fault of a damaged record."""
         try:
             parts = self.decode(encoded)
         except ValueError as fault:
@@ -96,7 +97,7 @@ class _RecordHasher(BasePasswordHasher):
         return {name.replace("_", " "): value for name, value in parts.items()}
 
     def must_update(self, encoded: str) -> bool:
-        """Whether the record's numbers differ from a new one's."""
+        """Whether the record's numbers differ from those of a new one."""
         try:
             return self._is_old(self.decode(encoded))
         except ValueError:
@@ -111,17 +112,18 @@ class _RecordHasher(BasePasswordHasher):
 
 def _check_salt(salt: str) -> None:
     if not salt or "$" in salt:
-        raise ValueError("a salt has at least one letter, and no $")
+        raise ValueError("a salt has at least one character, and no $")
 
 
 class Argon2PasswordHasher(_RecordHasher):
-    """The hasher of strings argon2$argon2id$v=19$m=102400,t=2,p=8$SALT$TAG: a word, and a record.
+    """The hasher of strings argon2$argon2id$v=19$m=102400,t=2,p=8$SALT$TAG: a word, followed by a
+    record.
 
     Attributes:
         time_cost: passes.
-        memory_cost: in KiB, 8 a lane to 2097152.
+        memory_cost: in KiB, from 8 for each lane to 2097152.
         parallelism: lanes, 1 to 255; a login computes all of them on its own thread.
-        hash_len: bytes of the tag; an existing record may have fewer, down to 16.
+        hash_len: the size of the tag in bytes; an existing record may have fewer, down to 16.
     """
 
     algorithm = "argon2"
@@ -150,8 +152,8 @@ class Argon2PasswordHasher(_RecordHasher):
         return "$".join((self.algorithm, "argon2id", "v=19", costs, *letters))
 
     def decode(self, encoded: str) -> dict[str, Any]:
-        """The parts of a record. For a text that is no such record it raises a ValueError that
-        doesn't show the text."""
+        """The parts of a record. For any other text it raises a ValueError that doesn't show the
+        text."""
         parts = super().decode(encoded)
         parts["version"] = int(parts["version"] or 16)
         parts["salt"] = decoded(parts["salt"]).decode("latin1")

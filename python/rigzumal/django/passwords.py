@@ -1,12 +1,12 @@
-"""The operations on a user's password, each of which compares before it writes.
+"""The operations on a user's password; each one compares before it writes.
 
-They call a model's own `check_password` and `set_password`, if it has the mixin of
-`rigzumal.django.users`; another model with such methods is refused.
+They call a model's own `check_password` and `set_password` if the model has the mixin of
+`rigzumal.django.users`, and refuse any other model with such methods.
 
-Each may raise:
+Each operation may raise:
     ValueError: the user isn't saved.
-    RecordChanged: the row's record has changed since the user was read, and stays as it is; for the
-        first three, it changed eight times.
+    RecordChanged: the row's record has changed since the user was read, and stays unchanged;
+        for the first three, it changed eight times.
     ImproperlyConfigured: the model has a method that these calls would skip.
 """
 
@@ -27,8 +27,8 @@ from rigzumal.django.records import RecordChanged as RecordChanged
 def check_password(user: Any, password: Any) -> bool:
     """Whether the password is the user's, like `user.check_password`.
 
-    The call replaces a record of old costs, or of another of PASSWORD_HASHERS, if the row still has
-    it. After a right password `user.password` is the record that it was checked against.
+    The call replaces a record with old costs, or from another of PASSWORD_HASHERS, if the row still
+    has that record. After a right password `user.password` is the record that was checked.
     """
     if users.has_own_methods(user):
         return bool(user.check_password(password))
@@ -45,12 +45,12 @@ def verify_password(user: Any, password: Any) -> bool:
 
 @hidden_below
 def change_password(user: Any, old_password: Any, new_password: Any) -> bool:
-    """Writes the new password if the old one is right; False if it is wrong.
+    """Writes the new password if the old one is right; returns False if it is wrong.
 
-    The old password is checked against the record that the new one replaces, so a reset that came
-    meanwhile stays. The call runs no validator, but calls the validators' `password_changed`. It
-    writes one column and sends no signal. But it saves all fields of a model with its own
-    `set_password`.
+    The call checks the old password against the record that the new one replaces, so a simultaneous
+    reset stays. The call runs no validators, but calls their `password_changed`. The call writes
+    one column and sends no signal. If a model has its own `set_password`, however, the call saves
+    all of its fields.
     """
     return change_judged(user, old_password, new_password, None)
 
@@ -71,11 +71,11 @@ def change_judged(user: Any, old_password: Any, new_password: Any, judged: Optio
 
 @hidden_below
 def set_password(user: Any, new_password: Any) -> None:
-    """Writes a new password over the record that the user was read with.
+    """Writes a new password over the record that was read with the user.
 
-    Use it for a reset: the token was checked with that record, so a newer record stays, and a
-    deleted user stays deleted. With None as the new password every password is wrong. Columns,
-    signals and validators are as in `change_password`.
+    Use this call for a reset: the token was checked with that record, so a newer record stays, and
+    a deleted user stays deleted. If the new password is None, every password is wrong afterwards.
+    The columns, signals and validators are as in `change_password`.
     """
     if users.has_own_methods(user):
         _set_by_methods(user, new_password)
@@ -94,7 +94,7 @@ aset_password = records.awaited(set_password)
 
 
 def _copy_of(user: Any, database: str) -> Copy:
-    """The record that the user was read with, also after a rollback."""
+    """The record that was read with the user, even after a rollback."""
     copy = records.known_copy(user, database)
     compares = isinstance(user, users.CompareAndSetMixin)
     if copy is None or not (compares or copy.newest == user.password):

@@ -1,13 +1,14 @@
-"""A user's record: its row, the known copies of it, and its comparing replacement.
+"""A user's record: its row, the known copies, and its comparing replacement.
 
-`user.password` is the copy: the record as it was when the user was read. An operation checks the
+`user.password` is the copy: the record at the time when the user was read. An operation checks the
 password and hashes without a lock, and an UPDATE writes the new record if the row still has the
-copy. Otherwise the operation checks the password against the row's record. So the answer is that of
-the row's record, and no slower operation undoes a change.
+copy. Otherwise the operation checks the password against the row's record. The answer is therefore
+that of the row's record, and no slower operation undoes a change.
 
-In the caller's transaction (`ATOMIC_REQUESTS`) a change counts once the transaction is committed.
-On PostgreSQL, MySQL and MariaDB its isolation must be READ COMMITTED, Django's default. On SQLite a
-transaction that has read fails ("database is locked") if another process writes first.
+In the caller's transaction (`ATOMIC_REQUESTS`) a change counts when the transaction is committed.
+On PostgreSQL, MySQL and MariaDB, the transaction's isolation must be READ COMMITTED, Django's
+default. On SQLite a transaction that has read fails ("database is locked") if another process
+writes first.
 """
 
 from __future__ import annotations
@@ -29,13 +30,13 @@ TRIES = 8
 
 
 class RecordChanged(Exception):
-    """The row's record has changed since the user was read, and stays as it is.
+    """The row's record has changed since the user was read, and remains unchanged.
 
-    To go on, read the user again (`refresh_from_db`) and check the password again.
+    To continue, read the user again (`refresh_from_db`) and check the password again.
     """
 
     def __str__(self) -> str:
-        return "the password was changed since the user was read; nothing was done"
+        return "the password was changed since the user was read; nothing was saved"
 
 
 def database_of(user: Any) -> str:
@@ -45,10 +46,10 @@ def database_of(user: Any) -> str:
 
 
 class Copy:
-    """The record that a user was read with, or that was written since.
+    """The record that was read with a user, or that was written since then.
 
-    `records` ends with the newest one. Until the transaction of that write is committed, `records`
-    keeps the older ones too: after a rollback the row has one of them.
+    The last element of `records` is the newest record. Until the transaction of that write is
+    committed, `records` also keeps the older ones: after a rollback the row has one of them.
     """
 
     def __init__(self, *records: str) -> None:
@@ -56,20 +57,20 @@ class Copy:
 
     @property
     def newest(self) -> str:
-        """The row's record, unless a rollback or another process changed it."""
+        """The row's record, unless a rollback or another process has changed it."""
         return self.records[-1]
 
     def settle(self) -> None:
-        """Django calls this at the commit."""
+        """Django calls this method at the commit."""
         self.records = self.records[-1:]
 
     def is_in_doubt(self, database: str) -> bool:
-        """Whether a rollback may have undone the write: no on_commit callback waits."""
+        """Whether a rollback may have undone the write: no on_commit callback is waiting."""
         waiting = [entry[1] for entry in connections[database].run_on_commit]
         return len(self.records) > 1 and self.settle not in waiting
 
     def followed_by(self, record: str, database: str) -> Copy:
-        """The copy of a record that was written over this one's."""
+        """The copy for a record that was written over this one's."""
         if not connections[database].in_atomic_block:
             return Copy(record)
         copy = Copy(*self.records, record)
@@ -84,7 +85,7 @@ class Copy:
 
 
 def note_read(user: Any, database: str, record: str) -> None:
-    """Stores the record that a user was read with, in place of older ones."""
+    """Stores the record that was read with a user, instead of older ones."""
     user._record_copies = {database: Copy(record)}
 
 
@@ -94,9 +95,9 @@ def note_put(user: Any, database: str, copy: Copy) -> None:
 
 
 def known_copy(user: Any, database: str) -> Optional[Copy]:
-    """The user's record in a database; None if it wasn't read or written there.
+    """The user's record in a database; None if it was neither read nor written there.
 
-    For a write the record may come from another database: a replica.
+    For a write, the record may come from another database: a replica.
     """
     copies: dict[str, Copy] = getattr(user, "_record_copies", {})
     if copies and database not in copies and database == database_of(user):
@@ -105,7 +106,7 @@ def known_copy(user: Any, database: str) -> Optional[Copy]:
 
 
 class Row:
-    """The row of a user's record, in the database that is written."""
+    """The row of a user's record, in the database to which it is written."""
 
     def __init__(self, user: Any) -> None:
         if user.pk is None:
@@ -118,12 +119,13 @@ class Row:
         )
 
     def look(self) -> Optional[str]:
-        """The row's record, or None if the user is gone."""
+        """The row's record, or None if the user was deleted."""
         found: Optional[str] = self._rows.values_list("password", flat=True).first()
         return found
 
     def put(self, over: Sequence[str], record: str) -> bool:
-        """Writes the record if the row has one of the known ones; then sets it in the user too."""
+        """Writes the record if the row has one of the known records, and then sets it in the user
+        too."""
         if self._rows.filter(password__in=over).update(password=record) == 0:
             return False
         copy = known_copy(self.user, self.database)
@@ -134,7 +136,7 @@ class Row:
         return True
 
     def found(self, record: str) -> None:
-        """Sets the user's record to the row's."""
+        """Sets the user's record to that of the row."""
         self.user.password = record
         copy = known_copy(self.user, self.database)
         if copy is None or copy.newest != record:
@@ -142,8 +144,8 @@ class Row:
 
 
 def _at_what_stands(user: Any, judge: Callable[[str], tuple[bool, str]]) -> bool:
-    """Checks the password against the copy, and writes the new record; begins again if the row has
-    another record."""
+    """Checks the password against the copy, and writes the new record; starts again if the row has
+    a different record."""
     row, copy = Row(user), user.password
     for _ in range(TRIES):
         right, after = judge(copy)
@@ -166,7 +168,7 @@ def judge_alone(user: Any, password: Any) -> bool:
 
 
 def judge_login(user: Any, password: Any) -> bool:
-    """Whether the password is right; rehashes a record of old costs."""
+    """Whether the password is right; rehashes a record with old costs."""
 
     def judge(copy: str) -> tuple[bool, str]:
         after = [copy]
@@ -183,7 +185,7 @@ def judge_login(user: Any, password: Any) -> bool:
 def judge_change(
     user: Any, old_password: Any, new_password: Any, judged: Optional[str] = None
 ) -> bool:
-    """Changes the password if the old one is right; at the record `judged` it is."""
+    """Changes the password if the old one is right, which it is for the record `judged`."""
 
     def judge(copy: str) -> tuple[bool, str]:
         right = copy == judged or hashers.check_password(old_password, copy)
@@ -195,8 +197,8 @@ def judge_change(
 def awaited(function: Callable[..., T]) -> Callable[..., Awaitable[T]]:
     """Runs a function in a thread, for `await`.
 
-    An error report shows the waiting frames, so none of them has a password: the work has no
-    argument, and no coroutine runs it.
+    An error report shows the waiting frames, so none of them contains a password: the work has no
+    arguments, and no coroutine runs it.
     """
     concealed = hidden_below(function)
 

@@ -1,4 +1,4 @@
-"""The admin's site, whose own page for a change of the password compares.
+"""The admin site, whose own page for changing the password compares.
 
     INSTALLED_APPS = ["rigzumal.django.apps.AdminConfig", ...]   # for django.contrib.admin
 """

@@ -1,4 +1,4 @@
-"""The URLs of `django.contrib.auth.urls`, by their names, with the views that compare.
+"""The URLs of `django.contrib.auth.urls`, with the same names and with the views that compare.
 
     path("accounts/", include("rigzumal.django.urls"))
 """

@@ -1,4 +1,4 @@
-"""A mixin for user models, whose own methods compare before they write.
+"""A mixin for user models: the models' own methods compare before they write.
 
     class User(CompareAndSetMixin, AbstractUser):
         pass
@@ -25,16 +25,16 @@ from rigzumal.django.records import RecordChanged
 
 
 class CompareAndSetMixin(models.Model):
-    """Put this in front of AbstractBaseUser or AbstractUser among a model's bases.
+    """Put this mixin before AbstractBaseUser or AbstractUser among a model's bases.
 
-    - `check_password` replaces a record of old costs only if the row still has it.
-    - `save` writes the password only if it was set since the user was read, and then
-      only over the record that was read; otherwise it raises RecordChanged and writes
-      no field. So saving other fields never restores an old password.
+    - `check_password` replaces a record with old costs only if the row still has that record.
+    - `save` writes the password only if your code has set it since the user was read, and only over
+      the record that was read; otherwise it raises RecordChanged and writes no field. Saving other
+      fields therefore never restores an old password.
 
-    All else is as in Model. Put your own methods that check or set passwords in front of the mixin,
-    and let them call `super()`. These ways to write don't compare: `update`, `bulk_create`,
-    `bulk_update`, fixtures, and a save to another database than the router's.
+    Everything else is as in Model. Put your own methods that check or set passwords in a class
+    before the mixin, and let them call `super()`. These ways of writing don't compare: `update`,
+    `bulk_create`, `bulk_update`, fixtures, and a save to a database other than the router's.
 
     The mixin is an abstract model without fields, so no migration names it.
     """
@@ -46,7 +46,7 @@ class CompareAndSetMixin(models.Model):
 
     @classmethod
     def from_db(cls, db: Any, field_names: Any, values: Any, **more: Any) -> Any:
-        """Called by Django for each row that is read."""
+        """Django calls this method for each row that it reads."""
         user = super().from_db(db, field_names, values, **more)
         user._note_read()
         return user
@@ -82,12 +82,12 @@ class CompareAndSetMixin(models.Model):
 
     @hidden_below
     def set_password(self, raw_password: Any) -> None:
-        """Sets the password, like AbstractBaseUser's method; `save` writes it."""
+        """Sets the password, like the method of AbstractBaseUser; `save` writes it."""
         _ = self.password  # Reads a deferred password, so that the save compares it.
         super().set_password(raw_password)
 
     def set_unusable_password(self) -> None:
-        """Sets an unusable record, under which every password is wrong; `save` writes it."""
+        """Sets an unusable record, for which every password is wrong; `save` writes it."""
         _ = self.password
         super().set_unusable_password()
 
@@ -103,7 +103,7 @@ class CompareAndSetMixin(models.Model):
 
         Raises:
             RecordChanged: the password was set, and the row's record has changed. The
-                caller's transaction can go on.
+                caller's transaction can continue.
         """
         if update_fields is not None:
             update_fields = frozenset(update_fields)
@@ -175,7 +175,7 @@ del CompareAndSetMixin.Meta
 
 
 def make_comparing(model: Any) -> None:
-    """Puts the mixin in front of a model's bases, as if its source had it there.
+    """Puts the mixin before a model's bases, as if the model's source had it there.
 
     If RIGZUMAL_USER_COMPARES is True, the app calls this for the user model.
     """
@@ -185,7 +185,7 @@ def make_comparing(model: Any) -> None:
 
 @contextlib.contextmanager
 def comparing(model: Any) -> Iterator[None]:
-    """`make_comparing` for the time of a `with`."""
+    """Applies `make_comparing` for the duration of a `with` block."""
     bases = model.__bases__
     make_comparing(model)
     try:
@@ -195,7 +195,7 @@ def comparing(model: Any) -> Iterator[None]:
 
 
 def own_methods(classes: Any, *names: str) -> list[str]:
-    """The methods with these names that are neither Django's nor the mixin's."""
+    """The methods with these names that belong neither to Django nor to the mixin."""
     known = (AbstractBaseUser, CompareAndSetMixin)
     having = [(of, name) for name in names for of in classes if name in vars(of)]
     return [f"{of.__qualname__}.{name}" for of, name in having if of not in known]
@@ -211,12 +211,12 @@ def unreached_methods(model: Any) -> list[str]:
 
 
 def has_own_methods(user: Any) -> bool:
-    """Whether the user's model has such methods; raises ImproperlyConfigured if one is
-    unreached."""
+    """Whether the user's model has such methods; raises ImproperlyConfigured if one can't be
+    reached."""
     unreached = unreached_methods(user.__class__)
     if unreached:
         raise ImproperlyConfigured(
             f"our calls would skip {unreached[0]}: give {user._meta.label} the"
-            " CompareAndSetMixin, behind the class that has it"
+            " CompareAndSetMixin, after the class that has the method"
         )
     return bool(own_methods(user.__class__.__mro__, "check_password", "set_password"))

@@ -1,4 +1,4 @@
-"""Django's views of a change and of a reset, with the forms that compare."""
+"""Django's views for changes and resets, with the forms that compare."""
 
 # mypy: allow-subclassing-any
 
@@ -16,7 +16,7 @@ class _ShowsWhyNot:
     """Shows an exception of `form_valid` as an error of the form."""
 
     def form_valid(self, form: Any) -> Any:
-        """Writes the password, or shows the reason why it didn't."""
+        """Writes the password, or shows why it couldn't be written."""
         try:
             with forms.lost_as_error():
                 return super().form_valid(form)  # type: ignore[misc]

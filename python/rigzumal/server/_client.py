@@ -25,7 +25,8 @@ Listed = TypeVar("Listed")
 class Reply(enum.Enum):
     """The book's answer to an operation.
 
-    A reply has no truth value, since NO would be true too: compare it, as in `reply is Reply.YES`.
+    A reply has no truth value, since NO would count as true: compare it, as in
+    `reply is Reply.YES`.
     """
 
     # tools/protocol.py writes these lines
@@ -60,15 +61,15 @@ class Reply(enum.Enum):
 
 
 class ServerError(Exception):
-    """The base of the clients' own exceptions."""
+    """The base class of the clients' own exceptions."""
 
 
 class Unavailable(ServerError):
-    """No answer came in time: a requested change may be stored or not."""
+    """No answer arrived in time: a requested change may or may not be stored."""
 
 
 class Later(ServerError):
-    """Too many tries at this name failed, so this try came too early and had no effect."""
+    """Too many tries at this name failed, so this try was too early and had no effect."""
 
 
 class Denied(ServerError):
@@ -76,7 +77,7 @@ class Denied(ServerError):
 
 
 class Refused(ServerError):
-    """The line was refused, by a number and a word of docs/ERRORS.md, and changed nothing.
+    """The server refused the line, by a number and a word of docs/ERRORS.md; nothing changed.
 
     Attributes:
         number: the number of the refusal, such as 3.
@@ -93,8 +94,8 @@ class Question:
     """An operation, its names and passwords.
 
     Attributes:
-        no_name: the reply if no book can have the name; without it `Refused` is raised.
-        wrong: the reply if no record can have the first password; without it a ValueError.
+        no_name: the reply if no book allows the name; without it, the client raises `Refused`.
+        wrong: the reply if no record can have the first password; without it, a ValueError.
     """
 
     operation: str
@@ -104,7 +105,7 @@ class Question:
     wrong: Optional[Reply] = None
 
     def known_reply(self) -> Optional[Reply]:
-        """The reply, if the client can decide it without the server."""
+        """The reply, if the client can decide it without asking the server."""
         if self.no_name is not None and not all(map(may_be_name, self.names)):
             return self.no_name
         if self.wrong is not None and not may_be_password(self.passwords[0]):
@@ -116,8 +117,8 @@ class Question:
 
         Raises:
             TypeError: a password is neither bytes nor text.
-            ValueError: a password has over 256 bytes, or is text that has no UTF-8.
-            Refused: no book can have a name (3 name).
+            ValueError: a password has over 256 bytes, or UTF-8 can't encode it.
+            Refused: no book allows a name (3 name).
         """
         if not all(map(may_be_name, self.names)):
             raise Refused(3, "name")
@@ -132,7 +133,7 @@ class Question:
         """The reply in a received line.
 
         Raises:
-            ServerError: as in `answer_of`; also Unavailable for a text that is no reply.
+            ServerError: as in `answer_of`; also Unavailable for a text that isn't a reply.
         """
         try:
             return Reply(answer_of(tag, line))
@@ -145,7 +146,7 @@ class Question:
 
 
 def may_be_name(name: str) -> bool:
-    """Whether a name is one field of a line, and no longer than an address."""
+    """Whether a name is a single field of a line, and no longer than an address."""
     try:
         sent = name.encode()
     except UnicodeEncodeError:
@@ -165,16 +166,16 @@ def answer_of(tag: bytes, line: bytes) -> str:
     """The answer in a line with this tag.
 
     Raises:
-        ServerError: one of the classes above; also Unavailable for a line that is no answer.
+        ServerError: one of the classes above; also Unavailable for a line that isn't an answer.
     """
     found, _, said = line.partition(b" ")
     if found != tag or not line.endswith(b"\n") or not said[:-1].isascii():
-        raise Unavailable("the server's line isn't an answer")
+        raise Unavailable("the server sent an invalid answer")
     text = said[:-1].decode()
     if text == "unavailable":
         raise Unavailable("the book has ended")
     if text == "later":
-        raise Later("too many tries failed")
+        raise Later("too many failed tries")
     if text == "denied":
         raise Denied("the socket doesn't allow this operation")
     kind, _, rest = text.partition(" ")
@@ -194,10 +195,11 @@ class Calls(Generic[Replied, Listed]):
         raise NotImplementedError
 
     def verify(self, name: str, password: Secret) -> Replied:
-        """Whether the password is right: YES or NO; ABSENT if there is no record; NO_ACCOUNT.
+        """Whether the password is right: YES or NO; ABSENT if the account has no record;
+        NO_ACCOUNT.
 
-        EXPIRED: the password is right, and must be changed by `change` before a login. A name or a
-        password that no book can hold, such as a name with a space, gets NO.
+        EXPIRED: the password is right, but `change` must replace it before a login. A name or a
+        password that no book allows, such as a name with a space, gets NO.
         """
         no = Reply.NO
         return self._reply(Question("verify", (name,), (password,), no, no))
@@ -206,33 +208,33 @@ class Calls(Generic[Replied, Listed]):
         """Replaces the password: REPLACED; WRONG if the old one is wrong; ABSENT; NO_ACCOUNT.
 
         SHORT, also in `enrol` and `reset`: the new password has fewer characters than the server
-        requires. SAME: the password must be changed, but the new one equals the old one.
+        requires. SAME: the password must be changed, but the new one is the same as the old one.
 
         Raises:
-            ValueError: the new password has over 256 bytes, or is text with no UTF-8.
+            ValueError: the new password has over 256 bytes, or UTF-8 can't encode it.
         """
         both, replies = (password, new_password), (Reply.NO_ACCOUNT, Reply.WRONG)
         return self._reply(Question("change", (name,), both, *replies))
 
     def known(self, name: str) -> Replied:
-        """Whether a user may log in: YES; ABSENT without a record, or if locked; NO_ACCOUNT.
+        """Whether a user may log in: YES; ABSENT for no record or a lock; NO_ACCOUNT.
 
         EXPIRED: the password must be changed.
         """
         return self._reply(Question("known", (name,), no_name=Reply.NO_ACCOUNT))
 
     def account(self, name: str) -> Replied:
-        """Adds an account without a record: OK. Raises `Refused` (1 exists) for an existing
-        name."""
+        """Adds an account without a record: OK. Raises `Refused` (1 exists) if the name exists."""
         return self._reply(Question("account", (name,)))
 
     def enrol(self, name: str, password: Secret) -> Replied:
-        """Sets a first password: ENROLLED; EXISTS if there is a record or a lock; NO_ACCOUNT."""
+        """Sets a first password: ENROLLED; EXISTS if the account has a record or a lock;
+        NO_ACCOUNT."""
         return self._reply(Question("enrol", (name,), (password,)))
 
     def reset(self, name: str, new_password: Secret) -> Replied:
-        """Sets a password without the old one: REPLACED; ENROLLED if there was no record;
-        NO_ACCOUNT. A lock stays."""
+        """Sets a password without the old one: REPLACED; ENROLLED if the account had no record;
+        NO_ACCOUNT. A lock remains."""
         return self._reply(Question("reset", (name,), (new_password,)))
 
     def disable(self, name: str) -> Replied:
@@ -266,14 +268,14 @@ class Calls(Generic[Replied, Listed]):
 
 
 class Client(Calls[Reply, list[str]]):
-    """Asks a book through a socket of credkeep-server.
+    """Queries a book through a socket of credkeep-server.
 
-    Each call opens its own connection. So many threads may use a client at once, even after a fork,
-    and nothing has to close it.
+    Each call opens its own connection. Many threads may therefore use one client at the same time,
+    even after a fork, and nothing has to close it.
 
     Args:
         path: the path of the socket.
-        timeout: the longest time of a call, in seconds.
+        timeout: the time limit of a call, in seconds.
 
     Each call may raise `ServerError`, and an administrator's calls ValueError for a
     password of over 256 bytes.
@@ -292,7 +294,7 @@ class Client(Calls[Reply, list[str]]):
         return answer_of(b"1", self._line(asked)).split()[1:]
 
     def _line(self, asked: Question) -> bytes:
-        """The received line, or its beginning."""
+        """The received line, or the beginning of a longer one."""
         until = time.monotonic() + self._timeout
         sent, line = asked.line(b"1"), b""
         try:
@@ -311,7 +313,7 @@ class Client(Calls[Reply, list[str]]):
         return line
 
     def _connect(self, connection: socket.socket, until: float) -> None:
-        """Connects; if too many other clients wait for the server, it waits too."""
+        """Connects; waits if too many other clients are waiting for the server."""
         while True:
             try:
                 return connection.connect(self._path)

@@ -16,14 +16,14 @@ from rigzumal.server._client import Unavailable, answer_of
 
 
 class Client(Calls[Coroutine[Any, Any, Reply], Coroutine[Any, Any, "list[str]"]]):
-    """`rigzumal.server.Client` with coroutines, on one connection.
+    """`rigzumal.server.Client` with coroutines, over a single connection.
 
-    Many tasks of one event loop may call at once: answers find their calls by tags. After a
-    connection has ended the next call opens another.
+    Many tasks of one event loop may call at the same time: tags connect answers with calls. After a
+    connection has ended, the next call opens a new one.
 
     Args:
         path: the path of the socket.
-        timeout: the longest time of a call, in seconds.
+        timeout: the time limit of a call, in seconds.
     """
 
     def __init__(
@@ -43,7 +43,7 @@ class Client(Calls[Coroutine[Any, Any, Reply], Coroutine[Any, Any, "list[str]"]]
         await self.close()
 
     async def close(self) -> None:
-        """Ends the connection; waiting calls raise `Unavailable`."""
+        """Ends the connection; waiting calls then raise `Unavailable`."""
         if self._reading is not None:
             self._reading.cancel()
             await asyncio.gather(self._reading, return_exceptions=True)

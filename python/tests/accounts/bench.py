@@ -3,12 +3,11 @@
     python3 python/tests/accounts/bench.py [sqlite] [postgres] [mariadb] [galera] [--logins]
                                            [--seconds 10] [--turns 10] [--processes 1,4,8,16]
 
-Prints the tables of docs/SCALE.md in Markdown, in some half an hour for all engines, and with
---logins those of a login and a plain one alone, in some three minutes for three engines. The hashes
-cost next to nothing (64 KiB), so the figures show the database. Each process has a connection, and
-the table a thousand accounts. The rows of a table take turns, so that other work of the machine
-affects all of them. "change in a transaction" is a change on an engine that has no single statement
-for it.
+Prints the tables of docs/SCALE.md in Markdown, for all engines in some half an hour; with --logins,
+only those of a login and a plain one, for three engines in some three minutes. The hashes cost
+almost nothing (64 KiB), so the figures show the database. Each process has a connection, and the
+table a thousand accounts. The rows of a table take turns, so that other work of the machine affects
+all of them. "change in a transaction" is a change on an engine that has no single statement for it.
 """
 
 import argparse
@@ -122,7 +121,8 @@ def measured(url, row, processes, seconds):
 
 
 def table(engine, url, rows, counts, seconds, turns):
-    """The rows of an engine, with the share of a plain UPDATE's throughput that ours reach."""
+    """The rows of an engine, and the share of a plain UPDATE's throughput that our operations
+    reach."""
     print(f"\n| {engine} |", " | ".join(f"{it}" for it in counts), "|")
     print("|---|" + "---|" * len(counts))
     figures = collections.defaultdict(list)

@@ -1,4 +1,4 @@
-"""Alters parts of the accounts of a torture, whose histories must then be legal, or refused."""
+"""Breaks parts of the accounts in a torture, whose histories must then be legal, or refused."""
 
 import dataclasses
 import functools
@@ -19,7 +19,7 @@ def take_pool(accounts, pool):
 
 
 def uncompared(accounts):
-    """The UPDATE writes the record over any other."""
+    """The UPDATE overwrites any other record."""
     dialect = accounts._dialect
     mark = "%s::text" if isinstance(dialect, Postgres) else dialect.mark
     dialect.at_once = ""
@@ -91,9 +91,9 @@ class Left(BaseException):
 
 
 class Queue:
-    """A pool of one connection for a process, in each of the ways of writing one.
+    """A pool of one connection for a process, in each of the ways of writing a pool.
 
-    The connection is broken, so the rollback raises an exception in place of the first one.
+    The connection is broken, so the rollback raises an exception instead of the first one.
     """
 
     def __init__(self, connect):
@@ -126,7 +126,7 @@ OWN = ("whole", "parts")
 
 
 def queued(accounts):
-    """Answers of COMMITs are lost, and each process has a pool of another way."""
+    """COMMITs lose their answers, and each process has a different kind of pool."""
 
     async def acted(act, *given):
         try:
@@ -140,9 +140,9 @@ def queued(accounts):
 
 
 def lossy(accounts, pool=LeavesOpen):
-    """Three COMMITs in ten have no answer: not sent, done, or still to come.
+    """Three of ten COMMITs have no answer: not sent, done, or still on their way.
 
-    No COMMIT is still to come at a pool that rolls back: there the connection breaks.
+    No COMMIT remains on its way in a pool that rolls back: there the connection breaks.
     """
     connect = accounts._connections.primary._connect
     if isinstance(accounts._dialect, Sqlite):
@@ -155,7 +155,7 @@ def lossy(accounts, pool=LeavesOpen):
 
 
 def losing(dialect, breaks, may_be_late=False):
-    """Lets COMMITs lose their answers at times."""
+    """Lets some COMMITs lose their answers."""
 
     def late(commit, session, *given):
         time.sleep(random.uniform(0, 0.1))
@@ -209,7 +209,7 @@ def queued_tasks(accounts):
 
 
 def resent(accounts):
-    """COMMITs are lost, and the lost operations run again from their beginning."""
+    """COMMITs get lost, and the lost operations run again from their beginning."""
     lossy(accounts)
 
     async def again(worked, also):
@@ -219,7 +219,7 @@ def resent(accounts):
 
 
 def resent_at_none(accounts):
-    """An enrolment whose COMMIT was lost is sent again if the account has no record."""
+    """Sends an enrolment whose COMMIT was lost again if the account has no record."""
     lossy(accounts)
     settled = accounts._settled
 

@@ -1,4 +1,4 @@
-"""A small disk in memory, which only root mounts, and which is full at times."""
+"""A small disk in memory, which only root can mount, and which is sometimes full."""
 
 import contextlib
 import os
@@ -10,7 +10,7 @@ from tests.helpers import need_root
 
 
 def small_disk(case, size):
-    """The folder of a disk of this size for a test, as tmpfs has it: "120k"."""
+    """The folder of a disk of this size for a test, in the form of tmpfs: "120k"."""
     need_root()
     folder = case.enterContext(tempfile.TemporaryDirectory(prefix="rigzumal-full-"))
     mounting = ["mount", "-t", "tmpfs", "-o", f"size={size}", "tmpfs", folder]
@@ -22,7 +22,7 @@ def small_disk(case, size):
 
 @contextlib.contextmanager
 def full(folder):
-    """Fills the disk for the time of a `with`."""
+    """Fills the disk during a `with` block."""
     path = os.path.join(folder, "filling")
     with open(path, "wb", buffering=0) as filling, contextlib.suppress(OSError):
         while True:

@@ -48,7 +48,7 @@ class OnSqlite:
     begins_late = True
 
     def patient(self):
-        """A connection that waits for others for as long as a test may take."""
+        """A connection that waits for others as long as a test may take."""
         return self.connect(timeout=60)
 
     def as_dictionaries(self):
@@ -80,7 +80,7 @@ class OnServer:
 
 
 def postgres_trigger(body, when=BEFORE_UPDATE):
-    """The statements that create a trigger of this body."""
+    """The statements that create a trigger with this body."""
     function = "CREATE OR REPLACE FUNCTION made() RETURNS trigger LANGUAGE plpgsql"
     return f"{function} AS 'BEGIN {body} END'", f"{when} FOR EACH ROW EXECUTE FUNCTION made()"
 
@@ -115,7 +115,7 @@ class OnPostgres(OnServer):
         return servers.psycopg.errors.DeadlockDetected("planted")
 
     def reading(self):
-        """A function that connects to a standby, as after an early move of the address; and the
+        """A function that connects to a standby, as after an early move of the address, and the
         call that promotes the standby."""
         standby = servers.PostgresServer("standby", self.server).start()
         self.addCleanup(standby.kill)
@@ -144,7 +144,7 @@ class OnPostgres(OnServer):
         yield self.connect(row_factory=dict_row)
 
     def of_role(self, grants):
-        """A function that connects as a role with these rights alone."""
+        """A function that connects as a role with only these rights."""
         name = f"looker{next(NUMBERS)}"
         self.execute(f"CREATE ROLE {name} LOGIN")
         self.execute(f"GRANT {grants} ON users TO {name}")
@@ -200,7 +200,7 @@ class OnMariaDB(OnServer):
         yield self.connect(cursorclass=DictCursor)
 
     def of_role(self, grants):
-        """A function that connects as a user with these rights alone."""
+        """A function that connects as a user with only these rights."""
         name, password = "looker@'127.0.0.1'", self.server.password
         made = f"CREATE USER {name} IDENTIFIED BY '{password}'"
         granted = f"GRANT {grants} ON store.users TO {name}"

@@ -33,14 +33,14 @@ class Node(MariaServer):
         ]
 
     def answers(self):
-        """Whether a node answers: only a synced node does; a joining node, and one that copies to
+        """Whether a node answers: only a synced node does; a joining node, or one that copies to
         it, refuses or waits."""
         shown = "SHOW STATUS LIKE 'wsrep_local_state_comment'"
         return self.as_root(shown)[0][1] == "Synced"
 
 
 class Galera:
-    """A cluster's nodes: connections go to each by turns, and read what other nodes committed."""
+    """The nodes of a cluster: connections use them in turn, and read what other nodes committed."""
 
     def __init__(self, name, count=2, silence=Node.silence):
         need_file(LIBRARY)

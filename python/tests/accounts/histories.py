@@ -2,7 +2,8 @@
 
     /usr/bin/python3 python/tests/accounts/histories.py [-k NAME..]
 
-RIGZUMAL_SECONDS is the length of each run; all take ten minutes. docs/SCALE.md describes each.
+RIGZUMAL_SECONDS is the length of each run; all runs take ten minutes. docs/SCALE.md describes each
+run.
 """
 
 import time
@@ -90,7 +91,7 @@ class Histories(unittest.TestCase):
         self.told(killed_servers(run, server, pause=3.0))
 
     def test_mariadb_what_was_read_stays(self):
-        """The server is killed just after a login got an answer from a change that had none."""
+        """The server is killed just after a login that depended on an unanswered change."""
         logged = Crashes(maria()).run(6)
         confirmed_ones = Crashes(maria_without_log(), confirm=True).run(6)
         for crashes in (logged, confirmed_ones):
@@ -98,14 +99,14 @@ class Histories(unittest.TestCase):
         self.told(f"{logged.kills} kills with a binary log, {confirmed_ones.kills} confirmed")
 
     def test_refused_mariadb_without_a_binary_log(self):
-        """Without a binary log a crash seldom, but in fact, loses the change that answered a
-        login."""
+        """Without a binary log a crash does, though seldom, lose the change on which a login
+        depended."""
         crashes = Crashes(maria_without_log()).run(30, until_lost=True)
         self.assertTrue(crashes.lost, f"none was lost in {crashes.kills} kills")
         self.told(f"1 lost of {crashes.kills}")
 
     def failed_over(self, pair, fail_over):
-        """A run amid which the standby takes over."""
+        """A run during which the standby takes over."""
         run = Run(pair.url, seconds=2 * SECONDS, end_url=pair.standby.url)
         self.addCleanup(pair.end)
         time.sleep(SECONDS)
@@ -113,7 +114,7 @@ class Histories(unittest.TestCase):
         return run
 
     def test_postgres_synchronous_failover(self):
-        """The primary is killed amid the load, and its synchronous standby takes over."""
+        """The primary is killed under load, and its synchronous standby takes over."""
         self.told(legal(self.failed_over(Pair(is_synchronous=True), Pair.fail_over)))
 
     def test_postgres_synchronous_failover_with_a_slow_receiver(self):
@@ -135,11 +136,12 @@ class Histories(unittest.TestCase):
         self.told(refused(lambda: Run(pair.primary.url, **given)))
 
     def test_galera_copies_that_do_not_wait(self):
-        """Sessions with wsrep_sync_wait=0 read the copies, and others do all else."""
+        """Sessions with wsrep_sync_wait=0 read the copies, and other sessions do everything
+        else."""
         self.told(legal(Run(GALERA(), replica=GALERA(), **WAITS)))
 
     def test_galera_with_a_node_killed(self):
-        """A node is killed amid the load, and comes back."""
+        """A node is killed under load, and started again."""
         run = Run(GALERA(), seconds=2 * SECONDS, **WAITS)
         node = galera().nodes[2]
         time.sleep(SECONDS / 2)

@@ -1,5 +1,5 @@
-"""The behaviour of every engine: classes of tests, run over each by test_engines.py, as are those
-of of_tables.py and of_hooks.py.
+"""The behaviour of every engine: test classes that test_engines.py runs over each engine, with
+those of of_tables.py and of_hooks.py.
 
 To test your own dialect, write a subclass of these with the attributes of an engine in
 `engines.py`: its `kind` (a server that starts and connects), its `dialect`, and its settings.
@@ -74,7 +74,7 @@ class Operations:
         *(("one", it, "one", "") for it in (Kind.UPGRADE, Kind.REMOVE, Kind.VERIFY)),
     )
     def test_each_change_compares(self, stood, kind, password, new):
-        """No operation writes or answers a result that it computed at a replaced record."""
+        """No operation writes or answers a result that it computed from a replaced record."""
         self.give(stood)
         accounts = self.accounts(self.high)
         slow = self.worked(accounts, kind, password, new)
@@ -115,7 +115,7 @@ class LostAnswers:
                 self.assertEqual(self.stands() is not None, is_record)
 
     def at_second_look(self, accounts, act, is_after=False):
-        """Does `act` before a look at the record, or between the look and the statement that is
+        """Calls `act` before the read of the record, or between that read and the statement that is
         sent again."""
         look, looks = accounts._table.look, []
 
@@ -141,8 +141,7 @@ class LostAnswers:
         self.assertTrue(self.is_right("another"))
 
     def test_what_was_done_is_put_over_itself(self):
-        """The record in the table may not be on the disk yet, so the operation writes it over
-        itself."""
+        """The record in the table may not be on the disk yet, so the operation writes it again."""
         accounts = self.losing(before=False)
         put = accounts._dialect.put = mock.Mock(wraps=accounts._dialect.put)
         with self.assertLogs("rigzumal.accounts", "WARNING") as logs:
@@ -155,8 +154,8 @@ class LostAnswers:
 
     @each(True, False)
     def test_a_fault_after_a_lost_answer_says_nothing_of_it(self, before):
-        """The change is stored, or may be later, so the call raises OutcomeUnknown, and no
-        StoreFault."""
+        """The change is stored, or may be stored later, so the call raises OutcomeUnknown instead
+        of StoreFault."""
         self.give("one")
         accounts = self.losing(before)
         self.at_second_look(accounts, mock.Mock(side_effect=StoreFault("the disk is full")))
@@ -167,11 +166,11 @@ class LostAnswers:
 
 
 class Confirmed:
-    """Operations without a change, which a COMMIT that writes confirms."""
+    """Operations without a change, confirmed by a COMMIT that writes."""
 
     @each(("one", "two", Reply.NO), ("one", None, Reply.ABSENT), (None, "two", Reply.NO))
     def test_what_was_replaced_meanwhile(self, stands, other, reply):
-        """The operation runs again at the present record, and never restores the old one."""
+        """The operation runs again on the present record, and never restores the old one."""
         accounts = self.accounts(confirm=True)
         stood = self.give(stands)
         worked = self.worked(accounts, Kind.VERIFY, "one")
@@ -217,7 +216,7 @@ class OnServers:
     """Servers that end waits, restart, or only read."""
 
     def test_restart(self):
-        """The pool's connection is gone after a restart: it opens another."""
+        """The pool's connection is broken after a restart: the pool opens another."""
         accounts = self.accounts()
         self.assert_replies("verify ann one yes", accounts)
         self.server.end()
@@ -226,8 +225,8 @@ class OnServers:
         self.assert_replies("change ann one two replaced; verify ann two yes", accounts)
 
     def test_a_server_that_only_reads(self):
-        """A change waits for a server that only reads, as in a failover; if patience ends it is
-        Unavailable."""
+        """A change waits for a read-only server, as in a failover; it raises Unavailable when
+        patience ends."""
         self.give(None, "ben")
         connect, frees = self.reading()
         accounts = self.accounts(connect=connect, patience=60.0)
@@ -242,7 +241,8 @@ class OnServers:
 
     @each(*itertools.product(("put_at_once", "commit"), (AttributeError, TypeError, NameError)))
     def test_a_fault_of_a_program_comes_through(self, name, error):
-        """A program's own fault is no lost answer, though the statement may have been sent."""
+        """A program's own fault doesn't count as a lost answer, although the statement may have
+        been sent."""
         dialect = losing(self.another_dialect(), True, 9, error("mine"), [name])
         if name == "put_at_once" and not dialect.at_once:
             return
@@ -253,7 +253,7 @@ class OnServers:
         self.assertTrue(self.is_right("one"))
 
     def test_a_rollback_that_fails(self):
-        """The call raises a refusal of the server at once, and not after all of patience."""
+        """The call raises a refusal of the server at once, instead of after the whole patience."""
         self.execute("ALTER TABLE users ADD CHECK (record LIKE '%m=64,%')")
         dialect = losing(self.another_dialect(), True, 99, ConnectionError("planted"), ["undo"])
         made, connect = [], lambda: made.append(self.connect()) or made[-1]

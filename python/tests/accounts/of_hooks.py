@@ -39,7 +39,7 @@ class RowsOfOnesOwn:
 
     @each(*CALLS, ("low", None, "login b\0b one", "noaccount"))
     def test_each_reply(self, costs, stands, text, reply):
-        """The hook gets the reply that its caller gets, and its row is committed."""
+        """The hook receives the same reply as the caller, and its row is committed."""
         self.begin(stands)
         accounts = self.accounts(getattr(self, costs))
         self.assertEqual(called(accounts, text, also=self.also), reply)
@@ -47,7 +47,7 @@ class RowsOfOnesOwn:
         self.assertEqual(self.rows(), [reply])
 
     def test_an_exception_undoes_all(self):
-        """The exception comes through as it is, be it a driver's, and nothing is stored."""
+        """The caller gets the exception unchanged, even a driver's, and nothing is stored."""
         accounts = self.accounts(patience=60.0)
         # A mail server's error looks like a connection's, and another server's refusal like this
         # server's.
@@ -75,7 +75,7 @@ class RowsOfOnesOwn:
 
     @each(("login ann one", "no"), ("change ann one x", "wrong"))
     def test_it_is_called_again_at_each_turn(self, text, reply):
-        """The row has another record at the first commit: the hook's row was undone with it."""
+        """The row has a different record at the first commit: the hook's row was undone with it."""
         accounts, owner = self.accounts(self.high), self.accounts()
         self.begin()
         after_hash(accounts, lambda: owner.reset("ann", "two"))
@@ -152,7 +152,7 @@ class RowsOfOnesOwn:
         self.assert_replies("verify ann one yes", accounts)
 
     def test_a_nested_call_leaves_the_transaction_alone(self):
-        """If the hook goes on after the refused nested call, so does the operation."""
+        """If the hook continues after the refused nested call, so does the operation."""
         accounts = self.accounts()
 
         def nests(conn, reply):
@@ -192,8 +192,8 @@ class RowsOfOnesOwn:
         self.assert_replies("verify ann two yes", accounts)
 
     def test_what_is_no_nested_call(self):
-        """A call over another pool, which may be of another database, is no nested one. Nor is a
-        call that begins within `also` and runs after it."""
+        """A call over another pool, which may use another database, isn't nested. A call that
+        begins within `also` and runs after it isn't nested either."""
         accounts, other, contexts = self.accounts(), self.accounts(), []
 
         def also(conn, reply):
@@ -217,8 +217,8 @@ class RowsOfOnesOwn:
             conn.close()
 
     def test_strangers_guesses_beside_the_owner(self):
-        """Each hook writes the account's own row, as a counter of failures does. No operation is
-        CHANGED, and no hook is called twice for one operation."""
+        """Each hook writes the account's own row, as a counter of failures does. No operation
+        answers CHANGED, and no hook is called twice for one operation."""
         self.execute("ALTER TABLE users ADD failures INT DEFAULT 0")
         accounts = self.accounts(connect=self.patient, patience=0.0)
 
@@ -237,9 +237,9 @@ class RowsOfOnesOwn:
         self.assertEqual(self.execute("SELECT failures FROM users"), [(60,)])
 
     @each(
-        ("shouting", "than the one that was written"),
-        ("ignoring", "an UPDATE doesn't change it"),
-        ("emptying", "another record|doesn't change it"),
+        ("shouting", "from the one that was written"),
+        ("ignoring", "which an UPDATE doesn't change"),
+        ("emptying", "record differs|doesn't change"),
     )
     def test_triggers(self, name, said):
         """A trigger's change of a record is undone with the hook's row, and the error doesn't show

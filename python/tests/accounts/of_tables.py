@@ -48,7 +48,7 @@ class Connections:
             self.assertTrue(self.is_right(right))
 
     def test_a_session_beside_a_verify(self):
-        """A session beside a verify is stored before a change, or not at all."""
+        """A session written by a verify is stored before a change, or not at all."""
         accounts, owner, caller, done = self.accounts(), self.accounts(), self.another(), []
         worked = self.worked(accounts, Kind.VERIFY, "one")
         self.execute(self.dialect.begin, conn=caller)
@@ -63,8 +63,8 @@ class Connections:
 
     @each(*CALLS)
     def test_what_is_sent(self, costs, stands, text, reply):
-        """Each operation sends only the statements that docs/SCALE.md lists. From no record to one,
-        and back, the row wouldn't show the outcome of a single statement."""
+        """Each operation sends only the statements that docs/SCALE.md lists. If a record is added
+        or removed, the row wouldn't show the outcome of a single statement."""
         hasher, conn, several = getattr(self, costs), self.another(), self.several
         plain, confirming = (self.kept(hasher, conn, confirm=it) for it in (False, True))
         begin, _, rest = several.partition(" ")
@@ -87,8 +87,8 @@ class Connections:
                 self.assertEqual(self.stands(), record)
 
     def test_changes_at_any_level(self):
-        """Of eight changes of one record exactly one is stored, whatever the session's level is.
-        Eight logins all succeed, and the record gets the higher costs."""
+        """Exactly one of eight changes of a record is stored, whatever the session's isolation
+        level. Eight logins all succeed, and the record gets the higher costs."""
         for setting in self.levels:
             connect = self.setting(setting)
             self.give("one")
@@ -101,7 +101,7 @@ class Connections:
             self.assertIn("m=128,", self.stands())
 
     def test_a_connection_is_as_before(self):
-        """No transaction is open after a change, a refusal or another's change."""
+        """No transaction is open after a change, a refusal or another client's change."""
         self.table("VARCHAR(512) CHECK (record LIKE '%m=64,%')")
         self.give("one")
         conn = self.another()
@@ -118,7 +118,7 @@ class Connections:
     def test_waits_that_the_engine_ends(self):
         """The engine ends a wait for a lock, and a statement that takes too long. It undoes the
         statement, so the operation sends it again within patience, on the same connection and with
-        the same hash. Then it is Unavailable, and nothing was done. A login goes on."""
+        the same hash. After that it raises Unavailable, and nothing is stored. A login succeeds."""
         settings = {self.lock_timeout, self.statement_timeout}
         for setting, stands in itertools.product(settings, ("one", None)):
             connect, made, record = self.setting(setting), [], self.give(stands)
@@ -163,7 +163,7 @@ class Tables:
                 self.assertRaises(TypeError, accounts.login, str(key), "one")
 
     def test_keys_of_an_enum(self):
-        """The names of an enum are accounts, and no others are; an empty table with such keys has
+        """The names in an enum are accounts, and no others are; an empty table with such keys has
         no fault."""
         before, key = self.enum
         self.execute("DROP TABLE IF EXISTS users")
@@ -205,7 +205,7 @@ class Tables:
         self.assertEqual((key, record[:9]), (7, "$argon2id"))
 
     def test_bytes_are_compared(self):
-        """Statements compare bytes under each collation that equates different texts."""
+        """Statements compare bytes under each collation that treats different texts as equal."""
         copies = ("ABCdef", "abcDEF ", "abcdef", "\u00e4bcDEF", "abcDEF")
         for column, copy in itertools.product(self.folding, copies):
             self.table(column)

@@ -1,4 +1,4 @@
-"""A torture in a process of its own, and the servers that it runs on."""
+"""A torture in a separate process, and the servers that it uses."""
 
 import contextlib
 import functools
@@ -33,7 +33,7 @@ EXPECTED = re.compile("(StoreFault|OutcomeUnknown|Unavailable|NoConnection): ")
 
 
 class Run:
-    """A torture in a process of its own, while this one kills servers."""
+    """A torture in a separate process, while this process kills servers."""
 
     numbers = itertools.count(1)
 
@@ -83,7 +83,7 @@ def legal(run, fault="nothing else"):
 
 
 def refused(start, turns=8):
-    """Whether a run with broken accounts is refused; luck may make one run legal."""
+    """Whether a run with broken accounts is refused; by luck one run may be legal."""
     for _ in range(turns):
         reason, part, summary = start().verdict()
         if reason:
@@ -109,7 +109,7 @@ GALERA = lambda: galera().url
 
 
 def killed_servers(run, node, pause=1.5):
-    """The verdict of a run whose server is stopped at once and killed by turns."""
+    """The verdict of a run whose server is alternately stopped at once and killed."""
     count = 0
     time.sleep(1.5)
     while run.process.is_alive():
@@ -121,7 +121,7 @@ def killed_servers(run, node, pause=1.5):
 
 
 def on_a_full_disk(case, **given):
-    """The verdict of a run on SQLite, whose disk is full every other moment."""
+    """The verdict of a run on SQLite, whose disk is full half of the time."""
     folder = disks.small_disk(case, "2m")
     # In a caller's own transaction a full disk is the driver's error, which is the caller's.
     ways = ("whole", "also", "parts")
@@ -195,8 +195,8 @@ CHEAP = hasher(LOW)
 class Crashes:
     """One client changes a password again and again, one logs in, and others keep the disk busy.
 
-    The server is killed just after a login was answered YES by a change that had no answer; of
-    these kills some are lost: that password is wrong afterwards, and the old one right.
+    Kills the server just after a login got YES from a change that had no answer; some of these
+    kills lose the change: then that password is wrong, and the old one right.
     """
 
     def __init__(self, server, confirm=False):

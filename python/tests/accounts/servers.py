@@ -1,4 +1,4 @@
-"""Private database servers in a temporary folder, ended by their own pids."""
+"""Private database servers in a temporary folder, stopped by their own pids."""
 
 import atexit
 import contextlib
@@ -58,7 +58,7 @@ def as_user(name):
 
 
 def descendants(pid):
-    """The processes that a process started, and itself."""
+    """The processes that a process started, and the process itself."""
     found = [pid]
     with contextlib.suppress(OSError):
         children = pathlib.Path(f"/proc/{pid}/task/{pid}/children").read_text()
@@ -68,7 +68,8 @@ def descendants(pid):
 
 
 def is_running(pid):
-    """Whether a process still has its memory and its files, as a killed process may for a while."""
+    """Whether a process still has its memory and its files, which a killed process may have for a
+    while."""
     try:
         state = pathlib.Path(f"/proc/{pid}/stat").read_text().rpartition(") ")[2][:1]
     except OSError:
@@ -77,7 +78,7 @@ def is_running(pid):
 
 
 class Server:
-    """A server in a folder of its own, as a child of this process."""
+    """A server in a separate folder, as a child of this process."""
 
     user, stop = "", signal.SIGTERM
 
@@ -142,7 +143,7 @@ class Server:
 
 
 class SqliteFile:
-    """A file of SQLite, in the place of a server."""
+    """A SQLite file, in the role of a server."""
 
     numbers = itertools.count()
 
@@ -207,7 +208,7 @@ class PostgresServer(OfPostgres):
             file.write("host replication store 127.0.0.1/32 trust\n")
 
     def copy(self, of):
-        """A standby: a copy of another node, that follows it."""
+        """A standby: a copy of another node that follows it."""
         name = self.folder.name
         source = f"host=127.0.0.1 port={of.port} user=store application_name={name}"
         given = ("-d", source, "-D", self.folder, "-R", "--checkpoint=fast", "--no-sync")
@@ -217,7 +218,7 @@ class PostgresServer(OfPostgres):
         return [self.bin / "postgres", "-D", self.folder]
 
     def set(self, **settings):
-        """Changes settings of the server while it runs; new sessions have them then."""
+        """Changes settings of the running server; they apply to new sessions."""
         with self.connect() as conn:
             for name, value in settings.items():
                 conn.execute(f"ALTER SYSTEM SET {name} = '{value}'")
@@ -287,7 +288,7 @@ class OfMySql(Server):
             return cursor.fetchall()
 
     def ready(self):
-        """Whether the server answers: while it starts, it may refuse or cut off any request."""
+        """Whether the server answers: while it starts, it may refuse or interrupt any request."""
         with contextlib.suppress(pymysql.err.Error, OSError):
             if self.answers():
                 self.has_store = self.has_store or self.make_store()
@@ -342,7 +343,7 @@ class MariaServer(OfMySql):
 
 
 class MySqlServer(OfMySql):
-    """A server of MySQL, whose files are in a root of their own.
+    """A MySQL server, whose files are in a separate root.
 
     RIGZUMAL_MYSQL names that folder: Debian's mysql-server-core of a later suite and its
     dependencies, each unpacked there by `dpkg -x`.

@@ -1,4 +1,4 @@
-"""The parts that the tests share: a table on an engine, accounts over it, and faults on purpose."""
+"""The shared parts of the tests: a table on an engine, accounts over it, and deliberate faults."""
 
 import concurrent.futures
 import contextlib
@@ -49,7 +49,7 @@ SERVERS = {}
 
 
 def server(kind):
-    """The server for all tests of a run, or SQLite's file; skips the test if there is none."""
+    """The server for all tests of a run, or SQLite's file; skips the test if it is missing."""
     if kind is servers.SqliteFile:
         return kind().start()
     if kind not in SERVERS:
@@ -70,7 +70,7 @@ def module(name):
 
 
 class Base(unittest.TestCase):
-    """A table on an engine (SQLite, if a class names no other), in which `ann` has "one"."""
+    """A table on an engine (SQLite, unless a class names another), in which `ann` has "one"."""
 
     kind, dialect = servers.SqliteFile, Sqlite("users", "name", "record")
     low, high = LOW, HIGH
@@ -119,7 +119,7 @@ class Base(unittest.TestCase):
         raise AssertionError("a connection was asked for")
 
     def another(self, **more):
-        """One more connection, which is closed after the test."""
+        """Another connection, which is closed after the test."""
         conn = self.connect(**more)
         self.addCleanup(closed, conn)
         return conn
@@ -144,7 +144,7 @@ class Base(unittest.TestCase):
         return self.over(pool, hasher, dialect, **more)
 
     def kept(self, hasher=LOW, conn=None, **more):
-        """Accounts over one connection that stays open whatever happens, and was used once."""
+        """Accounts over one used connection that stays open whatever happens."""
         conn = conn or self.another()
         accounts = Accounts(lambda: contextlib.nullcontext(conn), self.dialect, hasher, **more)
         accounts.verify("nobody", "x")
@@ -170,7 +170,7 @@ class Base(unittest.TestCase):
                 self.assertIsNot(conn, made[0])
 
     def no_pause(self, accounts):
-        """Fails where an operation waits, for a `with`."""
+        """Fails where an operation waits, during a `with` block."""
         raises = mock.AsyncMock(side_effect=AssertionError("it waits"))
         return mock.patch.object(accounts._runtime, "pause", raises)
 
@@ -204,9 +204,9 @@ class Base(unittest.TestCase):
 
     @contextlib.contextmanager
     def hashes(self, count):
-        """The block must hash this many times: steps, and checks of a dummy. Without a secret a
-        step that may write a record hashes for it in any case. A step refuses a text of another
-        scheme, and hashes nothing for it."""
+        """The block must hash this many times: steps, and checks of a dummy. Without a secret, a
+        step that may write a record always hashes for it. A step refuses a text of another scheme,
+        and hashes nothing for it."""
         step, dummy = (mock.Mock(wraps=it) for it in (_judgement.step, _judgement.is_right))
         with mock.patch.multiple(_judgement, step=step, is_right=dummy):
             yield

@@ -1,4 +1,4 @@
-"""The command: its words, answers and statuses, which are credkeep's."""
+"""The shell command: its arguments, answers and statuses, which are those of credkeep."""
 
 import contextlib
 import os
@@ -23,7 +23,8 @@ class Answers(Commands):
     has_table = False
 
     def test_answers_and_statuses(self):
-        """Each command's answers and statuses; with 1 to 6 but 4 standard error has the reason."""
+        """Each command's answers and statuses; with 1 to 6 except 4, standard error gives the
+        reason."""
         one, two, bad = (
             pathlib.Path(self.file(line)).rename(f"{self.server.path}.{place}")
             for place, line in enumerate((f"bob {RECORD}", f"bob {LOW.hash('two')}", "cid garbage"))
@@ -242,7 +243,7 @@ class Faults(Commands):
 
     @each(("list", 0), ("check eve", 4), ("add ann", 6), ("--table nowhere list", 5))
     def test_its_connection_is_closed(self, words, status):
-        """The command closes its connection, however it ends."""
+        """The command closes its connection, however the command ends."""
         made, connect = [], Database.connect
 
         def noted(database):

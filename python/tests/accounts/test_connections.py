@@ -1,5 +1,5 @@
-"""The waits and their causes, over a clock and a runtime that only note them; and the arguments of
-a database's driver by a URL, which stand-ins note."""
+"""The waits and their causes, over a clock and a runtime that only record them; and the arguments
+that URLs pass to database drivers, which stand-ins record."""
 
 import contextlib
 import contextvars
@@ -27,8 +27,8 @@ REFUSED = sqlite3.OperationalError("no such table: users")
 
 class Patience(unittest.TestCase):
     def connections(self, *answers, patience=10.0, replica=None):
-        """Connections over a runtime whose first uses end so, while the next succeeds; a pause
-        passes at once."""
+        """Connections over a runtime whose first uses end in these ways, and whose next use
+        succeeds; a pause passes at once."""
         runtime, time = mock.AsyncMock(now=100.0, pauses=[]), _connections.time
         runtime.use.side_effect = [*answers, "done"]
 
@@ -52,7 +52,7 @@ class Patience(unittest.TestCase):
         runtime, connections = self.connections(*[answer] * 12)
         with self.assertLogs("rigzumal.accounts", "WARNING") as logs:
             self.assertEqual(run(connections.patiently(None)), "done")
-        name = "WARNING:rigzumal.accounts:an operation is tried again: OperationalError"
+        name = "WARNING:rigzumal.accounts:retrying an operation: OperationalError"
         self.assertEqual(logs.output, [name])
         wanted = [0.002 * 2**it for it in range(8)] + [0.5] * 4
         self.assertEqual([round(it, 3) for it in runtime.pauses], wanted)
@@ -103,7 +103,7 @@ class Patience(unittest.TestCase):
         self.assertEqual(runtime.pauses, [])
 
     def test_a_replica_is_asked_once(self):
-        """After a replica's fault the primary does the work, and the log gets the fault once; a
+        """After a replica's fault the primary does the work, and the fault is logged once; a
         program's exception is raised."""
         faults = (REFUSED, StoreFault("x"), Unavailable("its pool is full"))
         for answer in (BUSY, Lost(), Undone(BUSY), *faults):
@@ -117,7 +117,7 @@ class Patience(unittest.TestCase):
             self.assertEqual([isinstance(it, Undone) for it in done], [True, True, False, True])
             self.assertEqual((self.used(runtime), runtime.pauses), (["replica"] * 4, []))
             self.assertEqual(len(logs.output), 2)
-            self.assertIn("the replica is passed over: ", logs.output[0])
+            self.assertIn("skipping the replica: ", logs.output[0])
         runtime, connections = self.connections("a record", replica="replica")
         self.assertEqual(run(connections.at_replica(None)), "a record")
         _, connections = self.connections(KeyError("x"), replica="replica")
@@ -268,10 +268,10 @@ class Urls(unittest.TestCase):
 
     @each("sec%ret", "sec@ret", "sec/ret@x", "%", "a%zz")
     def test_a_password_that_is_no_part_of_a_url(self, password):
-        """The error says how to write such a password, and neither it nor a host's look-up has the
-        password."""
+        """The error says how to write such a password; neither the error nor a lookup of the host
+        contains the password."""
         for kind in ("mysql", "mariadb", "postgresql", "postgres"):
-            with self.assertRaisesRegex(ValueError, "%25, @ is %40, / is %2F") as raised:
+            with self.assertRaisesRegex(ValueError, "%25, @ as %40 and / as %2F") as raised:
                 Database(f"{kind}://ada:{password}@db/d").connect()
             self.assertNotRegex(str(raised.exception), "sec|ret|zz")
         self.assertEqual(self.tried, [])
@@ -281,9 +281,10 @@ class Urls(unittest.TestCase):
 
     @each("ada:secret", "ada:secret/d", "one:5432,ada:secret/d", "[::1]:secret/d", "ada:123456/d")
     def test_a_password_without_a_host(self, rest):
-        """Without a host the password is in the place of a port, which a driver's error shows."""
+        """Without a host, the password is in the position of a port, which a driver's error
+        shows."""
         for kind in ("mysql", "postgresql"):
-            with self.assertRaisesRegex(ValueError, "and @ ends them") as raised:
+            with self.assertRaisesRegex(ValueError, "@ ends them") as raised:
                 Database(f"{kind}://{rest}").connect()
             self.assertNotRegex(str(raised.exception), "secret|123456")
         self.assertEqual(self.tried, [])
@@ -297,7 +298,7 @@ class Urls(unittest.TestCase):
     def test_what_libpq_can_not_read(self, rest):
         """libpq's own message shows the part that it can't read, which may be a password."""
         module("psycopg")
-        with self.assertRaisesRegex(ValueError, "% is written %25, @ is %40") as raised:
+        with self.assertRaisesRegex(ValueError, "% as %25, @ as %40") as raised:
             Database(f"postgresql://{rest}").connect()
         error = raised.exception
         shown = traceback.format_exception(ValueError, error, error.__traceback__)

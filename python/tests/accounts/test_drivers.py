@@ -18,7 +18,7 @@ from tests.needs import lacking
 
 
 class Refused(unittest.TestCase):
-    """An error at a connection of another driver names the driver, and blames no table."""
+    """An error at a connection of another driver names the driver, and doesn't blame the table."""
 
     def assert_refused(self, conn, kind, said):
         """Each operation refuses the connection before it sends anything."""
@@ -114,7 +114,7 @@ class Engines:
         self.assertEqual(engine.pool.checkedout(), 0)
 
     def test_a_pool_that_is_empty(self):
-        """A pool has waited for a connection up to its own timeout, and isn't asked again."""
+        """A pool that has waited for a connection up to its own timeout isn't asked again."""
         kind = self.sqlalchemy.pool.QueuePool
         engine = self.engine(poolclass=kind, pool_size=1, max_overflow=0, pool_timeout=0.01)
         with of_engine(engine)():
@@ -203,10 +203,11 @@ class Prepared(engines.OnPostgres, support.Base):
 
 
 class Pooler(engines.OnPgBouncer, support.Base):
-    """PgBouncer, whose sessions are another's from one transaction to the next."""
+    """PgBouncer, which may lend a session to another client after each transaction."""
 
     def test_no_statement_is_prepared(self):
-        """No statement is prepared, though psycopg by default prepares one at its sixth use."""
+        """No statement is prepared, although psycopg by default prepares a statement at its sixth
+        use."""
         accounts = self.accounts(connect=lambda: self.connect(prepare_threshold=5))
         calls = "reset {0} a; change {0} a b; login {0} b; remove {0} b; enrol {0} a".split("; ")
         for number in range(4):
@@ -246,7 +247,7 @@ class StatementMode(support.Base):
         self.assertRegex(str(fault), self.named)
 
     def test_operations(self):
-        """An operation that needs a transaction is a fault at once, and writes no record."""
+        """An operation that needs a transaction raises a fault at once, and writes no record."""
         record = LOW.hash("one")
         self.put(record)
         self.put(None, "ben")

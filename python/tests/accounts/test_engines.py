@@ -1,4 +1,4 @@
-"""The operations on each engine; their traps are in files of their own."""
+"""The operations on each engine; the engines' traps are in separate files."""
 
 import engines
 import of_engines

@@ -1,4 +1,4 @@
-"""The findings of `examine`: one table, role or setting at fault at a time."""
+"""The findings of `examine`, for one faulty table, role or setting at a time."""
 
 import contextlib
 from unittest import mock
@@ -12,9 +12,9 @@ from rigzumal.accounts.types import Kind
 CASE, BLANKS = "differ in case", "differ by blanks at the end"
 ACCENTS, CUT = "differ by accents", "record-type: record is {}: a record has up to 152 bytes"
 SHORTER = "record-length: record is {}: another program's record has up to 512 bytes"
-LATIN = "key-not-unicode: names outside of {} are no accounts"
-NOT_UNIQUE = "no unique index of its own: two rows may have one name, and are then refused"
-SLOW, PUT = "key-not-indexed: no index finds name", "no record can be written: "
+LATIN = "key-not-unicode: no account can have a name outside of {}"
+NOT_UNIQUE = "no unique index of its own: operations refuse a name that two rows have"
+SLOW, PUT = "key-not-indexed: name has no index", "no record can be written: "
 # Indexes under which equal keys alone are equal; and those under which others may be too, or equal
 # keys may differ.
 OF_ONE_CASE = ("lower(name)", "upper(name)", "LOWER ( name )")
@@ -48,7 +48,7 @@ class Said:
             self.assertIn(word, "; ".join(f"{it.code}: {it}" for it in faults))
 
     def test_tables(self):
-        """`examine` finds the faults of each table, whose rows stay as they are."""
+        """`examine` finds the faults of each table, whose rows stay unchanged."""
         refused = f"{KEY} PRIMARY KEY, {RECORD} {SHORT}", PUT + self.refused
         for sql, *words in (*TABLES, refused, *self.tables):
             with self.subTest(sql=sql):
@@ -98,7 +98,7 @@ class OnSqlite(Said, engines.OnSqlite, support.Base):
     )
 
     def test_schemas_and_spellings(self):
-        """`examine` finds the table as a statement does."""
+        """`examine` finds the same table as a statement."""
         self.execute("CREATE TRIGGER tr AFTER UPDATE ON users BEGIN SELECT 1; END")
         self.give("one")
         spellings = {"table": "Users", "key": "NAME", "record": "Record"}
@@ -207,7 +207,7 @@ class OnServer(Said):
         self.assert_faults([NOT_UNIQUE, "not-a-table: people is no table"], accounts)
 
     def test_names_of_tables_and_columns(self):
-        """`examine` finds the table as a statement does."""
+        """`examine` finds the same table as a statement."""
         ours = "table_name = 'users' AND table_schema IN ('public', 'store')"
         here = self.execute(f"SELECT table_schema FROM information_schema.tables WHERE {ours}")
         for names, *words in (
@@ -223,12 +223,12 @@ class OnServer(Said):
 
     def test_a_replica(self):
         """A replica that refuses, one that is down, and one without a fault."""
-        for grants, *words in (("SELECT",), ("UPDATE", "replica-refuses: the replica is passed")):
+        for grants, *words in (("SELECT",), ("UPDATE", "replica-refuses: skipping the replica")):
             replica = PerThread(self.of_role(grants))
             self.addCleanup(replica.close)
             self.assert_faults(words, self.accounts(replica=replica))
         away = PerThread(mock.Mock(side_effect=ConnectionRefusedError("nobody there")))
-        said = "replica-away: the replica is passed over: ConnectionRefusedError"
+        said = "replica-away: skipping the replica: ConnectionRefusedError"
         self.assert_faults([f"{said}: nobody there"], self.accounts(replica=away))
 
 
@@ -255,7 +255,7 @@ POSTGRES_TABLES = (
     (f"{TEXTS}; {INDEX} (name) INCLUDE (record)",),
     # The index is invalid, as after CREATE UNIQUE INDEX CONCURRENTLY found a key twice.
     (f"{TEXTS}; {INDEX} (name); {INVALID}", NOT_UNIQUE),
-    ("name text PRIMARY KEY, record char(300)", "character(300)", "than the one that was written"),
+    ("name text PRIMARY KEY, record char(300)", "character(300)", "from the one that was written"),
     ("name text PRIMARY KEY, record bytea", "record is bytea, not text", "the record is not text"),
     ("name text PRIMARY KEY, record citext",),
     ("name other.ci PRIMARY KEY, record other.ci", CASE),
@@ -292,10 +292,10 @@ class OnPostgres(OnServer, engines.OnPostgres, support.Base):
         self.assert_faults(["key-not-unique: no index of users holds"])
 
     def test_encodings(self):
-        """Names that a database's encoding lacks are no accounts, after a hash; texts aren't
-        bytes."""
+        """No account can have a name that a database's encoding lacks, and a login with it costs a
+        hash; texts aren't bytes."""
         given = "TEMPLATE template0 LC_COLLATE 'C' LC_CTYPE 'C' ENCODING"
-        as_bytes = "encoding: client_encoding is SQL_ASCII: texts come as bytes"
+        as_bytes = "encoding: client_encoding is SQL_ASCII: the driver returns text as bytes"
         others = ((it, LATIN.format(it)) for it in ("LATIN1", "EUC_JP"))
         for encoding, *words in (("UTF8",), *others, ("SQL_ASCII", as_bytes)):
             name = f"en{encoding.lower()}"
@@ -369,8 +369,8 @@ class OnMariaDB(OnServer, engines.OnMariaDB, support.Base):
         self.assert_faults([])
 
     def test_names_that_a_character_set_lacks(self):
-        """Names that a character set lacks are no accounts, after a hash; a connection's set may
-        lack them too."""
+        """No account can have a name that a character set lacks, and a login with it costs a hash;
+        a connection's set may lack the name too."""
         key = "VARCHAR(90) CHARACTER SET {} COLLATE {}"
         tables = [(it, it, "utf8mb4") for it in ("latin1", "ascii", "utf8mb3")]
         connections = [(it, "utf8mb4", it) for it in ("latin1", "utf8")]
@@ -378,7 +378,7 @@ class OnMariaDB(OnServer, engines.OnMariaDB, support.Base):
             self.table("TEXT", key.format(charset, f"{charset}_nopad_bin"))
             accounts = self.accounts(connect=self.setting(charset=connection))
             with self.subTest(charset=charset, connection=connection):
-                self.assertIn(f"names outside of {lacking}", self.said(accounts))
+                self.assertIn(f"a name outside of {lacking}", self.said(accounts))
                 for more in ({}, {"also": lambda conn, reply: None}):
                     self.assert_no_account(accounts, "an\U0001f600", **more)
 

@@ -1,4 +1,4 @@
-"""A report of an error of accounts shows nothing of a password or a pepper, whatever an operation
+"""An error report about accounts shows nothing of a password or a pepper, whatever an operation
 raises."""
 
 import sqlite3
@@ -28,7 +28,8 @@ class Frames:
     high = low.replace(memory_cost=128)
 
     def assert_hidden(self, kind, call, *given, **named):
-        """The call raises this exception, and neither a frame nor a text shows its arguments."""
+        """The call raises this exception, and neither its frames nor its text show the
+        arguments."""
         with self.assertRaises(kind):
             call(*given, **named)
         try:
@@ -42,7 +43,7 @@ class Frames:
                 self.assert_hidden(kind, called, accounts, text, **more)
 
     def assert_parts_hidden(self, kind, accounts):
-        """Calls the parts of a change until one raises this exception, and looks for the
+        """Calls the parts of a change until one raises this exception, and searches for the
         arguments."""
 
         def in_parts(request):

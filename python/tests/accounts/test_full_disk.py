@@ -1,5 +1,5 @@
-"""A file of SQLite on a disk that is full or ill. The disk is a small one in memory, which only
-root mounts."""
+"""A SQLite file on a full or faulty disk. The disk is small and in memory, and only root can mount
+it."""
 
 import contextlib
 import os
@@ -33,7 +33,7 @@ class FullDisk(Base):
 
     @each("WAL", "DELETE")
     def test_what_each_operation_answers(self, mode):
-        """Logins go on, each change is a fault, and the old records stay."""
+        """Logins continue, each change raises a fault, and the old records stay."""
         self.begin(mode)
         accounts = self.accounts(HIGH, patience=60.0)
         accounts.verify("ann", "one")
@@ -58,7 +58,8 @@ class FullDisk(Base):
 
     @each("WAL", "DELETE")
     def test_examine_sees_it(self, mode):
-        """`examine` sees a full disk, also in WAL, where the rolled back trial writes nothing."""
+        """`examine` detects a full disk, even in WAL mode, where the rolled back trial writes
+        nothing."""
         self.folder = small_disk(self, "32m")
         self.begin(mode)
         accounts = self.accounts(dialect=self.another_dialect(table="MAIN.users"))
@@ -116,7 +117,7 @@ os._exit(0)
 
 
 class Room(Base):
-    """The findings of `examine` on the room that the filesystem reports."""
+    """The findings of `examine` about the room that the filesystem reports."""
 
     @each((9 << 20, []), (8 << 20, []), ((8 << 20) - 1, ["disk-full"]), (0, ["disk-full"]))
     def test_room_on_the_disk(self, free, codes):
@@ -153,7 +154,8 @@ class IllDisk(Base):
     broken = sqlite3.OperationalError("disk I/O error")
 
     def test_a_commit_is_sent_again_a_few_times(self):
-        """A COMMIT is sent again a few times, and not for all of patience; so is a login's."""
+        """A COMMIT is sent again a few times, but not during the whole patience; the same holds for
+        a login's."""
         for name, raised in (
             ("login", None),
             ("change", OutcomeUnknown),

@@ -45,7 +45,7 @@ def whole(op, state, fresh):
 
 
 def after(op, state, claim):
-    """The state after an operation, or None if it doesn't do what it claims."""
+    """The state after an operation, or None if the operation doesn't do what it claims."""
     before, stands, _ = claim
     reply, new = whole(op, state, stands)
     is_put = reply in ("enrolled", "replaced", "upgraded")
@@ -55,7 +55,7 @@ def after(op, state, claim):
 
 
 def some_order(account):
-    """Whether there is a legal order, by trying each; operations without an answer may be left
+    """Whether a legal order exists, by trying each one; operations without an answer may be left
     out."""
     ops = [it for it in account.operations if it.reply not in ("failed", "changed")]
     ops, seen = [it for it in ops if it.reply or it.attempts], set()
@@ -139,8 +139,8 @@ def bend(rng, account):
 
 
 def add_lost_ones(rng, account, record):
-    """Adds operations without answers, each at the record that the one before tried to write; at
-    times a removal ends the chain."""
+    """Adds operations without answers, each on the record that the previous one tried to write;
+    sometimes a removal ends the chain."""
     for _ in range(rng.randint(1, 3)):
         kind = rng.choice(["change", "change", "remove"] if record else ["enrol", "change"])
         word = rng.choice(["one", "one", "two"])
@@ -158,7 +158,7 @@ def add_lost_ones(rng, account, record):
 
 
 def tried(account, op):
-    """The records that others, without an answer, tried to write: fresh, as all salts are."""
+    """The records that other operations without answers tried to write: fresh, as all salts are."""
     others = [it for it in account.operations if it is not op and not it.reply]
     return {attempt.after for it in others for attempt in it.attempts} - {None}
 
@@ -285,7 +285,7 @@ class Said(unittest.TestCase):
 
 class Logs(unittest.TestCase):
     def test_lines_of_a_killed_process(self):
-        """The last line of a killed process may be cut off; its last attempt may have taken
+        """The last line of a killed process may be incomplete; its last attempt may have taken
         effect."""
         end = '{"event": "end", "key": 7, "time": 99, "record": "%s"}'
         lines = [

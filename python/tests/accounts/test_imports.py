@@ -17,8 +17,8 @@ ANOTHER = "another record, which stays"
 
 class Imports(Commands):
     def test_batches(self):
-        """Batches are whole, whatever the line ends, and need few statements, however many
-        lines."""
+        """Batches are atomic, whatever the line ends, and need few statements, however many lines
+        they have."""
         self.enterContext(mock.patch.multiple(_import, BATCH=400, SHARE=200, FEW=150))
         self.insert({f"user{it}@x": None for it in range(300)})
         lines = [f"user{number}@x {RECORD}" for number in range(1200)]
@@ -65,7 +65,7 @@ class Imports(Commands):
         writer.join()
 
     def test_a_file_that_is_shortened_meanwhile(self):
-        """If the file is shortened meanwhile, the error says so, with the count of added
+        """If the file is shortened meanwhile, the error says so, with the number of added
         accounts."""
         self.enterContext(mock.patch.multiple(_import, BATCH=500, SHARE=250))
         file = self.file(*(f"user{it:05} {RECORD}" for it in range(1200)))
@@ -149,7 +149,8 @@ class Imports(Commands):
         self.assertNotIn("hunter2", found)
 
     def test_names_with_spaces(self):
-        """Names with spaces may be meant, or be a field of another file: the import names them."""
+        """Names with spaces may be intended, or be a field of another file format: the import lists
+        them."""
         file = self.file(f"ann {RECORD}", f"ben lee {RECORD}", f"cid x {RECORD}")
         said, error = self.streams("import", file)
         self.assertEqual(said, "3 added, 0 there already\n")
@@ -169,8 +170,8 @@ class Imports(Commands):
 
 class Exports(Commands):
     def test_an_export_is_an_import(self):
-        """An export has all accounts with a record; the command reports each account that it leaves
-        out."""
+        """An export has all accounts with a record; the command reports each account that it
+        omits."""
         rows = {"ann": RECORD, "b\u00e9 two": TWO, "cid": FOREIGN}
         self.insert({**rows, "none": None})
         said, error = self.streams("export")
@@ -187,7 +188,7 @@ class Exports(Commands):
         self.assertEqual({it["name"]: it["record"] for it in found}, {**rows, **odd})
 
     def test_a_name_that_is_another_line(self):
-        """`disable --show` removes no record of a name that reads as another line, except with
+        """`disable --show` removes no record of a name that looks like another line, except with
         --json."""
         self.insert({"a\nroot": RECORD})
         _, error = self.streams("disable", "--show", "a\nroot", status=6)

@@ -1,4 +1,4 @@
-"""The effect of a whole operation at a copy, and its costs."""
+"""The result of a whole operation on a copy, and its costs."""
 
 import asyncio
 import functools
@@ -75,7 +75,7 @@ class Peppers(Base):
     ROTATED += ((OLD, FOUR), (OLDER, FOUR), (LOW, FOUR))
 
     def test_a_record_is_of_one_secret(self):
-        """Each record is of one secret alone, also a record for an INSERT, which has its own
+        """Each record belongs to only one secret, even a record for an INSERT, which has its own
         salt."""
         accounts = self.accounts(self.NEW)
         self.assert_replies("reset ann one replaced", accounts)
@@ -165,7 +165,7 @@ class Foreign(Base):
         hook.assert_called_once_with(stands, password.encode())
 
     def test_an_answer_is_true_false_or_none(self):
-        """Any other answer would count as true: nothing is stored, and nobody is let in."""
+        """Any other answer would count as true: nothing is stored, and no login succeeds."""
 
         async def awaited(text, password):
             return True
@@ -216,7 +216,7 @@ class ForeignTasks(OnSqliteTasks, Foreign):
         executor = ThreadPoolExecutor(1, "hashes")
         self.addCleanup(executor.shutdown)
         self.assertRaises(TypeError, self.accounts, foreign=plain, executor=8)
-        with self.assertRaisesRegex(TypeError, "an executor is for AsyncAccounts alone"):
+        with self.assertRaisesRegex(TypeError, "only AsyncAccounts uses an executor"):
             Accounts(self.connect, self.dialect, LOW, executor=executor)
         for hook in (awaited, lambda *given: awaited(*given), functools.partial(awaited), plain):
             accounts = self.accounts(foreign=hook, executor=executor)
@@ -242,8 +242,8 @@ class ForeignTasks(OnSqliteTasks, Foreign):
 class Costs(Base):
     @each("ann", "bob", "nobody", "a\0b", "a\ud800")
     def test_each_look_costs_the_same_hashes(self, name):
-        """Each look costs one hash, and a change two: for an unknown name, without a record, and
-        for a wrong password."""
+        """Each operation without a change costs one hash, and a change two: for an unknown name,
+        without a record, and for a wrong password."""
         self.give("one")
         self.give(None, "bob")
         accounts = self.accounts()

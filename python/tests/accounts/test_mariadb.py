@@ -1,4 +1,4 @@
-"""Faults of a real server of MariaDB, trap by trap."""
+"""Faults of a real MariaDB server, one trap at a time."""
 
 import tempfile
 import tracemalloc
@@ -56,7 +56,7 @@ class OnMariaDB(engines.OnMariaDB, Base):
 
     @each(1267, 3988)
     def test_a_trigger_that_refuses_as_a_key_is_refused(self, number):
-        """`examine` finds a trigger under which no record can be written."""
+        """`examine` finds a trigger that prevents every write of a record."""
         self.create()
         self.give("one")
         self.execute(
@@ -71,7 +71,8 @@ class OnMariaDB(engines.OnMariaDB, Base):
 
     @each((1305, False), (2013, None), (1317, None))
     def test_a_mark_that_is_asked_for(self, number, is_held):
-        """A missing mark differs from a broken connection, after which the operation runs again."""
+        """A missing savepoint differs from a broken connection, after which the operation runs
+        again."""
         error = servers.pymysql.err.OperationalError(number, "planted")
         asked = self.dialect.is_held(scripted(error))
         if is_held is None:
@@ -91,7 +92,7 @@ class OnMariaDB(engines.OnMariaDB, Base):
         self.assert_replies("login ann one yes; change ann one two replaced", also=also)
 
     def test_uncommitted_reads(self):
-        """A look and a commit refuse READ UNCOMMITTED, in one statement and in a transaction."""
+        """A read and a commit refuse READ UNCOMMITTED, in one statement and in a transaction."""
         connect = self.setting("SET SESSION TRANSACTION ISOLATION LEVEL READ UNCOMMITTED")
         accounts, kept = self.accounts(connect=connect), connect()
         self.addCleanup(kept.close)
@@ -107,8 +108,8 @@ class OnMariaDB(engines.OnMariaDB, Base):
         self.assertIn("READ UNCOMMITTED", self.said(accounts))
 
     def test_a_connection_is_asked_once(self):
-        """The dialect asks a connection for its level once. A new connection with the id of an old
-        one is asked too."""
+        """The dialect asks a connection for its level only once. The dialect also asks a new
+        connection that has the id of an old one."""
         for _ in range(3):
             conn = self.connect()
             with self.statements("SHOW"):
@@ -132,7 +133,8 @@ class OnMariaDB(engines.OnMariaDB, Base):
             self.assertEqual(session.execute.call_args_list[1], mock.call("ROLLBACK"))
 
     def test_texts_that_come_as_bytes(self):
-        """Each operation, and `examine`, reports texts that come as bytes, before any hash."""
+        """Each operation, and `examine`, reports texts that the driver returns as bytes, before any
+        hash."""
         accounts = self.accounts(connect=self.setting(use_unicode=False))
         for act, *given in (
             (accounts.login, "ann", "one"),
@@ -143,7 +145,7 @@ class OnMariaDB(engines.OnMariaDB, Base):
                 self.assertRaisesRegex(StoreFault, "use_unicode is False", act, *given)
 
     def test_rows_are_read_as_they_are_sent(self):
-        """The command reads rows as the server sends them, and never holds all of them."""
+        """The command reads rows as the server sends them, and never keeps all of them."""
         large = "SELECT CONCAT('user', seq), REPEAT('x', 500) FROM seq_1_to_9000"
         self.execute(f"INSERT INTO users {large}")
         tracemalloc.start()
@@ -162,7 +164,7 @@ class OnMariaDB(engines.OnMariaDB, Base):
         self.assertIs(accounts.commit(slow).reply, Reply.CHANGED)
 
     def test_names_that_the_server_cuts_off(self):
-        """If a server that isn't strict cuts off a name, the operation leaves nothing behind."""
+        """If a server without strict mode truncates a name, the operation leaves nothing behind."""
         self.execute("DROP TABLE IF EXISTS accounts")
         self.execute(MariaDB("accounts", "name", "record").create())
         ((mode,),) = self.server.as_root("SELECT @@global.sql_mode")
@@ -183,7 +185,7 @@ class OnMariaDB(engines.OnMariaDB, Base):
         seen = dict(self.execute("SHOW SESSION VARIABLES"))
         fine = {"sql_mode": "STRICT_ALL_TABLES", "log_bin": "ON", "sync_binlog": "1"}
         self.assertTrue(set(fine) <= set(seen))
-        sync, galera = "wsrep_sync_wait lacks its bit 1", {"wsrep_on": "ON"}
+        sync, galera = "wsrep_sync_wait lacks bit 1", {"wsrep_on": "ON"}
         for more, *words in (
             ({},),
             ({"sync_binlog": "0"}, "sync_binlog is 0"),
@@ -201,8 +203,9 @@ class OnMariaDB(engines.OnMariaDB, Base):
         ("SET touched", "SIGNAL SQLSTATE '45000'; SET touched", True),
     )
     def test_a_statement_that_the_server_does_not_take(self, old, new, is_again):
-        """A server such as MySQL refuses the statement once, and then transactions do the changes.
-        A failure after the UPDATE undoes it within the statement, and a transaction follows."""
+        """A server such as MySQL refuses the statement once, and then the library uses transactions
+        for changes. A failure after the UPDATE undoes it within the statement, and a transaction
+        follows."""
         self.give("one")
         self.dialect = self.another_dialect()
         self.dialect.at_once = self.dialect.at_once.replace(old, new, 1)
@@ -216,9 +219,9 @@ class OnMariaDB(engines.OnMariaDB, Base):
         self.assertTrue(self.is_right("two"))
 
     def test_what_is_shown_early(self):
-        """An early shown commit is a fault if looks aren't confirmed; examine and torture have
+        """An early visible commit is a fault if answers aren't confirmed; examine and torture have
         --confirm too."""
-        said = "log_bin is OFF: a crash may lose a change by which a login was answered"
+        said = "log_bin is OFF: a crash may undo a change that a login has used"
         others = {"log_bin": "ON"}, {"log_bin": "OFF", "wsrep_on": "ON"}
         for seen in ({"log_bin": "OFF"}, {}, *others):
             words = () if seen in others else (said,)

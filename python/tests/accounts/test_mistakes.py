@@ -1,5 +1,5 @@
-"""Common mistakes, in Python and at a shell, and the words that each message must have: the message
-alone shows its reader what to type."""
+"""Common mistakes, in Python and at a shell, and the words that each message must contain: the
+message alone tells its reader what to type."""
 
 import asyncio
 import concurrent.futures
@@ -80,11 +80,11 @@ class InPython(Base):
         false."""
         self.assertIsNone(LOW.verify_and_rehash(RECORD, "one"))
         reply = self.accounts().login("ann", "two")
-        self.assertRaisesRegex(TypeError, "compare with Reply.YES", bool, reply)
+        self.assertRaisesRegex(TypeError, "compare it, for example with Reply.YES", bool, reply)
         self.assertNotEqual(reply, False)
 
     def test_calls_of_accounts(self):
-        """Python's own errors name missing arguments, and those too many."""
+        """Python's own errors name missing and excess arguments."""
         accounts, pool = self.accounts(), PerThread(self.no_connection)
         for act, words in (
             (lambda: accounts.login(email="ann", password="one"), "argument 'email'"),
@@ -95,7 +95,8 @@ class InPython(Base):
 
     @each(64, 128, 8191)
     def test_a_number_of_mebibytes(self, memory):
-        """Warns once in a process, at the caller's line; a user's filter may refuse it."""
+        """Warns once in each process, at the caller's line; a user's filter may turn the warning
+        into an error."""
         with mock.patch.object(_hashers, "_has_warned", False):
             with warnings.catch_warnings(record=True) as told:
                 warnings.simplefilter("always")
@@ -103,7 +104,7 @@ class InPython(Base):
                 PasswordHasher(memory_cost=memory, parallelism=1)
                 hasher.replace(time_cost=1)
             (one,) = told
-            said = f"memory_cost={memory} is {memory} KiB, a low cost: 64 MiB are 65536"
+            said = f"memory_cost={memory} means {memory} KiB, which is low: 64 MiB is 65536"
             self.assertEqual((str(one.message), one.filename), (said, __file__))
             self.assertIs(one.category, LowMemoryWarning)
         with mock.patch.object(_hashers, "_has_warned", False):
@@ -123,7 +124,7 @@ class InPython(Base):
         self.assertRaisesRegex(InvalidRecordError, "^(?!.*first)", LOW.verify, "one", "two")
 
     def test_pools(self):
-        """Each kind of accounts names the pools that it accepts, and not the refused one."""
+        """Each kind of accounts names the pools that it accepts, but not the refused one."""
 
         async def not_asked():
             raise AssertionError
@@ -153,14 +154,14 @@ class InPython(Base):
         (lambda it: AsyncAccounts(of_task(), it.dialect, LOW), r"Manager: PerUse\(connect\)"),
         (lambda it: it.accounts(patience="10"), "patience must be a number of seconds, not a str"),
         (lambda it: it.accounts(patience=None), "patience must be a number of seconds, not a None"),
-        (lambda it: it.accounts(executor=THREAD), "an executor is for AsyncAccounts alone"),
+        (lambda it: it.accounts(executor=THREAD), "only AsyncAccounts uses an executor"),
         (lambda it: it.accounts(upgrade_from=LOW.costs), "a list of costs, not a str"),
     )
     def test_what_stands_in_the_place_of_another(self, act, words):
         self.assertRaisesRegex(TypeError, words, act, self)
 
     def test_a_record_among_costs(self):
-        with self.assertRaisesRegex(InvalidRecordError, "upgrade_from has costs such as") as raised:
+        with self.assertRaisesRegex(InvalidRecordError, "upgrade_from needs costs such") as raised:
             self.accounts(HIGH, upgrade_from=[RECORD])
         self.assertNotIn(RECORD[-20:], str(raised.exception))
 
@@ -173,7 +174,7 @@ class InPython(Base):
             return made[-1]
 
         accounts = AsyncAccounts(PerUse(connect), self.dialect, LOW)
-        with self.assertRaisesRegex(TypeError, "no awaitable: use Accounts and PerThread"):
+        with self.assertRaisesRegex(TypeError, "an awaitable: use Accounts and PerThread"):
             asyncio.run(accounts.login("ann", "one"))
         (conn,) = made
         self.assertRaises(sqlite3.ProgrammingError, conn.execute, "SELECT 1")
@@ -197,7 +198,7 @@ class InPython(Base):
         for name, *new in (("login",), ("verify",), ("change", "new")):
             call = getattr(self.accounts(), name)
             self.assertRaisesRegex(
-                InvalidRecordError, "`foreign` that judges", call, "ann", "x", *new
+                InvalidRecordError, "`foreign` that checks", call, "ann", "x", *new
             )
 
     @each(
@@ -222,7 +223,7 @@ class AtAShell(support.Commands):
 
     @each(
         ("", "the following arguments are required: command"),
-        ("hash secret", "a word too many; a password is never an argument"),
+        ("hash secret", "one argument too many; a password is never an argument"),
         ("hash --time 3", "an unknown option, which isn't shown; is --passes meant?"),
         *((f"hash {it}=3", "is --passes meant?") for it in ("--iterations", "--time-cost", "-t")),
         ("hash --rounds 3", "is --passes meant?"),
@@ -243,7 +244,7 @@ class AtAShell(support.Commands):
         ("calibrate -k 64M", "is --memory meant?"),
         ("calibrate --treads 2", "is --threads meant?"),
         ("verify $2b$12$abc", "the record's scheme is 2b"),
-        ("verify =19=65536,t=3,p=4", "in single quotes a shell leaves its $ alone"),
+        ("verify =19=65536,t=3,p=4", "in single quotes, so that the shell keeps its $"),
     )
     def test_words(self, words, said):
         found = self.typed(*words.split(), status=1)[1]

@@ -1,5 +1,5 @@
-"""Names and passwords that no new account gets, at each door; accounts that have such a name; and
-the bytes of a typed password that are hashed."""
+"""Names and passwords that no new account may have, at each door; accounts that have such a name;
+and the bytes that are hashed for a typed password."""
 
 import inspect
 import unicodedata
@@ -41,7 +41,7 @@ class NewNames(Commands):
         return [name for (name,) in self.execute("SELECT name FROM users")]
 
     def test_each_door(self):
-        """The command's add and rename, an import, and an enrolment refuse them alike."""
+        """The command's add and rename, an import, and an enrolment refuse them in the same way."""
         accounts = self.accounts()
         self.command("add", "eve", given="one")
         for name, fault in NAMES:
@@ -77,7 +77,7 @@ class NewNames(Commands):
 
     @each(*(name for name, _ in NAMES))
     def test_accounts_that_have_one_by_now(self, name):
-        """Existing accounts with such names log in, get a new password or another name, and are
+        """Existing accounts with such names can log in, get a new password or another name, and be
         deleted."""
         accounts = self.accounts()
         self.execute("INSERT INTO users (name) VALUES (%s)", name)
@@ -91,7 +91,7 @@ class NewNames(Commands):
 
     @each("a\0b", "a\udcff")
     def test_names_that_no_column_holds(self, name):
-        """No account has such a name, so none gets it, and none is deleted."""
+        """No account has such a name, so no account can get it, and none is deleted."""
         for words in (("add", name), ("rename", "ada", name)):
             said = self.command(*words, given="one", status=1)
             self.assertEqual(said, "rigzumal: the column can't hold this name\n")
@@ -116,7 +116,7 @@ COMPOSED, APART = (unicodedata.normalize(it, "caf\u00e9 au lait") for it in ("NF
 
 class Rules(Base):
     def setters(self, accounts):
-        """Each way to give an account a password: the account `ann` has the record of "one"."""
+        """Each way to set an account's password: the account `ann` has the record of "one"."""
 
         def part(password):
             ticket = accounts.begin(Request(Kind.RESET, "ann", "", password))
@@ -144,8 +144,8 @@ class Rules(Base):
         ({"least_length": 0}, None, ""),
     )
     def test_a_new_one_is_long_enough(self, rule, refused, taken):
-        """A new password has a least number of characters, whatever their bytes; a present one may
-        be shorter."""
+        """A new password has a minimum number of characters, whatever their bytes; a present one
+        may be shorter."""
         accounts, before = self.set_up(**rule), self.stands()
         said = "at least 8 characters" if rule else "at least 1 character$"
         for setter in () if refused is None else self.setters(accounts):

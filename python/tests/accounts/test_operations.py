@@ -1,4 +1,4 @@
-"""The operations, whatever the engine: over SQLite, with threads and with asyncio."""
+"""The operations on any engine: over SQLite, with threads and with asyncio."""
 
 import asyncio
 import base64
@@ -47,8 +47,8 @@ class Operations(Base):
             self.assertIs(accounts.change("ann", other, "new"), Reply.WRONG, other)
 
     def test_changed_after_so_many_tries(self):
-        """A login whose upgrade never got stored isn't YES; an operation without a change answers
-        from the record that it read."""
+        """A login whose upgrade wasn't stored isn't YES; an operation without a change answers from
+        the record that it read."""
         accounts, turns = self.accounts(HIGH, tries=3), []
 
         def changed():
@@ -86,7 +86,7 @@ class Operations(Base):
             self.assertEqual(run(job), Answer(reply, stands, stands))
 
     def test_replicas_may_lag(self):
-        """A replaced copy gives no answer: the operation reads the primary."""
+        """A replaced copy doesn't determine the answer: the operation reads the primary."""
         stale = SqliteFile().connect()
         self.addCleanup(stale.close)
         stale.execute(self.dialect.create())
@@ -119,7 +119,7 @@ class Operations(Base):
         self.assertEqual(uses.mock_calls, [mock.call("replica"), mock.call("primary")])
 
     def test_a_late_replica_costs_one_hash(self):
-        """If the replica lags, the operation judges the primary's record, and doesn't read it
+        """If the replica lags, the operation checks the primary's record, and doesn't read it
         again."""
         stale = sqlite3.connect(":memory:", isolation_level=None)
         self.addCleanup(stale.close)
@@ -130,7 +130,7 @@ class Operations(Base):
             self.assert_replies("verify ann one yes", self.accounts(replica=replica))
 
     def test_a_replica_that_is_down(self):
-        """If the replica is down, logins and changes go on at the primary."""
+        """If the replica is down, logins and changes continue at the primary."""
         away = mock.Mock(side_effect=ConnectionRefusedError("nobody there"))
         accounts = self.accounts(replica=away, patience=0.0)
         self.assert_replies("login ann one yes; verify ann two no", accounts)
@@ -182,7 +182,7 @@ class Operations(Base):
                 self.assertEqual(len(uses), count)
 
     def test_a_login_whose_upgrade_waited(self):
-        """A login reads once more from a server that only reads, and its hash isn't wasted."""
+        """A login reads again from a read-only server, and its hash isn't wasted."""
         clock, accounts = [100.0], self.accounts(HIGH, patience=1.0)
         reads = sqlite3.OperationalError("database is locked")
         accounts._table.change = mock.AsyncMock(return_value=Undone(reads))
@@ -219,7 +219,7 @@ class Operations(Base):
         self.assertTrue(101.0 <= clock[0] < 102.0, clock)
 
     def test_a_connection_that_is_not_rolled_back_is_given_up(self):
-        """The server undid the transaction, and ROLLBACK fails: the connection is closed."""
+        """The server undid the transaction, but ROLLBACK fails: the connection is closed."""
         made = []
         accounts = self.accounts(connect=lambda: made.append(self.connect()) or made[-1])
         busy, table = sqlite3.OperationalError("database is locked"), accounts._table
@@ -241,7 +241,7 @@ class Operations(Base):
         self.assertTrue(self.is_right("one"))
 
     def test_a_login_goes_on(self):
-        """An upgrade's unknown outcome changes no answer."""
+        """The unknown outcome of an upgrade doesn't change the answer."""
         accounts = self.losing(before=True, times=1000, hasher=HIGH, patience=0.5)
         self.assert_replies("login ann one yes; login ann two no", accounts)
         self.assertIn("m=64,", self.stands())
@@ -261,10 +261,10 @@ class Operations(Base):
 
 
 class Tasks(engines.OnSqliteTasks, Base):
-    """Tests of coroutines alone."""
+    """Tests of coroutines only."""
 
     def test_a_hash_holds_up_no_task(self):
-        """Hashes run in other threads, those of two operations side by side."""
+        """Hashes run in other threads, and those of two operations run in parallel."""
         accounts, threads = self.accounts().core, set()
         work = accounts._judge.work
         both = threading.Barrier(2, timeout=LONGEST)

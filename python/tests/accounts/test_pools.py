@@ -1,4 +1,4 @@
-"""Pools, and their work when a connection comes back."""
+"""Pools, and what they do when a connection comes back."""
 
 import asyncio
 import itertools
@@ -23,7 +23,7 @@ class Alarm(BaseException):
 
 class Pool:
     """A pool over one connection, blocking and for asyncio, by its behaviour after an exception. A
-    pool that raises another exception acts as a rollback that fails on a broken connection."""
+    pool that raises another exception behaves like a failed rollback on a broken connection."""
 
     def __init__(self, way, conn, interrupt=Alarm):
         self.way, self.conn, self.interrupt = way, conn, interrupt
@@ -72,11 +72,11 @@ class OfTasks(OfThreads, engines.OnSqliteTasks):
 
 
 class Endings:
-    """A pool's end changes no answer to its caller."""
+    """The exit of a pool doesn't change the answer to its caller."""
 
     @each(*((it, StoreFault) for it in WAYS), *(("is_interrupted", it) for it in INTERRUPTS))
     def test_a_fault_is_said(self, way, wanted):
-        """The caller gets a job's exception, and an interrupt rather than that."""
+        """The caller gets a job's exception, and an interrupt in preference to it."""
         self.way, self.interrupt = way, wanted
         accounts = self.accounts()
         self.conn.execute("ALTER TABLE users RENAME TO gone")
@@ -105,14 +105,15 @@ class Endings:
 
     @each((True, "one"), (False, "two"))
     def test_an_interrupt_after_a_lost_answer(self, before, right):
-        """After an interrupt nobody finds out the outcome of a lost COMMIT."""
+        """After an interrupt nobody can find out the outcome of a lost COMMIT."""
         self.way = "is_interrupted"
         self.give("one")
         self.assertRaises(Alarm, self.losing(before).change, "ann", "one", "two")
         self.assertTrue(self.is_right(right))
 
     def test_a_pool_that_gives_nothing(self):
-        """A pool's exception before the start of a job reaches the caller, and nothing was done."""
+        """A pool's exception before the start of a job reaches the caller, and nothing is
+        stored."""
 
         class Shut(Pool):
             __enter__ = mock.Mock(side_effect=RuntimeError("the pool is shut"))
@@ -138,7 +139,7 @@ class Openings(Base):
     @each("opening", "using", "closing")
     def test_one_that_is_cancelled(self, place):
         """A task is cancelled while its connection opens, works or closes; in the end the
-        connection is closed. `connect` returns an awaitable that is no coroutine, as aiosqlite's
+        connection is closed. `connect` returns an awaitable that isn't a coroutine, as aiosqlite's
         does."""
         closed = mock.Mock()
 
@@ -176,8 +177,8 @@ class Openings(Base):
         closed.assert_called_once_with()
 
     def test_few_are_opened_at_a_time(self):
-        """Few connections open at a time: each holds up the loop for a while, and other ready tasks
-        wait for all."""
+        """Only a few connections open at a time: each one blocks the loop for a while, and other
+        ready tasks have to wait."""
         opening, most = [], []
 
         async def connect():
@@ -197,7 +198,7 @@ class Openings(Base):
 
 class OnePerThread(Base):
     def test_a_pool_that_is_closed(self):
-        """A closed pool is known by the name of its error, or of the error's base: psycopg_pool's
+        """The name of its error, or of the error's base, identifies a closed pool: psycopg_pool's
         is a kind of lost connection."""
         closed = type("PoolClosed", (sqlite3.OperationalError,), {})
         ours = type("OurPoolIsClosed", (closed,), {})
@@ -309,7 +310,7 @@ class OnePerThread(Base):
     @each(None, KeyError)
     def test_the_outer_use_ends(self, kind):
         """The connection of the outer use is closed, however the use ends, even if a traceback
-        keeps the use. The thread's own connection stays."""
+        keeps the use alive. The thread's own connection stays."""
         pool = PerThread(self.connect)
         outer = pool()
         one = outer.__enter__()
@@ -332,7 +333,7 @@ class OnePerThread(Base):
         conn.close.assert_called_once_with()
 
     def test_a_connection_is_given_up_after_an_exception(self):
-        """A pool closes a connection after any exception, also after an interrupt and a cancelled
+        """A pool closes a connection after any exception, even after an interrupt or a cancelled
         task."""
         pool = PerThread(self.connect)
         self.assert_given_up(pool, KeyError, KeyboardInterrupt, asyncio.CancelledError, Alarm)

@@ -1,4 +1,4 @@
-"""Faults of a real server of PostgreSQL, trap by trap."""
+"""Faults of a real PostgreSQL server, one trap at a time."""
 
 import asyncio
 import contextlib
@@ -27,7 +27,7 @@ class OnPostgres(engines.OnPostgres, Base):
             self.execute(sql)
 
     def test_a_constraint_that_is_judged_at_commit(self):
-        """The server has rolled back: the operation sends nothing again, and the outcome isn't
+        """The server has rolled back: the operation isn't sent again, and its outcome isn't
         unknown."""
         when = "ON users DEFERRABLE INITIALLY DEFERRED"
         refuses = "RAISE EXCEPTION USING MESSAGE = NEW.record;"
@@ -43,7 +43,7 @@ class OnPostgres(engines.OnPostgres, Base):
 
     @each("22P02", "22021", "22P05")
     def test_a_trigger_that_refuses_as_a_key_is_refused(self, state):
-        """A trigger fails as a refused key does, for example on reading a setting as a number:
+        """A trigger fails like a refused key, for example when it reads a setting as a number:
         `examine` finds that no record can be written."""
         self.create()
         self.give("one")
@@ -57,7 +57,7 @@ class OnPostgres(engines.OnPostgres, Base):
     def test_row_security_without_a_policy(self):
         """Row security without a policy hides all rows from a role, so each login would be
         NO_ACCOUNT."""
-        said = "row security shows this role no row"
+        said = "row security hides every row from this role"
         self.execute("ALTER TABLE users ENABLE ROW LEVEL SECURITY")
         role = self.of_role("SELECT, UPDATE")
         accounts = self.accounts(connect=role)
@@ -81,7 +81,8 @@ class OnPostgres(engines.OnPostgres, Base):
 
     @each("uuid", "kinds")
     def test_a_policy_that_reads_no_row(self, kind):
-        """A session that can't read its own setting is a fault, and not an unknown name."""
+        """A session that can't read its own setting has a fault, and doesn't have an unknown
+        name."""
         self.execute("DROP TYPE IF EXISTS kinds CASCADE")
         self.execute("CREATE TYPE kinds AS ENUM ('ann')")
         self.create()
@@ -105,7 +106,7 @@ class OnPostgres(engines.OnPostgres, Base):
         "CREATE CONSTRAINT TRIGGER tr AFTER UPDATE ON users DEFERRABLE INITIALLY DEFERRED",
     )
     def test_a_trigger_that_warns(self, when):
-        """A trigger, for example one for auditing, warns: each change is stored once, and its
+        """A trigger, for example for auditing, causes warnings: each change is stored once, and its
         COMMIT counts."""
         self.execute("DROP TABLE IF EXISTS audit")
         self.execute("CREATE TABLE audit (record text)")
@@ -159,8 +160,8 @@ class OnPostgres(engines.OnPostgres, Base):
 
     def test_a_commit_that_answers_rollback(self):
         """A caller that swallows a statement's error has a failed transaction, whose COMMIT raises
-        nothing. The operation raises a fault at once, and looks for no outcome: nothing was
-        done."""
+        nothing. The operation raises a fault at once, and doesn't search for an outcome: nothing
+        was stored."""
         accounts, calls = self.accounts(patience=60.0), []
 
         def swallows(conn, reply):
@@ -183,7 +184,7 @@ class OnPostgres(engines.OnPostgres, Base):
     # ---- imports and exports
 
     def test_rows_are_read_as_they_are_sent(self):
-        """After the first row the statement isn't at its end, so nothing holds all rows."""
+        """After the first row the statement isn't at its end, so nothing stores all rows."""
         self.execute("INSERT INTO users SELECT 'user' || it FROM generate_series(1, 9) AS it")
         made, connect = [], lambda: made.append(self.connect()) or made[-1]
         rows = _import.Rows(PerThread(connect), self.dialect).every()
@@ -245,7 +246,7 @@ class OnPostgres(engines.OnPostgres, Base):
 
     @each("number", "name", "made", "came", "put")
     def test_columns_of_any_name_are_copied(self, name):
-        """The table's columns may have the names of those in the tables that a copy uses."""
+        """The table's columns may have the same names as those of the tables that a copy uses."""
         self.dialect = self.another_dialect(key=name)
         self.execute("DROP TABLE users")
         self.execute(f"CREATE TABLE users ({name} text PRIMARY KEY, record text, more int)")
@@ -255,7 +256,7 @@ class OnPostgres(engines.OnPostgres, Base):
         self.assertTrue(words.copies)
 
     def test_what_can_not_be_copied(self):
-        """A role may create no temporary table, or a trigger writes another record: the copy is
+        """A role may not create temporary tables, or a trigger writes another record: the copy is
         undone, and the statements for all engines follow."""
         lines = [(f"user{it}", RECORD) for it in range(40)]
         connect = self.of_role("SELECT, INSERT, UPDATE")
@@ -279,7 +280,8 @@ class OnPostgres(engines.OnPostgres, Base):
 
     @contextlib.contextmanager
     def cancelled_waits(self):
-        """Cancels waits for a standby, as a person may; afterwards the server needs no standby."""
+        """Cancels waits for a standby, as an administrator may; afterwards the server needs no
+        standby."""
         stop, cancelled, killer = threading.Event(), [], self.another()
         sql = "SELECT pg_cancel_backend(pid) FROM pg_stat_activity"
         self.server.set(synchronous_standby_names="nobody")
@@ -318,8 +320,8 @@ class OnPostgres(engines.OnPostgres, Base):
         self.assertGreater(len(cancelled), 1)
 
     def test_it_waits_for_the_standby(self):
-        """A plain look may answer from a record that the standby lacks; a confirmed look never
-        does."""
+        """An unconfirmed answer may depend on a record that the standby lacks; a confirmed one
+        never does."""
         plain, confirming = self.accounts(), self.accounts(confirm=True, patience=0.5)
         with self.cancelled_waits() as cancelled:
             self.assertIs(plain.verify("ann", "one"), Reply.YES)

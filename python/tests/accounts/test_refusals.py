@@ -43,7 +43,7 @@ class Arguments(Base):
         self.accounts(tries=1, patience=0.0)
 
     def test_words_for_kinds(self):
-        """A word in place of a Kind is refused, before any connection is used."""
+        """A string instead of a Kind is refused before any connection is used."""
         accounts = self.accounts(connect=self.no_connection)
         for kind in ("change", "CHANGE", 3, None, Reply.REPLACED):
             with self.subTest(kind=kind):
@@ -67,12 +67,12 @@ class Arguments(Base):
 
         nothing = type("Nothing", (), {})
         for pool in (self.connect, awaited, tasks, nothing):
-            with self.assertRaisesRegex(TypeError, "gives connections by `with`, .* returned a"):
+            with self.assertRaisesRegex(TypeError, "lends connections by `with`, .* returned a"):
                 Accounts(pool, self.dialect, LOW).verify("ann", "one")
             with self.assertRaisesRegex(TypeError, "an awaitable: use AsyncAccounts"):
                 self.accounts(connect=awaited).verify("ann", "one")
         for pool in (self.connect, awaited, nothing):
-            with self.assertRaisesRegex(TypeError, "gives connections by `async with`"):
+            with self.assertRaisesRegex(TypeError, "lends connections by `async with`"):
                 Awaited(AsyncAccounts(pool, self.dialect, LOW)).verify("ann", "one")
 
     @each(
@@ -88,15 +88,15 @@ class Arguments(Base):
             worked = Worked(Ticket(Request(Kind.RESET, key), None), Reply.ENROLLED, "x")
             acts = [(getattr(accounts, it), key, "x") for it in ("verify", "login", "enrol")]
             for act, *given in (*acts, (accounts.commit_in, self.conn, worked)):
-                with self.hashes(0), self.assertRaisesRegex(TypeError, "the keys are"):
+                with self.hashes(0), self.assertRaisesRegex(TypeError, "a key must be"):
                     act(*given)
         for wrong in (float, list, bool):
             self.assertRaises(TypeError, kind, "users", "name", "record", wrong)
 
     @each((str, "a\0"), (str, "\ud800"), (int, 2**63), (int, -(2**63) - 1))
     def test_keys_that_no_column_holds(self, key_type, key):
-        """No operation asks a server for a key that no column holds, whatever copy the caller
-        passes."""
+        """No operation queries a server for a key that no column can store, whatever copy the
+        caller passes."""
         dialect = self.another_dialect(key_type=key_type)
         accounts = self.accounts(dialect=dialect, connect=self.no_connection)
         self.assertIs(accounts.login(key, "x"), Reply.NO_ACCOUNT)
@@ -109,7 +109,7 @@ class Arguments(Base):
         self.conn.execute("ROLLBACK")
 
     def test_columns_that_do_not_exist(self):
-        """SQLite reads a misspelt column such as "emial" as a text, so the operation refuses the
+        """SQLite treats a misspelt column such as "emial" as a string, so the operation refuses the
         dialect."""
         self.give("one", "emial")
         for names in ({"key": "emial"}, {"record": "recrod"}):
@@ -121,7 +121,7 @@ class Arguments(Base):
         self.assertTrue(self.is_right("one", "emial"))
 
     def test_names_of_subclasses_of_str(self):
-        """A name of a subclass of str is the text that it holds, even if its `str` shows
+        """A name of a subclass of str counts as the text that it contains, even if its `str` shows
         another."""
         key = enum.Enum("Role", {"ANN": "ann"}, type=str).ANN
         accounts = self.accounts()
@@ -299,7 +299,8 @@ class Errors(Base):
         with self.assertRaises(Unavailable) as raised:
             accounts.verify("ann", "x")
         found = str(raised.exception)
-        self.assertTrue(found.startswith("no server did the operation in time: ConnectionError: "))
+        begins = "no server completed the operation in time: ConnectionError: "
+        self.assertTrue(found.startswith(begins))
         self.assertIn(said, found)
         self.assertNotIn("hunter2", found)
         self.assertLess(len(found), 500)
@@ -342,6 +343,6 @@ class Errors(Base):
     def test_a_reply_is_no_truth_value(self):
         """`if accounts.login(..)` would let everybody in."""
         for reply in (*map(self.accounts().login, ("ann", "ann"), ("one", "two")), *Reply):
-            with self.assertRaisesRegex(TypeError, "compare with Reply.YES"):
+            with self.assertRaisesRegex(TypeError, "compare it, for example with Reply.YES"):
                 if reply:
                     self.fail("it was let in")

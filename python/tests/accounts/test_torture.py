@@ -28,7 +28,7 @@ class Tortures(Base):
         return commanded(command.main, *given, *words, status=status)
 
     def run_one(self, **given):
-        """The logs of a short run of two processes, as read."""
+        """The parsed logs of a short run of two processes."""
         given = {"processes": 2, "seconds": 1.0, "folder": self.logs, **given}
         self.torture = torture.Torture(self.server.url, **given)
         with contextlib.redirect_stderr(io.StringIO()):
@@ -91,7 +91,7 @@ class Tortures(Base):
     )
     def test_everything_is_called(self, name, way):
         """A torture calls whole operations, some with a statement of their own, operations in
-        parts, in a caller's transaction, and logins. An exception of a process is a fault."""
+        parts, in a caller's transaction, and logins. An exception in a process is a fault."""
 
         broken = lambda accounts: setattr(accounts, name, mock.Mock(side_effect=RuntimeError))
         mix = {"login" if name == "login" else "change": 1}

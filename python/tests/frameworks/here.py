@@ -1,5 +1,5 @@
-"""The paths of the package and the tests. Each test imports this first, so that the test and its
-processes find them."""
+"""The paths of the package and the tests. Each test imports this module first, so that the test and
+its processes find these paths."""
 
 import os
 import pathlib

@@ -1,6 +1,6 @@
 """The login page as its tests serve it, and the requests of a browser, written by hand.
 
-DATABASE may name a PostgreSQL.
+DATABASE may name a PostgreSQL database.
 """
 
 import contextlib
@@ -59,7 +59,7 @@ class Browser:
         return status
 
     def csrf(self, path="/login"):
-        """The token of the first form that this browser is shown."""
+        """The token in the first form that this browser receives."""
         for page in (path, "/login", "/"):
             self.ask("GET", page)
             found = re.search('name="csrf" value="([^"]*)"', self.text)
@@ -117,7 +117,7 @@ class Page(Case):
         self.assertEqual(self.ann.sign_up(self.name), 303)
 
     def at(self, moment):
-        """Sets the clock to this time, for a `with`."""
+        """Sets the clock to this time during a `with` block."""
         return mock.patch.object(store.time, "time", lambda: moment)
 
     def opens(self, password, name=None):
@@ -126,7 +126,7 @@ class Page(Case):
 
 
 class Served(Case):
-    """The program as its own process, in a folder of its own."""
+    """The program in a separate process and folder."""
 
     seconds = 900
 

@@ -1,4 +1,4 @@
-"""Records of low costs, and acts of another process at the wrong moment."""
+"""Records with low costs, and acts of another process at the wrong moment."""
 
 import contextlib
 import functools
@@ -23,7 +23,7 @@ class Argon2(Argon2PasswordHasher):
 
 
 def cheap(memory=64):
-    """The costs of new records, for a `with`."""
+    """The costs of new records during a `with` block."""
     return mock.patch.multiple(Argon2PasswordHasher, memory_cost=memory, time_cost=1, parallelism=1)
 
 
@@ -38,7 +38,7 @@ class Cheap:
         self.enterContext(cheap())
 
     def right(self, password):
-        """Whether the password is that of the row's record."""
+        """Whether the password is right for the row's record."""
         return is_right(self.ann, password)
 
     def reset(self, password):
@@ -84,7 +84,7 @@ def awaited(call, *given, **named):
 
 
 def meanwhile(act):
-    """Calls `act` once, after the next password was judged, for a `with`."""
+    """Calls `act` once, after the next check of a password, during a `with` block."""
     verify, left = Argon2PasswordHasher.verify, [act]
 
     def judge(hasher, password, encoded):
@@ -98,7 +98,7 @@ def meanwhile(act):
 
 @contextlib.contextmanager
 def before_update(act, turns=1):
-    """Calls `act` before each of the next UPDATEs of a user, for a `with`."""
+    """Calls `act` before each of the next UPDATEs of a user, during a `with` block."""
     left = [act] * turns
 
     def run(execute, sql, params, many, context):
@@ -112,7 +112,7 @@ def before_update(act, turns=1):
 
 
 def rows(user):
-    """The row of a user, by a query of its own."""
+    """The row of a user, from a separate query."""
     return user.__class__._base_manager.filter(pk=user.pk)
 
 
@@ -139,13 +139,13 @@ def stands(user):
 
 
 def is_right(user, password):
-    """Whether the password is that of the row's record."""
+    """Whether the password is right for the row's record."""
     return hashers.check_password(getattr(user, "pepper", "") + password, stands(user))
 
 
 @contextlib.contextmanager
 def undone():
-    """A transaction that is rolled back, for a `with`."""
+    """A transaction that is rolled back, as a `with` block."""
     with contextlib.suppress(KeyError), transaction.atomic():
         yield
         raise KeyError

@@ -150,7 +150,7 @@ class Logins(Ann, TestCase):
         User.objects.create_user("una")  # no usable password
 
     def costs(self, name, password):
-        """Whether the user is let in, the lengths of the hashed passwords, and the number of
+        """Whether the login succeeds, the lengths of the hashed passwords, and the number of
         queries."""
         hashing = mock.patch.object(rigzumal, "argon2", side_effect=rigzumal.argon2)
         with hashing as hashed, CaptureQueriesContext(connections["default"]) as queries:
@@ -158,8 +158,9 @@ class Logins(Ann, TestCase):
         return user, [len(it.args[0]) for it in hashed.call_args_list], len(queries)
 
     def test_a_login_costs_one_hash_and_two_queries(self):
-        """A refused user can't be told from a missing one, nor by a round trip. A long password
-        takes as long for each name, and so does text without UTF-8."""
+        """A refused user can't be distinguished from a missing one, not even by the number of round
+        trips. A long password takes the same time for each name, and so does a text that UTF-8
+        can't encode."""
         of_django, wrong = hashers.UNUSABLE_PASSWORD_SUFFIX_LENGTH, ("wrong", "x" * 5000, "")
         for names, password, costs in (
             *(("ann nobody ina", it, (None, [len(it)], 2)) for it in wrong),
@@ -204,7 +205,7 @@ class Logins(Ann, TestCase):
 
     @each(*itertools.product((OURS, THEIRS), ([OURS, THEIRS], [THEIRS, OURS], [OURS], [THEIRS])))
     def test_sessions_of_djangos_backend(self, begun, listed):
-        """Sessions of Django's backend go on while it is listed behind ours, and end when it
+        """Sessions of Django's backend continue while it is listed after ours, and end when it
         isn't."""
         self.client.force_login(self.ann, backend=begun)
         with override_settings(AUTHENTICATION_BACKENDS=listed):
@@ -221,7 +222,7 @@ class Databases(Cheap, TestCase):
         return hashers.check_password(password, self.there().password)
 
     def test_the_database_that_is_written(self):
-        """A login uses the database that is written, and not the one that is read, whose copy
+        """A login uses the database that is written, instead of the one that is read, whose copy
         lags."""
         with override_settings(DATABASE_ROUTERS=[Router("default", "other")]):
             ann = User.objects.db_manager("other").create_user("ann", password="old")

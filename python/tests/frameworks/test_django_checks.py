@@ -201,7 +201,7 @@ class ScryptLike(hashers.MD5PasswordHasher):
 
 
 class EmailBackend(ModelBackend):
-    """The usual snippet: a backend of a project's own."""
+    """The usual snippet: a project's own backend."""
 
     def authenticate(self, request, username=None, password=None, **kwargs):
         user = User.objects.get(email=username)

@@ -70,8 +70,8 @@ class Forms(Ann, TestCase):
 
     @each((False, 2), (True, 4))
     def test_a_change_costs_two_hashes(self, is_reset, hashes):
-        """A change costs two hashes, as Django's: it judges the old password once, if its record is
-        still in the row."""
+        """A change costs two hashes, as in Django: it checks the old password once, if its record
+        is still in the row."""
         self.reset("old")
         with mock.patch.object(rigzumal, "argon2", side_effect=rigzumal.argon2) as hashed:
             form = forms.PasswordChangeForm(User.objects.get(), GIVEN)
@@ -125,7 +125,7 @@ class Views(Ann, TestCase):
 
     @each("/accounts/password_change/", "/admin/password_change/")
     def test_a_change(self, change):
-        """A form that fails undoes no reset either; Django's own form would upgrade the old
+        """A form that fails doesn't undo a reset either; Django's own form would upgrade the old
         record."""
         bad = {**GIVEN, "new_password2": "another"}
         for given, text in ((GIVEN, "old password was entered incorrectly"), (bad, "")):

@@ -113,11 +113,11 @@ class Compared(Written):
         self.assertEqual(stands(user), before)
 
     def lazy(self):
-        """A user as `request.user` is."""
+        """A user in the form of `request.user`."""
         return SimpleLazyObject(self.again)
 
     def ways(self):
-        """The ways to get a user whose password is "old"."""
+        """The ways to obtain a user whose password is "old"."""
 
         def made():
             self.model.objects.all().delete()
@@ -331,7 +331,8 @@ class Committed(Compared, TransactionTestCase):
         self.assertEqual(self.there.get().password, "reset")
 
     def test_nobody_is_told_of_a_password_that_was_never_put(self):
-        """No validator hears of a password after a lost save, or after the user was read anew."""
+        """No validator is told of a password after a lost save, or after the user was read
+        again."""
         self.reset("reset")
         with mock.patch("django.contrib.auth.password_validation.password_changed") as told:
             self.lose(self.ann, "new")

@@ -126,7 +126,7 @@ class AsDjangos(Cheap, TransactionTestCase):
 
     @beside(("(models.Model,)", None))
     def test_a_migration_names_what_it_does_of_djangos(self, model, ann):
-        """A migration names Django's bases, so the package can be removed without an edit of any
+        """A migration names Django's bases, so the package can be removed without editing any
         migration."""
         state = ModelState.from_model(model)
         return MigrationWriter.serialize(state.bases)[0], state.options.get("verbose_name")

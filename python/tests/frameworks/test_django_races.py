@@ -115,8 +115,7 @@ class Races(Cheap, TransactionTestCase):
 
     @each(*itertools.product((User, Person, Peppered), ("authenticate", "check", "change")))
     def test_how_often(self, model, act):
-        """An operation that loses seven times takes effect, and one that loses eight times
-        doesn't."""
+        """An operation that loses seven times takes effect; one that loses eight times doesn't."""
         for turns in (TRIES - 1, TRIES):
             user = self.signed_up(model)
             again = before_update(lambda: reset_elsewhere(user, OLD), turns)
@@ -158,7 +157,7 @@ class Races(Cheap, TransactionTestCase):
         self.assertEqual([it for it in (NEW, "reset", OLD) if is_right(user, it)], done or [OLD])
 
     def test_djangos_own_undoes_the_change(self):
-        """The reason for all of this: Django's backend puts the old password back."""
+        """The reason for all of this: Django's backend restores the old password."""
         ann = self.signed_up(User)
         with override_settings(AUTHENTICATION_BACKENDS=[THEIRS]), cheap(memory=128):
             with meanwhile(lambda: reset_elsewhere(ann, "reset")):

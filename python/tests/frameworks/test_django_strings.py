@@ -1,4 +1,4 @@
-"""The hashers' strings, beside those of Django's own."""
+"""The hashers' strings, compared with those of Django's own hashers."""
 
 import base64
 import hashlib
@@ -124,7 +124,7 @@ class Strings(unittest.TestCase):
             self.assertIs(hasher.must_update(record), True)
 
     def test_broken(self):
-        """With a broken record every password is wrong, and nothing of the record is shown."""
+        """With a damaged record every password is wrong, and nothing of the record is shown."""
         self.enterContext(cheap())
         argon2, scrypt = Argon2(), Scrypt()
         good = argon2.encode("secret", "somesaltsomesalt")

@@ -147,7 +147,8 @@ class Forms(Page):
 
 class Sessions(Page):
     def test_cookies(self):
-        """No cookie known before is a session, and a session's own is kept as a hash."""
+        """No cookie known before becomes a session, and a session's own cookie is stored as a
+        hash."""
         secure = Browser(scheme="https"), "__Host-login", {"Secure"}
         for browser, name, flags in ((Browser(), "login", set()), secure):
             browser.ask("GET", "/login")
@@ -255,7 +256,7 @@ class Limits(Page):
         return Browser().login(name, NEW)
 
     def refused_after(self, limit, act, right=200):
-        """This many tries are answered, and one more is refused."""
+        """This many tries get an answer, and one more is refused."""
         found = [act(turn) for turn in range(limit + 1)]
         self.assertEqual(found, [right] * limit + [429])
 
@@ -274,7 +275,7 @@ class Limits(Page):
         self.assertEqual((self.opens(OLD, other), self.guess(other)), (False, 429))
 
     def test_a_stolen_session(self):
-        """A stolen session has ten guesses of the old password, and the owner has ten more."""
+        """A stolen session allows ten guesses of the old password, and the owner has ten more."""
         owner = Browser()
         self.assertEqual(owner.login(self.name, OLD), 303)
         self.refused_after(10, lambda turn: self.ann.change(old=NEW))
@@ -287,9 +288,9 @@ class Limits(Page):
             self.assertTrue(self.opens(OLD))
 
     def test_addresses(self):
-        """Right logins don't count. Fifty wrong ones of an address do, whatever the name, and so do
-        tries to sign up with a taken name, which are guesses too. An address's sign-ups count as
-        well."""
+        """Right logins don't count. Fifty wrong logins from an address do count, whatever the name,
+        and so do tries to sign up with a taken name, which are guesses too. An address's sign-ups
+        count as well."""
         taken = {"name": self.name, **twice(NEW)}
         guess = lambda office, turn: office.login(f"x{turn}{self.name}", NEW)
         for act in (guess, lambda office, turn: office.post("/signup", **taken)):
@@ -326,8 +327,8 @@ class Limits(Page):
             self.refused_after(10, lambda turn: self.guess(self.name))
 
     def test_tries_count_before_the_hash(self):
-        """As many tries at once are answered as one after another. Each further try costs no hash,
-        no connection and no write."""
+        """The same number of simultaneous tries are answered as of successive ones. Each further
+        try costs no hash, no connection and no write."""
         work = mock.patch.object(Judge, "work", autospec=True, side_effect=Judge.work)
         with work as worked, ThreadPoolExecutor(20) as pool:
             found = list(pool.map(self.guess, [self.name] * 20))

@@ -133,7 +133,7 @@ class Shell(unittest.TestCase):
         """Each word of the command counts, and a message reports costs that take too long."""
         calls, output, faults = self.asked(*words.split())
         self.assertEqual((calls, output), ([asked], f"$argon2id$v=19${costs}\n"))
-        self.assertEqual("least costs" in faults, advice is not None)
+        self.assertEqual("lowest costs" in faults, advice is not None)
         self.assertIn(advice or "", faults)
 
     @each("the machine is busy", None)

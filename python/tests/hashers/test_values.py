@@ -86,7 +86,7 @@ class Values(unittest.TestCase):
         ):
             with self.subTest(given=given, named=named):
                 self.assertRaisesRegex(
-                    TypeError, "^the values are", rigzumal.Parts, *given, **named
+                    TypeError, "^the constructor needs", rigzumal.Parts, *given, **named
                 )
 
     def test_a_change_leaves_the_others(self):

@@ -1,7 +1,7 @@
 """The differences between databases: a file for each driver.
 
-Your own dialect is a subclass of `Dialect`, which documents each part. The tests of
-every engine, `python/tests/accounts/of_engines.py`, can run over it.
+Your own dialect is a subclass of `Dialect`, which documents each part. The tests of every engine,
+`python/tests/accounts/of_engines.py`, can also test your dialect.
 """
 
 from rigzumal.accounts.dialects._dialect import Dialect, Mode, Verdict

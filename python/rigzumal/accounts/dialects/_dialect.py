@@ -18,7 +18,7 @@ LONGEST_WRITTEN: Final = 152  # bytes of a record of accounts, with the longest 
 NOT_NULL: Final = "record-not-null"
 CRASH_LOSES: Final = "a crash loses acknowledged changes"
 POWER_CUT_LOSES: Final = "a power cut loses acknowledged changes"
-ANOTHER_RECORD: Final = "the row has another record than the one that was written"
+ANOTHER_RECORD: Final = "the row's record differs from the one that was written"
 NO_TRANSACTION: Final = "no transaction is open on the connection"
 LEFT_OPEN: Final = (
     "a transaction is open on the connection: after any exception, a pool closes what it"
@@ -31,16 +31,16 @@ _IN_NO_COLUMN: Final = re.compile("[\0\ud800-\udfff]")
 
 
 class Verdict(enum.Enum):
-    """The meaning of a driver's error before a COMMIT was sent."""
+    """The meaning of a driver's error that occurred before COMMIT was sent."""
 
     AGAIN = "the server rolled the transaction back: try again"
-    ELSEWHERE = "the server accepts no changes for now: try another, or later"
+    ELSEWHERE = "the server accepts no changes now: try another server, or try later"
     LOST = "this connection is broken; another may work"
     REFUSED = "the server rejects the statement, and would reject it again"
 
 
 def is_of_driver(raised: BaseException) -> bool:
-    """Whether a driver or the network raised the error, and not the program."""
+    """Whether the driver or the network raised the error, instead of the program."""
     if isinstance(raised, OSError):
         return True
     return any(kind.__name__ == "Error" for kind in type(raised).__mro__)
@@ -62,20 +62,20 @@ class Mode(NamedTuple):
 
 
 class Dialect:
-    """The statements for one table, and the particulars of an engine.
+    """The statements for one table, and the properties of an engine.
 
-    A dialect holds the names of the service's own table and columns, and no connection.
-    Each statement compares the record byte by byte, with NULL equal to NULL.
+    A dialect contains the names of the service's own table and columns, but no connection. Each
+    statement compares the record byte by byte, and treats NULL as equal to NULL.
 
     Args:
-        table: its name, with its schema in front if it isn't on the search path.
+        table: its name, preceded by its schema if that isn't on the search path.
         key: the column that names an account; it is unique.
         record: the column of the records; it may be NULL.
         key_type: the Python type of the key column: str, int or bytes; on PostgreSQL also
             uuid.UUID.
 
     Attributes:
-        key, record: the columns, as a statement has them.
+        key, record: the columns, in the form for statements.
         select: the statement that reads the record of a key.
         locked: the same, with the UPDATE's lock on the row until the transaction ends. A weaker
             lock, which two logins can hold, deadlocks if both then update the row.
@@ -84,7 +84,7 @@ class Dialect:
             statement.
         insert: adds the account of a key, without a record.
         every: reads all keys and records.
-        returns: whether the UPDATE answers with the record that it wrote.
+        returns: whether the UPDATE returns the record that it wrote.
         drivers: the modules whose errors are the driver's; if empty, each `Error` of the
             DB-API is one.
         execute_options: keywords of the driver's `execute`.
@@ -133,7 +133,7 @@ class Dialect:
         return (sql + self._unless_exists.format(k=self.key), *itertools.chain(*lines))
 
     def enrolling(self, lines: Sequence[Line]) -> Sequence[Any]:
-        """Writes records into rows that have none."""
+        """Writes records into rows without a record."""
         k, r, m = self.key, self.record, self.mark
         record = f"CASE {k}{f' WHEN {m} THEN {m}' * len(lines)} END"
         keys = ", ".join([m] * len(lines))
@@ -147,15 +147,16 @@ class Dialect:
         return (sql, *keys)
 
     async def add_all(self, session: Session, lines: Sequence[Line]) -> Optional[list[str]]:
-        """Adds many accounts in the engine's own way, in an open transaction; None if it has none.
+        """Adds many accounts in the engine's own way, in an open transaction; None without such a
+        way.
 
         The answer for each is "added", "there" or "another".
         """
         return None
 
     def rows_of(self, conn: Any, sql: str) -> Iterator[tuple[Any, ...]]:
-        """The rows of a statement without values, one by one as the server sends them: a table may
-        be large."""
+        """The rows of a statement without values, one at a time as the server sends them: a table
+        may be large."""
         cursor = conn.cursor()
         cursor.execute(sql)
         yield from iter(cursor.fetchone, None)
@@ -171,26 +172,26 @@ class Dialect:
         return f"{self.quote}{doubled}{self.quote}"
 
     def alone(self, sql: str) -> str:
-        """A statement without values, in a form in which no driver looks for placeholders."""
+        """A statement without values, in a form in which no driver searches for placeholders."""
         return sql.replace("%%", "%") if self.mark == "%s" else sql
 
     def check_key(self, key: object) -> None:
-        """Raises TypeError for a key of another type than the column's.
+        """Raises TypeError for a key whose type differs from the column's.
 
         MariaDB's `name = 0` finds every name that begins with no digit.
         """
         if type(key) is not self.key_type:
             wanted = self.key_type.__name__
-            raise TypeError(f"the keys are {wanted}, and this one {type(key).__name__}")
+            raise TypeError(f"a key must be {wanted}, not {type(key).__name__}")
 
     def can_stand(self, key: object) -> bool:
-        """Whether a column can hold the key; otherwise no such account exists."""
+        """Whether a column can store the key; otherwise no such account exists."""
         if isinstance(key, str):
             return key.isprintable() or not _IN_NO_COLUMN.search(key)
         return not isinstance(key, int) or -_BIGINT <= key < _BIGINT
 
     def check_new_key(self, key: object) -> None:
-        """Raises ValueError for a name that no new account gets; existing accounts may have it."""
+        """Raises ValueError for a name that only existing accounts may have."""
         if not isinstance(key, str):
             return
         bare = key.strip()
@@ -204,7 +205,7 @@ class Dialect:
     # ---- connections
 
     def mode(self, conn: Any) -> Mode:
-        """The mode of a connection; raises StoreFault if it is of another driver, and
+        """The mode of a connection; raises StoreFault if another driver opened it, and
         ConnectionError if it is closed."""
         raise NotImplementedError
 
@@ -217,7 +218,7 @@ class Dialect:
             raise StoreFault(LEFT_OPEN)
 
     async def within(self, session: Session) -> None:
-        """Refuses a caller's connection in autocommit, and a transaction of a wrong
+        """Refuses a caller's connection in autocommit, and a transaction with a wrong isolation
         level."""
         mode = self.mode(session.conn)
         if mode.is_autocommit and not mode.has_transaction:
@@ -233,11 +234,11 @@ class Dialect:
         await session.execute(self.begin)
 
     async def put(self, session: Session, after: Copy, key: Key, copy: Copy) -> Result:
-        """Writes a record if the row has the copy; an equal record is written too."""
+        """Writes a record if the row has the copy; also writes an equal record."""
         return await session.execute(self.update, after, key, copy)
 
     async def put_at_once(self, session: Session, after: Copy, key: Key, copy: Copy) -> int:
-        """Writes a record by one statement that commits; returns the number of touched rows."""
+        """Writes a record by one statement that commits; returns the number of affected rows."""
         raise NotImplementedError
 
     async def commit(self, session: Session) -> None:
@@ -248,7 +249,7 @@ class Dialect:
         """Marks an open transaction before a caller's hook, for `is_held`."""
 
     async def is_held(self, session: Session) -> bool:
-        """Whether the open transaction is the marked one, where one word of a hook can begin
+        """Whether the open transaction is the marked one, if a statement of a hook can begin
         another."""
         return True
 
@@ -262,17 +263,17 @@ class Dialect:
     # ---- errors
 
     def verdict(self, raised: BaseException) -> Verdict:
-        """The meaning of a driver's error that came before COMMIT was sent."""
+        """The meaning of a driver's error that occurred before COMMIT was sent."""
         raise NotImplementedError
 
     def is_drivers(self, raised: BaseException) -> bool:
-        """Whether the driver raised the error, and not the caller's code."""
+        """Whether the driver raised the error, instead of the caller's code."""
         if not self.drivers:
             return is_of_driver(raised) and not isinstance(raised, OSError)
         return type(raised).__module__.partition(".")[0] in self.drivers
 
     def lacks_key(self, raised: BaseException, key: Key) -> bool:
-        """Whether the column's character set lacks the key: no such account exists."""
+        """Whether the column's character set lacks the key: then no such account exists."""
         return isinstance(raised, UnicodeEncodeError)
 
     def gave_up(self, raised: BaseException) -> bool:
@@ -280,7 +281,7 @@ class Dialect:
         return self.verdict(raised) is Verdict.AGAIN
 
     def refuses_at_once(self, raised: BaseException) -> bool:
-        """Whether the server undid the statement: then a transaction may succeed, or show the
+        """Whether the server undid the statement: a transaction may then succeed, or show the
         reason."""
         return False
 
@@ -289,7 +290,7 @@ class Dialect:
         return ""
 
     def missing_name(self, raised: BaseException) -> str:
-        """The server's message if a table, a column or a right to it is missing. Otherwise it is
+        """The server's message if a table, a column or a right is missing. Otherwise the text is
         empty, since other messages may quote a row."""
         return ""
 
@@ -317,7 +318,7 @@ class Dialect:
         ]
 
     def common_faults(self, nullable: bool, unique: Collection[str]) -> Iterator[Fault]:
-        """The faults that a table of any engine may have.
+        """The faults that a table in any engine may have.
 
         `unique` has the expression of each unique index with one part: "" for the key itself.
         """
@@ -327,37 +328,38 @@ class Dialect:
         if "" in unique:
             return
         if any(self._is_of_one_case(it) for it in unique):
-            text = f"no index finds {self.key_name}: each look reads the whole table"
+            text = f"{self.key_name} has no index: each lookup reads the whole table"
             yield warning("key-not-indexed", text)
         else:
             text = f"{self.key_name} has no unique index of its own"
-            said = "two rows may have one name, and are then refused"
+            said = "operations refuse a name that two rows have"
             yield error("key-not-unique", f"{text}: {said}")
 
     def _is_of_one_case(self, indexed: str) -> bool:
-        """Whether an index is of lower(key) or upper(key): it too allows one row for each key."""
+        """Whether an index is of lower(key) or upper(key), which also allows one row for each
+        key."""
         name = rf"\(?[\"`\[]?{re.escape(self.key_name)}[\"`\]]?\)?"
         form = rf"(^|ON[^()]*\()(lower|upper)\({name}(::text)?\)\)?$"
         return bool(re.search(form, "".join(indexed.split()), re.I))
 
     def after_triggers(self, rows: Iterable[Sequence[object]]) -> Iterator[Fault]:
-        """Leaves triggers that run before the write to the trial, which shows their effect."""
+        """Reports triggers that run after the write: the trial shows the effect of the others."""
         for (name,) in rows:
             text = f"the trigger {name} may change what was written"
             yield warning("after-trigger", text)
 
     def key_faults(self, kind: str, fits: bool) -> Iterator[Fault]:
-        """A column that holds keys of another type."""
+        """Reports a column with keys of another type."""
         if not fits:
             wanted = self.key_type.__name__
             yield error("key-type", f"{self.key_name} is {kind}, and keys are {wanted}")
 
     def record_fault(self, text: str) -> Fault:
-        """A column that can't hold a record unchanged."""
+        """Reports a column that can't store a record unchanged."""
         return error("record-type", f"{self.record_name} is {text}")
 
     def length_faults(self, kind: str, length: int) -> Iterator[Fault]:
-        """A column that is too short for records of accounts, or of other programs."""
+        """Reports a column that is too short for records of accounts, or of other programs."""
         if length < LONGEST_WRITTEN:
             yield self.record_fault(f"{kind}: a record has up to {LONGEST_WRITTEN} bytes")
         elif length < LONGEST_RECORD:
@@ -365,13 +367,13 @@ class Dialect:
             yield warning("record-length", f"{self.record_name} is {kind}: {text}")
 
     def alphabet_faults(self, charset: str, unicode: Container[str]) -> Iterator[Fault]:
-        """A character set that lacks names."""
+        """Reports a character set that can't represent all names."""
         if self.key_type is str and charset not in unicode:
-            text = f"names outside of {charset} are no accounts"
+            text = f"no account can have a name outside of {charset}"
             yield warning("key-not-unicode", text)
 
     async def folded_names(self, session: Session) -> list[Fault]:
-        """Names that the key's column takes for one account, and a limiter of attempts for two.
+        """Reports names that the key column treats as one account, but a limiter as two.
 
         The column of a union has the collation of its first part, so the test needs no row.
         """

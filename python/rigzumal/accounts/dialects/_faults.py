@@ -9,8 +9,8 @@ from typing import Final
 
 
 class Severity(enum.Enum):
-    """An error loses acknowledged changes, answers wrongly or refuses a good operation; a warning
-    is worth knowing."""
+    """An error loses acknowledged changes, gives wrong answers or refuses a valid operation; a
+    warning reports a smaller risk."""
 
     ERROR = "error"
     WARNING = "warning"

@@ -1,4 +1,4 @@
-"""MariaDB and MySQL, by PyMySQL."""
+"""MariaDB and MySQL, with PyMySQL."""
 
 from __future__ import annotations
 
@@ -43,15 +43,15 @@ _LACKS: Final = (1267, 3988)
 
 
 class StatementTimeout(OSError):
-    """max_statement_time ended the statement, which was undone."""
+    """max_statement_time ended the statement, and the server undid it."""
 
 
 class MariaDB(Dialect):
-    """MariaDB by PyMySQL.
+    """MariaDB with PyMySQL.
 
-    Under a column's collation 'a' = 'A' and 'a' = 'a ' may be true, so statements compare bytes. An
-    UPDATE that changes nothing counts no row, unless the client asks for FOUND_ROWS. Since each
-    record has a fresh salt, the count is right in both cases.
+    With a column's collation, 'a' = 'A' and 'a' = 'a ' may be true, so statements compare bytes.
+    The server doesn't count rows that an UPDATE leaves unchanged, unless the client requests
+    FOUND_ROWS. Since each record has a fresh salt, the count is right in both cases.
     """
 
     quote = "`"
@@ -74,7 +74,7 @@ class MariaDB(Dialect):
         if not conn.open:
             raise ConnectionError("the connection is closed")
         if not getattr(conn, "use_unicode", True):
-            raise StoreFault("the connection's use_unicode is False: texts come as bytes")
+            raise StoreFault("use_unicode is False: the driver returns text as bytes")
         is_open = bool(conn.server_status & 1)  # SERVER_STATUS_IN_TRANS
         return Mode(conn.get_autocommit(), has_transaction=is_open)
 
@@ -115,7 +115,7 @@ class MariaDB(Dialect):
             raise StatementTimeout(_NOTHING_DONE, "max_statement_time is over")
         if stands == [(after,)]:
             return 1
-        fault = "max_statement_time ended the statement, and the row has another record"
+        fault = "max_statement_time ended the statement, but the row has another record"
         raise ConnectionError(fault)
 
     def refuses_at_once(self, raised: BaseException) -> bool:
@@ -202,7 +202,7 @@ class MariaDB(Dialect):
             faults.append(error("not-a-table", f"{t} is no table"))
         elif engine != "InnoDB":
             text = f"{t} is of {engine}, which has no transactions"
-            said = "a change that fails, or a hook's rows, may be kept all the same"
+            said = "a failed change, or the rows of a hook, may remain"
             faults.append(error("no-transactions", f"{text}: {said}"))
         rows = (await session.execute("SHOW SESSION VARIABLES")).rows
         seen = {name: value for name, value in rows}
@@ -230,7 +230,7 @@ class MariaDB(Dialect):
 
 
 class MySQL(MariaDB):
-    """MySQL by PyMySQL: like MariaDB, but without compound statements outside of a routine."""
+    """MySQL with PyMySQL: like MariaDB, but without compound statements outside of a routine."""
 
     key_sql = "VARCHAR(255) CHARACTER SET utf8mb4 COLLATE utf8mb4_0900_bin"
 
@@ -242,14 +242,14 @@ def shown_early(seen: dict[str, str]) -> tuple[Fault, ...]:
     """Without a binary log InnoDB shows a commit before its own log is on the disk."""
     if "ON" in (seen.get("log_bin"), seen.get("wsrep_on")):
         return ()
-    text = "log_bin is OFF: a crash may lose a change by which a login was answered"
+    text = "log_bin is OFF: a crash may undo a change that a login has used"
     return (warning("shown-early", text),)
 
 
 def of_server(seen: dict[str, str]) -> Iterator[Fault]:
-    """The faults of a session of MariaDB."""
+    """The faults of a MariaDB session."""
     if "STRICT_" not in seen["sql_mode"]:
-        yield warning("not-strict", "sql_mode isn't strict: long values are cut off")
+        yield warning("not-strict", "sql_mode isn't strict: the server truncates long values")
     level = seen.get("tx_isolation") or seen.get("transaction_isolation", "")
     if level == "READ-UNCOMMITTED":
         yield error("read-uncommitted", UNCOMMITTED)
@@ -260,7 +260,7 @@ def of_server(seen: dict[str, str]) -> Iterator[Fault]:
     if seen.get("log_bin") == "ON" and seen.get("sync_binlog") != "1":
         yield not_durable(f"sync_binlog is {seen.get('sync_binlog')}: {POWER_CUT_LOSES}")
     if seen.get("wsrep_on") == "ON" and not int(seen["wsrep_sync_wait"]) & 1:
-        text = "wsrep_sync_wait lacks its bit 1: a node may read replaced records"
+        text = "wsrep_sync_wait lacks bit 1: a node may read outdated records"
         yield error("no-sync-wait", text)
 
 

@@ -1,4 +1,4 @@
-"""PostgreSQL, and servers with its protocol, by psycopg 3."""
+"""PostgreSQL, and servers with its protocol, with psycopg 3."""
 
 from __future__ import annotations
 
@@ -38,10 +38,10 @@ STATEMENT_MODE: Final = (
 
 
 class Postgres(Dialect):
-    """PostgreSQL by psycopg 3, blocking or asynchronous.
+    """PostgreSQL with psycopg 3, blocking or asynchronous.
 
-    The UPDATE returns the record that it wrote, so that no second read is needed; RETURNING doesn't
-    show the effect of an AFTER trigger.
+    The UPDATE returns the record that it wrote, so that no second read is necessary; RETURNING
+    doesn't show the effect of an AFTER trigger.
     """
 
     # Its own level, whatever the session's default is: under READ COMMITTED an UPDATE
@@ -118,7 +118,8 @@ class Postgres(Dialect):
             raise StoreFault(f"the server answered {done.status} to COMMIT")
 
     async def _committed(self, session: Session, sql: str, *values: object) -> Result:
-        """A statement that commits, and that raises if the standby may lack it."""
+        """A statement that commits, and that raises an exception if the standby may lack the
+        change."""
         warnings: list[str] = []
 
         def handler(notice: Any) -> None:
@@ -138,9 +139,9 @@ class Postgres(Dialect):
         return done
 
     async def add_all(self, session: Session, lines: Sequence[Line]) -> list[str]:
-        """Adds lines with their records by COPY; returns "added", "there" or "another" for each.
+        """Adds the records of lines with COPY; returns "added", "there" or "another" for each line.
 
-        The call raises an exception if the server stored another record than the line's.
+        Raises an exception if the server stored a record other than the line's.
         """
         for sql in self._came:
             await session.execute(sql)
@@ -157,7 +158,8 @@ class Postgres(Dialect):
 
     @property
     def _came(self) -> tuple[str, str]:
-        """The statements that create tables for the lines, and for the stored ones among them."""
+        """The statements that create temporary tables for the lines, and for those that were
+        stored."""
         columns = f"0 AS number, {self.key} AS name, {self.record}::text AS made"
         came = f"AS SELECT {columns} FROM {self.table} LIMIT 0"
         return (
@@ -167,7 +169,8 @@ class Postgres(Dialect):
 
     @property
     def _put_all(self) -> str:
-        """Stores the first record of each name, in their order, in rows without one."""
+        """Stores the first record of each name, in the order of the names, in rows without a
+        record."""
         t, k, r = self.table, self.key, self.record
         came = "SELECT DISTINCT ON (name) * FROM rigzumal_came ORDER BY name, number"
         add = f"INSERT INTO {t} ({k}, {r}) SELECT name, made FROM came ON CONFLICT DO NOTHING"
@@ -181,7 +184,7 @@ class Postgres(Dialect):
 
     @property
     def _others(self) -> str:
-        """Finds lines that weren't stored, and those whose row has another record."""
+        """Finds lines that weren't stored, and lines whose row has a different record."""
         same = f'kept.{self.record}::text COLLATE "C" = came.made'
         joined = "rigzumal_came AS came LEFT JOIN rigzumal_put AS put USING (number)"
         return self.alone(
@@ -239,7 +242,7 @@ class Postgres(Dialect):
     async def examine(self, session: Session) -> Findings:
         t = self.table.replace("%%", "%")
         if session.conn.info.encoding == "ascii":
-            text = "client_encoding is SQL_ASCII: texts come as bytes"
+            text = "client_encoding is SQL_ASCII: the driver returns text as bytes"
             return Findings([error("encoding", text)], is_usable=False)
         found = await session.execute(_COLUMNS, t)
         columns = {name: more for name, *more in found.rows}
@@ -263,10 +266,10 @@ class Postgres(Dialect):
             text = f"{self.table_name} is unlogged: a crash empties it"
             faults.append(not_durable(text))
         if sees_none:
-            text = "row security shows this role no row: no policy is for it"
+            text = "row security hides every row from this role, which has no policy"
             faults.append(error("row-security", text))
         elif secured:
-            text = "row security may show an UPDATE less than a SELECT"
+            text = "row security may show fewer rows to an UPDATE than to a SELECT"
             faults.append(warning("row-security", text))
         for name, good in _DURABLE:
             ((value,),) = (await session.execute(f"SHOW {name}")).rows

@@ -1,4 +1,4 @@
-"""SQLite, by sqlite3 (or for asyncio by aiosqlite)."""
+"""SQLite, with sqlite3 (for asyncio, with aiosqlite)."""
 
 from __future__ import annotations
 
@@ -22,7 +22,7 @@ _NEEDED: Final = 8 << 20  # bytes: the log grows to 1,000 pages of 4 KiB, and th
 
 
 class Sqlite(Dialect):
-    """SQLite by sqlite3. The connections need a busy timeout of some seconds."""
+    """SQLite with sqlite3. Each connection needs a busy timeout of some seconds."""
 
     mark = "?"
     quote = "`"  # SQLite reads a word in double quotes as a text if no column has that name
@@ -120,8 +120,8 @@ class Sqlite(Dialect):
         return Findings(faults + [it for path in paths for it in of_disk(path)])
 
     def _others(self) -> str:
-        """A query for records that aren't text, in the first rows: SQLite allows them in a column
-        of any type."""
+        """A query that finds records other than text in the first rows: SQLite allows them in a
+        column of any type."""
         rows = f"SELECT typeof({self.record}) AS type FROM {self.table} LIMIT {_LOOKED_AT}"
         return f"SELECT DISTINCT type FROM ({rows}) WHERE type NOT IN ('text', 'null')"
 
@@ -140,7 +140,8 @@ class Sqlite(Dialect):
 
 
 def _is_of(raised: BaseException, codes: tuple[int, ...], text: str) -> bool:
-    """Whether an error has one of these codes; before Python 3.11 only its text shows the code."""
+    """Whether an error has one of these codes; before Python 3.11, only the text contains the
+    code."""
     code = getattr(raised, "sqlite_errorcode", None)
     return text in str(raised) if code is None else code & 0xFF in codes
 
@@ -156,9 +157,9 @@ _PRAGMAS: Final = ("synchronous", "busy_timeout", "journal_mode", "read_uncommit
 
 
 def of_disk(path: str) -> Iterator[Fault]:
-    """A full disk, which the trial doesn't find in WAL: there only COMMIT writes.
+    """Reports a full disk, which the trial doesn't detect in WAL mode: there only COMMIT writes.
 
-    SQLite shows neither a user's quota nor the disk of a database in memory.
+    SQLite reports neither a user's quota nor the disk of a database in memory.
     """
     try:
         found = os.statvfs(path)
@@ -170,7 +171,7 @@ def of_disk(path: str) -> Iterator[Fault]:
 
 
 def of_connection(seen: dict[str, Any]) -> Iterator[Fault]:
-    """The faults of a connection of SQLite, by its pragmas."""
+    """The faults of a SQLite connection, by its pragmas."""
     if seen["synchronous"] < 2:
         yield not_durable(f"synchronous is below FULL: {POWER_CUT_LOSES}")
     if seen["busy_timeout"] < 1000:

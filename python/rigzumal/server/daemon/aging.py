@@ -1,4 +1,4 @@
-"""A user's line in an old file: the record, shadow(5)'s dates, and Dovecot's extra fields."""
+"""A user's line in an old file: the record, the dates of shadow(5), and Dovecot's extra fields."""
 
 import re
 import time
@@ -19,7 +19,7 @@ def today() -> int:
 
 
 class Days(NamedTuple):
-    """The numbers of a line of shadow(5), in its order; -1 is an empty field."""
+    """The numbers in a line of shadow(5), in the same order; -1 is an empty field."""
 
     changed: int = -1
     least: int = -1
@@ -46,13 +46,14 @@ class Days(NamedTuple):
 
 @dataclass(frozen=True)
 class Line:
-    """A user's line: the record, and the fields after it."""
+    """A user's line: the record, and the fields after the record."""
 
     record: bytes = b""
     others: tuple[bytes, ...] = ()
 
     def days(self) -> Optional[Days]:
-        """The dates, which a line of an htpasswd file lacks; None if one isn't a number."""
+        """The dates of the line, which an htpasswd file lacks; None if one of them isn't a
+        number."""
         fields = self.others[: len(Days())]
         count = 2 + len(self.others)  # with the name and the record
         are_numbers = all(map(NUMBER.fullmatch, fields))
@@ -63,13 +64,13 @@ class Line:
         return Days(*(int(field) if field else -1 for field in fields))
 
     def is_of_dovecot(self) -> bool:
-        """Whether the line is Dovecot's, which its home or an extra field shows: it may have nine
-        fields too."""
+        """Whether the line is Dovecot's, which its home folder or an extra field shows: such a line
+        may also have nine fields."""
         home, extra = self.others[3], self.others[5]
         return b"/" in home or b"=" in extra
 
     def bar(self, day: int) -> str:
-        """The reason that bars the user, also after the move; empty if there is none."""
+        """The reason that bars the user, even after the move; empty if there is none."""
         days = self.days()
         if days and days.has_ended(day):
             return "the account has expired"
@@ -80,12 +81,12 @@ class Line:
         return ""
 
     def why_shut(self, day: int) -> str:
-        """The reason that bars the line's user; empty if a password may be right."""
+        """The reason that bars the line's user; empty if some password may be right."""
         if why := self.bar(day):
             return why
         days = self.days()
         if days is None:
-            return "a date that is no number"
+            return "a date that isn't a number"
         return "the password has expired" if days.is_too_old(day) else ""
 
     def must_change(self, day: int) -> bool:

@@ -1,10 +1,10 @@
-"""A private file that only grows, and a program that writes one.
+"""A private file that only grows, and a program that writes such a file.
 
     appending.py PATH
 
-The program appends texts that come by the socket at its standard input, and answers each. The
-program is a separate process, since nothing can end a thread that waits for a hung disk, nor the
-process of such a thread.
+The program receives texts through the socket at its standard input, appends each one, and answers
+it. The program is a separate process, since nothing can end a thread that waits for a hung disk, or
+the process of such a thread.
 """
 
 import errno
@@ -21,7 +21,7 @@ FAULT = struct.Struct(">H")  # the answer: the system's number of a fault, or 0
 
 
 def status_of(path: str) -> os.stat_result:
-    """The status of a regular file; other files are refused, since a pipe might keep the server
+    """The status of a regular file; refuses other files, since a pipe might keep the server
     waiting."""
     found = os.stat(path)
     if not stat.S_ISREG(found.st_mode):
@@ -30,21 +30,22 @@ def status_of(path: str) -> os.stat_result:
 
 
 def private(path: str, flags: int) -> int:
-    """Opens a regular file, and no link; only its owner may read and write it."""
+    """Opens a regular file, but no link; only its owner may read and write it."""
     with suppress(FileNotFoundError):
         status_of(path)
     return os.open(path, flags | os.O_NOFOLLOW | os.O_NONBLOCK, 0o600)
 
 
 class GrowingFile:
-    """A private file, which is opened for each text: an administrator rotates it by a rename."""
+    """A private file that is opened for each text: an administrator rotates it by renaming it."""
 
     def __init__(self, path: str) -> None:
         self.path = path
         self.named = -1  # the inode of the file whose name is on the disk
 
     def append(self, text: bytes) -> None:
-        """Writes whole lines after the last whole line: a fault may have left a part of one."""
+        """Writes whole lines after the last whole line, since a fault may have left part of a
+        line."""
         with open(self.path, "ab+", buffering=0, opener=private) as file:
             found = os.fstat(file.fileno())
             end = os.pread(file.fileno(), 1, max(found.st_size - 1, 0))

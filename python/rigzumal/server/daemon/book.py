@@ -30,7 +30,7 @@ LONGEST_REST = 0.1  # seconds
 
 
 def password_of(field: bytes) -> Optional[bytes]:
-    """The password that a field of a line has; None if it isn't base64."""
+    """The password in a field of a line; None if the field isn't base64."""
     if field == b"-":
         return b""
     try:
@@ -40,20 +40,20 @@ def password_of(field: bytes) -> Optional[bytes]:
 
 
 def seconds_to_wait(answer: bytes) -> int:
-    """The seconds until the next try, in the answer to a try that came too early; otherwise 0."""
+    """The remaining seconds in the answer to a try that was too early; 0 for any other answer."""
     early = EARLY.fullmatch(answer)
     return int(early[1]) if early else 0
 
 
 def is_answer(text: bytes) -> bool:
-    """Whether this is a possible answer of the book: letters, or `later` with its seconds."""
+    """Whether the text is a possible answer of the book: letters, or `later` with its seconds."""
     if not re.fullmatch(rb"[ -~]+", text):
         return False
     return text.split(b" ")[0] != LATER or 0 < seconds_to_wait(text) <= LONGEST_WAIT
 
 
 def has_record(row: bytes) -> bool:
-    """Whether a row has a record, perhaps after marks."""
+    """Whether a row has a record, possibly after marks."""
     return row.lstrip(LOCKED + MUST_CHANGE).startswith(b"$")
 
 
@@ -71,8 +71,8 @@ class Process(asyncio.SubprocessProtocol):
         self.stdin = transport.get_pipe_transport(0)
 
     def ask(self, words: tuple[bytes, ...], answer: asyncio.Future[bytes]) -> None:
-        """Sends the process a line; the future gets the answer, or UNAVAILABLE if the process ends
-        before."""
+        """Sends a line to the process; the future receives the answer, or UNAVAILABLE if the
+        process ends first."""
         if self.ended.done():
             answer.set_result(UNAVAILABLE)
             return
@@ -81,7 +81,7 @@ class Process(asyncio.SubprocessProtocol):
         self.stdin.write(b"%b %b\n" % (tag, b" ".join(words)))
 
     def pipe_data_received(self, _: int, data: bytes) -> None:
-        """Passes on the process's answers, and kills the process if an answer doesn't end."""
+        """Passes on the answers of the process, and kills it if an answer doesn't end."""
         *lines, self.rest = (self.rest + data).split(b"\n")
         for line in lines:
             tag, _space, text = line.partition(b" ")
@@ -95,7 +95,7 @@ class Process(asyncio.SubprocessProtocol):
             self.kill()
 
     def connection_lost(self, _: object) -> None:
-        """Called when the process has ended, and its last output has arrived."""
+        """Called when the process has ended and its last output has arrived."""
         status = self.transport.get_returncode()
         self.ended.set_result(status if status >= 0 else 128 - status)
         for answer in self.pending.values():
@@ -107,17 +107,17 @@ class Process(asyncio.SubprocessProtocol):
         self.stdin.close()
 
     def kill(self) -> None:
-        """Kills the process. asyncio's own call might lose its status."""
+        """Kills the process. asyncio's own call might lose the status."""
         if self.transport.get_returncode() is None:
             with suppress(ProcessLookupError):
                 os.kill(self.transport.get_pid(), signal.SIGKILL)
 
 
 class Book:
-    """The book's answers: they come from one process after another, since only one process can open
-    the file.
+    """The book's answers: they come from successive processes, since only one process can open the
+    file.
 
-    While another program has the file (`lent`), lines wait for the next process.
+    While another program has the file open (`lent`), lines wait for the next process.
     """
 
     def __init__(self, command: list[str]) -> None:
@@ -137,7 +137,7 @@ class Book:
         self.hand_over_to(await self.start_process())
 
     async def start_process(self) -> Process:
-        """Starts a process in a session of its own: a terminal's signals are the server's."""
+        """Starts a process in its own session: signals of a terminal go only to the server."""
         loop, process = asyncio.get_running_loop(), Process()
         await loop.subprocess_exec(
             lambda: process, *self.command, stderr=None, start_new_session=True
@@ -154,7 +154,7 @@ class Book:
             self.ended.set_result(status)
 
     def hand_over_to(self, process: Process) -> None:
-        """Sends all lines to a process from now on, first the waiting ones."""
+        """From now on sends all lines to a process, beginning with the waiting ones."""
         self.process, self.is_down = process, False
         self.opened = time.monotonic()
         waiting, self.waiting = self.waiting, []
@@ -173,11 +173,11 @@ class Book:
         return answer
 
     def row(self, name: bytes) -> asyncio.Future[bytes]:
-        """An account's marks and then its record, or NO_RECORD; or a refusal of `show`."""
+        """An account's marks followed by its record, or NO_RECORD; or the refusal of `show`."""
         return self.ask(b"show", name)
 
     def is_lent(self) -> bool:
-        """Whether another program has the book's file."""
+        """Whether another program has the book's file open."""
         return self.process is None
 
     def has_ended(self) -> bool:
@@ -186,10 +186,10 @@ class Book:
 
     @asynccontextmanager
     async def lent(self) -> AsyncIterator[int]:
-        """Lends the file, while no process has it open, to one user at a time.
+        """Lends the file to one user at a time, while no process has it open.
 
-        The process answers its open lines and ends, and the block gets its status. New lines wait
-        for the next process, which opens the file after the loan.
+        The process answers its open lines and ends, and the block receives its status. New lines
+        wait for the next process, which opens the file after the loan.
         """
         process, self.process = self.process, None
         assert process is not None
@@ -200,22 +200,22 @@ class Book:
             await self.reopen()
 
     async def reopen(self) -> None:
-        """Starts processes until one answers, or the server ends. If the first doesn't answer, all
-        waiting lines are refused."""
+        """Starts processes until one of them answers, or the server ends. If the first process
+        doesn't answer, all waiting lines are refused."""
         while not self.is_ending:
             if process := await self.process_that_answers():
                 self.hand_over_to(process)
                 return
             self.is_down = True
             self.refuse_waiting()
-            log_seldom("reopen", "the book can't be opened again; the server tries it each second")
+            log_seldom("reopen", "the server can't reopen the book; it retries each second")
             await asyncio.sleep(RETRY_SECONDS)
         self.refuse_waiting()
         if not self.ended.done():
             self.ended.set_result(self.status)
 
     async def process_that_answers(self) -> Optional[Process]:
-        """A new process that has answered a line, and so has opened the file; or none."""
+        """A new process that has answered a line, and has therefore opened the file; or none."""
         try:
             process = await self.start_process()
         except OSError as fault:
@@ -235,7 +235,7 @@ class Book:
             answer.set_result(UNAVAILABLE)
 
     def end(self) -> None:
-        """Lets the book's process end in order, and starts no other."""
+        """Lets the book's process end in order, and starts no new one."""
         self.is_ending = True
         self.refuse_waiting()
         for process in self.living:
@@ -247,7 +247,7 @@ class Book:
 
 
 class Places:
-    """Places, for which users take turns: the user with the fewest gets the next."""
+    """Places that users get in turn: the user with the fewest gets the next one."""
 
     def __init__(self, count: int) -> None:
         self.free = count
@@ -279,7 +279,7 @@ class Places:
         self.give_next()
 
     def give_next(self) -> None:
-        """Gives the free places to the users whose turn it is."""
+        """Assigns the free places to the users whose turn it is."""
         while self.free and self.users:
             user = min(self.users, key=self.taken.__getitem__)
             if self.free == 1 and self.taken[user]:
@@ -291,8 +291,8 @@ class Places:
 
 
 class Rounds:
-    """While users log in, changes run in rounds: in each, all that hash or one other; then a
-    rest."""
+    """While users log in, changes run in rounds: in each round, all changes that hash or one other
+    change; a rest follows."""
 
     def __init__(self, book: Book, is_busy: Callable[[], bool]) -> None:
         self.book = book

@@ -28,7 +28,7 @@ PAUSE_SECONDS = 0.001  # behind an answer without the book's work, times a user'
 
 
 class Client:
-    """A client that sends lines, and gets an answer to each, in any order."""
+    """A client that sends lines, and receives an answer to each, in any order."""
 
     no_room = b"* unavailable\n"  # the answer to a client that isn't let in
 
@@ -51,8 +51,8 @@ class Client:
         sock.setsockopt(socket.SOL_SOCKET, socket.SO_SNDBUF, SEND_BUFFER)
 
     async def run(self) -> None:
-        """Reads requests. Closes the connection once they are answered, or if nobody reads any
-        more."""
+        """Reads requests. Closes the connection once all lines are answered, or if nobody reads the
+        answers."""
         try:
             with suppress(OSError):
                 await self.read()
@@ -67,8 +67,7 @@ class Client:
                 self.socket.close()
 
     async def read(self) -> None:
-        """Passes each line on; of a line that is too long it passes the beginning, which is
-        refused."""
+        """Passes each line on; of a line that is too long, only its beginning, which is refused."""
         text, is_rest = b"", False
         while more := await self.receive():
             text += more
@@ -83,7 +82,7 @@ class Client:
                     text = await self.read_text(self.incoming, text)
 
     async def read_text(self, incoming: Incoming, data: bytes) -> bytes:
-        """Begins an import once its text has come; returns the bytes after the text."""
+        """Begins an import when its text has arrived, and returns the bytes after the text."""
         transfers = self.service.transfers
         try:
             rest = incoming.take(data)
@@ -99,8 +98,8 @@ class Client:
         return rest
 
     async def receive(self) -> bytes:
-        """Some bytes; none at the end. The socket stays watched between two calls, which
-        saves the time that sock_recv spends on watching it."""
+        """Some bytes; none at the end of the input. The event loop watches the socket between two
+        calls, which saves the time that sock_recv would spend on watching it again."""
         self.received: asyncio.Future[bytes] = self.loop.create_future()
         if not self.is_watched:
             self.is_watched = True
@@ -108,7 +107,7 @@ class Client:
         return b"" if self.is_ending else await self.received
 
     def wake(self) -> None:
-        """Reads the bytes that have come, if a task waits for them."""
+        """Reads the available bytes if a task waits for them."""
         self.is_watched = not self.received.done()
         if not self.is_watched:  # nobody waits for more
             self.loop.remove_reader(self.socket)
@@ -122,7 +121,7 @@ class Client:
             self.received.set_result(b"")
 
     async def answer_line(self, line: bytes) -> None:
-        """Answers a line, under its tag if it has one."""
+        """Answers a line, with its tag if it has one."""
         tag, *words = line.split(b" ")
         if not TAG.fullmatch(tag):
             await self.submit(NO_TAG, words, LONG if len(line) > LONGEST else BAD_LINE)
@@ -132,7 +131,8 @@ class Client:
             await self.submit(tag, words)
 
     async def submit(self, tag: bytes, words: list[bytes], refusal: bytes = b"") -> None:
-        """Answers or refuses a request, once few enough others run and it is this user's turn."""
+        """Answers or refuses a request, once few enough other requests run and it is this user's
+        turn."""
         await self.has_fewer(AT_ONCE)
         if self.is_ending:
             return
@@ -154,7 +154,7 @@ class Client:
         await asyncio.sleep(PAUSE_SECONDS * self.door.counts[self.user])
 
     async def reply(self, tag: bytes, answer: bytes, seconds: int = 0) -> None:
-        """Sends an answer, without the seconds that a try has to wait."""
+        """Sends an answer, without the remaining seconds of a wait."""
         await self.write([b"%b %b\n" % (tag, answer)])
 
     async def write(self, pieces: Iterable[bytes]) -> None:
@@ -168,7 +168,7 @@ class Client:
                 self.end(socket.SHUT_RDWR)
 
     def has_gone(self) -> bool:
-        """Whether the client reads no answers any more; lines of the client may still come."""
+        """Whether the client has stopped reading answers; it may still send lines."""
         try:
             self.socket.send(b"")  # which fails then
         except OSError:
@@ -176,7 +176,7 @@ class Client:
         return False
 
     def end(self, how: int = socket.SHUT_RD) -> None:
-        """Accepts no more requests; with SHUT_RDWR running requests get no answer either."""
+        """Accepts no more requests; with SHUT_RDWR, running requests get no answer either."""
         self.is_ending = True
         with suppress(OSError):
             self.socket.shutdown(how)

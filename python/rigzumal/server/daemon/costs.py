@@ -1,4 +1,4 @@
-"""The memory and the work of a hash, as --most-memory and --most-work of credkeep(1) count."""
+"""The memory and the work of a hash, as --most-memory and --most-work of credkeep(1) count them."""
 
 import math
 import re
@@ -25,7 +25,7 @@ class Costs:
 
 
 def costs_of(setting: str) -> Optional[Costs]:
-    """The costs of a setting, with its salt or without; none if it is no setting."""
+    """The costs of a setting, with or without its salt; None if the text isn't a setting."""
     if argon2 := ARGON2.fullmatch(setting):
         memory, passes = int(argon2[1]), int(argon2[2])
         return Costs(memory, memory * passes)
@@ -37,7 +37,7 @@ def costs_of(setting: str) -> Optional[Costs]:
 
 
 def size_of(kib: int) -> str:
-    """A bound in credkeep's form: a number of KiB, or of GiB if that is too large."""
+    """A bound in the form that credkeep reads: a number of KiB, or of GiB if it is too large."""
     if kib <= MOST:
         return str(kib)
     return f"{min(math.ceil(kib / GIB), MOST)}G"

@@ -1,5 +1,5 @@
-"""The free space on the disks that a change writes to. If a book finds no space, it ends, and so
-does the service of all its users."""
+"""The free space on the disks to which a change writes. A book that finds no space ends, and so
+does the service for all its users."""
 
 import os
 
@@ -12,7 +12,7 @@ FULL = b"bad 19 disk"  # the answer to a change that isn't tried
 def has_room(folder: str, needed: int = NEEDED) -> bool:
     """Whether a folder has room for a change, as far as its filesystem reports it.
 
-    Blocks that are reserved for root don't count, even for root. A user's quota can't be seen.
+    Blocks reserved for root don't count, even for root. The function can't detect a user's quota.
     """
     try:
         found = os.statvfs(folder)

@@ -1,4 +1,4 @@
-"""The sockets: their operations, their admission of clients, and the shares of users."""
+"""The sockets: their operations, how they admit clients, and the shares of users."""
 
 from __future__ import annotations
 
@@ -60,15 +60,15 @@ class Door:
     counts: Counter[Hashable] = field(default_factory=Counter)  # clients of each user
 
     def prepare(self) -> None:
-        """Finds systemd's socket; without one, finds the group, and locks the path of the door's
-        own socket."""
+        """Uses the socket from systemd; without one, finds the group, and locks the path of the
+        door's own socket."""
         if os.environ.get("LISTEN_PID") == str(os.getpid()):
             self.listener = self.socket_of_systemd()
             return
         try:
             self.gid = -1 if self.group == "-" else grp.getgrnam(self.group).gr_gid
         except KeyError:
-            raise Problem(f"there is no group {self.group}, for {self.path}") from None
+            raise Problem(f"the group {self.group} of {self.path} doesn't exist") from None
         self.lock()
 
     def socket_of_systemd(self) -> socket.socket:
@@ -78,7 +78,7 @@ class Door:
             found = socket.socket(fileno=FIRST_OF_SYSTEMD + names.index(self.name))
             if (found.type, found.family) == (socket.SOCK_STREAM, socket.AF_UNIX):
                 return found
-        raise Problem(f"systemd handed over no stream socket with the name {self.name}")
+        raise Problem(f"systemd passed no stream socket named {self.name}")
 
     def lock(self) -> None:
         """Creates the socket's folder, and locks the path until the process ends."""
@@ -90,7 +90,7 @@ class Door:
         try:
             fcntl.flock(lock, fcntl.LOCK_EX | fcntl.LOCK_NB)
         except BlockingIOError:
-            raise Problem(f"another server has {self.path}") from None
+            raise Problem(f"another server uses {self.path}") from None
 
     def own_socket(self) -> socket.socket:
         """A socket at the door's path; its mode is set before it listens."""
@@ -105,7 +105,7 @@ class Door:
         return listener
 
     def listen(self) -> socket.socket:
-        """The door's socket, at which clients may connect from now on."""
+        """The door's socket; from now on clients may connect."""
         try:
             listener = self.listener or self.own_socket()
             listener.setblocking(False)
@@ -115,7 +115,7 @@ class Door:
         return listener
 
     async def accept(self, service: Service, listener: socket.socket) -> None:
-        """Lets clients in; while none of them stays, the queue at the socket is short."""
+        """Admits clients; if the admitted ones don't stay, the queue of the socket is short."""
         with listener:
             while True:
                 try:
@@ -137,14 +137,16 @@ class Door:
         return Peer(pid, uid, (self.name, share_of(owner_of(uid), pid)))
 
     def has_place(self, own: int) -> bool:
-        """Whether a user with this many places may have one more. A user may have at most half of
-        the places that the others leave, and of the last places only a first one."""
+        """Whether a user with this number of places may have one more. A user may have at most half
+        of the places that the others leave free, and may get one of the last places only as a first
+        place."""
         taken = sum(self.counts.values())
         is_at_most_half = own + taken < MOST_CLIENTS - 1
         return is_at_most_half and (own == 0 or taken < MOST_CLIENTS - LAST_PLACES)
 
     def let_in(self, service: Service, sock: socket.socket) -> bool:
-        """Whether the connection gets a place of its user; otherwise the client gets an answer."""
+        """Whether the connection gets a place of its user; otherwise the client receives an
+        answer."""
         with suppress(OSError):  # if nothing has come
             if not sock.recv(1, socket.MSG_PEEK):
                 sock.close()
@@ -158,7 +160,7 @@ class Door:
         with suppress(OSError):
             sock.send(client.no_room)
         sock.close()
-        log_seldom(client.user, "no more connections at %s for %s, which has %d", *client.user, own)
+        log_seldom(client.user, "refused a connection at %s of %s, which has %d", *client.user, own)
         service.tally.counts["refused"] += 1
         return False
 
@@ -177,7 +179,7 @@ def ranges_in(path: str, _version: tuple[int, ...]) -> list[tuple[range, str]]:
 
 
 def owner_of(uid: int) -> int:
-    """The owner of a subordinate uid; for another uid the uid itself."""
+    """The owner of a subordinate uid; any other uid is its own owner."""
     if uid < LEAST_SUBORDINATE:
         return uid
     try:
@@ -193,7 +195,8 @@ def owner_of(uid: int) -> int:
 
 
 def share_of(uid: int, pid: int) -> str:
-    """The user whose share a process uses: its uid, or for a process of root its service."""
+    """The user to whose share a process belongs: its uid, or, for a process of root, its
+    service."""
     found = None
     if uid == 0:
         with suppress(OSError), open(f"/proc/{pid}/cgroup", "rb", buffering=0) as file:

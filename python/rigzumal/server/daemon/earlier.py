@@ -1,4 +1,4 @@
-"""The marks that earlier versions of the server kept beside the book; now the book stores them."""
+"""The marks that earlier versions of the server kept beside the book; the book now stores them."""
 
 from __future__ import annotations
 
@@ -21,7 +21,7 @@ async def take_in(service: Service) -> None:
     """Writes the marks of FILE-locks to the book, and then removes the file.
 
     After a fault, or a kill at any moment, the file still exists, and the next start repeats this
-    step. No socket is open before the end of this step, so nobody has changed a mark.
+    step. The sockets open only after this step, so nobody can have changed a mark.
     """
     path = f"{service.options.file}-locks"
     if not os.path.lexists(path):
@@ -36,16 +36,15 @@ async def take_in(service: Service) -> None:
         marks.sync_name()
     finally:
         if os.path.lexists(path):
-            log.error(
-                "%s stays: the book lacks some of its marks, so the server doesn't start", path
-            )
-    log.info("%s is gone: %d of its marks are in the book now", path, sum(taken))
+            log.error("%s stays: the book lacks some of its marks, so the server can't start", path)
+    log.info("removed %s: %d of its marks are now in the book", path, sum(taken))
     if lacking := len(taken) - sum(taken):
-        log.warning("%d of its marks were of names without an account, or a record", lacking)
+        log.warning("dropped %d of its marks: their names have no account, or no record", lacking)
 
 
 async def has_taken(service: Service, name: bytes, word: bytes) -> bool:
-    """Writes the mark of an operation to the book; false if no account can have the mark."""
+    """Writes the mark of an operation to the book; returns False if no account can have the
+    mark."""
     if not NAME.fullmatch(name):  # such as one that is too long for a line
         return False
     row = await asyncio.shield(service.book.row(name))
@@ -62,7 +61,7 @@ async def has_taken(service: Service, name: bytes, word: bytes) -> bool:
 
 
 async def mark_in_old_file(service: Service, name: bytes, word: bytes) -> bytes:
-    """Marks a user who is only in an old htpasswd file; the answer is empty for others."""
+    """Marks a user who is only in an old htpasswd file; for any other name the answer is empty."""
     if not service.foreign or not (await service.foreign.file.line(name)).record:
         return b""
     if word == b"expire":

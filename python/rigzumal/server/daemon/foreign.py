@@ -1,4 +1,4 @@
-"""Users of an htpasswd file, who move into the book by right passwords."""
+"""Users of an htpasswd file, who move into the book when they enter their right passwords."""
 
 import asyncio
 import base64
@@ -28,7 +28,7 @@ EXPIRED, FORGIVEN = b"expired", b"forgiven"  # the answers to `expire` and `forg
 
 
 class Foreign:
-    """Decides whether the file or the book judges a user's password."""
+    """Decides whether the file or the book checks a user's password."""
 
     def __init__(self, service: Service, path: str) -> None:
         self.service = service
@@ -37,8 +37,8 @@ class Foreign:
         self.locks = WeakValueDictionary[bytes, asyncio.Lock]()  # of names, one request at a time
 
     async def answer(self, request: Request) -> bytes:
-        """The answer: that of a wrong password if the file bars the user, otherwise the book's or
-        the file's."""
+        """The answer: that of a wrong password if the file bars the user, otherwise the answer of
+        the book or the file."""
         if request.word == b"list":
             return await self.service.ask(request)
         if request.word == b"marks":
@@ -58,7 +58,7 @@ class Foreign:
         return answer
 
     async def page_of_marks(self, request: Request) -> bytes:
-        """A page of `marks`, with a lock at users whom the file bars."""
+        """A page of `marks`, with a lock for users whom the file bars."""
         page = await self.service.ask(request)
         word, *items = page.split(b" ")
         if word != b"marks":
@@ -76,7 +76,7 @@ class Foreign:
         return b" ".join([word, *(b"%b:%b" % (name, rows[name]) for name in names)])
 
     async def forgive(self, request: Request) -> bytes:
-        """Forgets the failed tries at a name, at the book and at the file."""
+        """Clears the failed tries at a name, both in the book and for the file."""
         name = request.words[1]
         answer = await self.service.ask(request)
         if answer == b"noaccount" and (await self.file.line(name)).record:
@@ -86,23 +86,23 @@ class Foreign:
         return answer
 
     def rest(self, name: str) -> int:
-        """The seconds of a wait at a user whom the file judges."""
+        """The remaining seconds of the wait for a user whom the file decides about."""
         return self.tries.rest(name.encode(errors="replace"))
 
     async def end_waits(self) -> None:
-        """Ends the waits of users who have a record in the book after an import."""
+        """After an import, ends the waits of users who have a record in the book."""
         for name in list(self.tries.failed):
             if has_record(await self.service.book.row(name)):
                 self.end_wait(name)
 
     def end_wait(self, name: bytes) -> None:
-        """Forgets a user's failed tries, since the file judges no further one."""
+        """Clears a user's failed tries, since the file decides no further try."""
         if name in self.tries.failed:
             self.tries.forgive(name)
             self.service.tally.end_wait(name.decode(errors="replace"), "the book decides now")
 
     async def with_locks(self, text: BinaryIO) -> BinaryIO:
-        """An export, with a lock at users whom the file bars."""
+        """An export, with a lock for users whom the file bars."""
         return await asyncio.to_thread(with_locks, text, await self.file.barred())
 
     async def answer_unbarred(self, request: Request) -> bytes:
@@ -144,8 +144,7 @@ class Foreign:
         return answer
 
     async def prepare(self, request: Request, line: Line, row: bytes) -> bytes:
-        """Does the steps before the book's part; returns the answer if it needs no answer of the
-        book."""
+        """Does the steps before the book's part; returns the answer if the book needn't answer."""
         word, name = request.words[:2]
         if row == UNAVAILABLE or row.startswith(b"bad ") and row != NO_ACCOUNT:
             return row
@@ -175,7 +174,7 @@ class Foreign:
             await self.file.note_moved(request.words[1])
 
     async def answer_of_file(self, request: Request, line: Line, answer: bytes) -> bytes:
-        """The answer to a request for a user who is in the file, and not in the book."""
+        """The answer to a request for a user who is in the file but not in the book."""
         word, name = request.words[:2]
         if request.operation.tries:
             return await self.judge(request, line)
@@ -207,7 +206,7 @@ class Foreign:
         return (await self.service.book.row(name)).startswith(LOCKED)
 
     async def judge(self, request: Request, line: Line) -> bytes:
-        """The answer to a try, by the file's record; a right password moves its user."""
+        """The answer to a try by the file's record; a right password moves its user."""
         name, password = request.words[1], password_of(request.words[2]) or b""
         is_password = await asyncio.to_thread(is_right, line.record, password)
         is_same = await self.file.line(name) == line  # as before that hash
@@ -226,9 +225,9 @@ class Foreign:
         return answer
 
     async def move(self, request: Request, line: Line) -> bytes:
-        """Writes a user's record to the book, whose record then decides; returns a refusal.
+        """Writes a user's record to the book, which then decides; returns a refusal.
 
-        If the password must be changed, the call notes that first: a kill after `enrol` would leave
+        If the password must be changed, the call first notes that: a kill after `enrol` would leave
         a record without the mark. `finish_move` reads the note.
         """
         name, field = request.words[1:3]
@@ -247,9 +246,10 @@ class Foreign:
 
 
 def with_wrong_password(words: list[bytes]) -> list[bytes]:
-    """The words of a try with a password that nobody has; a field that is no password stays.
+    """The words of a try with a password that nobody has; a field that isn't a password stays
+    unchanged.
 
-    A long password keeps its length, and the other one has no NUL: some old schemes hash no
+    A long password keeps its length, and the new one has no NUL: some old schemes don't hash a
     password that is too long or has a NUL.
     """
     operation, name, *fields = words
@@ -271,7 +271,8 @@ def ends_record(word: bytes, row: bytes) -> bool:
 
 
 def row_with_lock(row: bytes) -> bytes:
-    """The row with a lock added, even to a missing record or account; other refusals stay."""
+    """The row with an added lock, even if the record or the account is missing; other refusals stay
+    unchanged."""
     if row in (NO_ACCOUNT, NO_RECORD):
         return LOCKED
     if row.startswith((b"bad ", LOCKED)) or row == UNAVAILABLE:
@@ -280,7 +281,7 @@ def row_with_lock(row: bytes) -> bytes:
 
 
 def with_locks(text: BinaryIO, names: Collection[bytes]) -> BinaryIO:
-    """The lines of an export, with a lock at these names."""
+    """The lines of an export, with a lock for these names."""
     locked = memory_file()
     text.seek(0)
     for line in text:
@@ -290,7 +291,7 @@ def with_locks(text: BinaryIO, names: Collection[bytes]) -> BinaryIO:
 
 
 def answer_to_barred(request: Request, answer: bytes) -> bytes:
-    """The answer to a user whom the file bars, in place of this one."""
+    """The answer for a user whom the file bars, instead of this one."""
     if request.word == b"show":
         return row_with_lock(answer)
     if answer not in (b"yes", b"no", b"expired"):

@@ -1,4 +1,4 @@
-"""Messages, systemd's notices, and files of lines that only grow."""
+"""Messages, notices to systemd, and files of lines that only grow."""
 
 import asyncio
 import errno
@@ -29,7 +29,7 @@ class Problem(Exception):
 
 
 def log_seldom(key: Hashable, text: str, *values: object) -> None:
-    """Logs the messages of one key once an hour."""
+    """Logs messages with the same key once an hour."""
     now = time.monotonic()
     if now >= logged_at.get(key, -SELDOM) + SELDOM:
         logged_at.pop(key, None)
@@ -40,17 +40,18 @@ def log_seldom(key: Hashable, text: str, *values: object) -> None:
 
 
 def forget_message(key: Hashable) -> bool:
-    """Makes `log_seldom` log a key's next message at once; false if none was logged."""
+    """Makes `log_seldom` log the key's next message at once; returns False if no message was
+    logged."""
     return logged_at.pop(key, None) is not None
 
 
 def utc(seconds: Optional[float] = None) -> str:
-    """A moment, by default the present one, in RFC 3339's form, to the second."""
+    """A time, by default the present one, in the form of RFC 3339, to the second."""
     return time.strftime("%Y-%m-%dT%H:%M:%SZ", time.gmtime(seconds))
 
 
 def notify(text: str) -> None:
-    """Sends systemd a notice, if it wants them."""
+    """Sends notices to systemd, if systemd wants them."""
     if path := os.environ.get("NOTIFY_SOCKET"):
         try:
             with socket.socket(socket.AF_UNIX, socket.SOCK_DGRAM) as notices:
@@ -60,7 +61,7 @@ def notify(text: str) -> None:
 
 
 class Journal(GrowingFile):
-    """A file of lines. The lines that arrive during a write are written together in the next."""
+    """A file of lines. Lines that arrive during a write are written together in the next one."""
 
     def __init__(self, path: str) -> None:
         super().__init__(path)
@@ -70,13 +71,14 @@ class Journal(GrowingFile):
         self.lacking = 0  # lines that were never written
 
     def is_full(self) -> bool:
-        """Whether so many lines wait for the disk that the journal accepts no more."""
+        """Whether so many lines wait for the disk that the journal accepts no more lines."""
         return len(self.lines) >= MOST_LINES
 
     def add(self, line: bytes) -> asyncio.Future[bool]:
-        """Appends a line, with others that arrive meanwhile; returns whether it is on the disk."""
+        """Appends a line, together with others that arrive meanwhile; returns whether it is on the
+        disk."""
         if self.is_full():
-            text = "%s: its disk hangs: %d lines wait, and the next ones are left out"
+            text = "%s: its disk hangs: %d lines wait, and further lines are dropped"
             log_seldom((self.path, "full"), text, self.path, MOST_LINES)
             self.lacking += 1
             left_out: asyncio.Future[bool] = asyncio.get_running_loop().create_future()
@@ -89,7 +91,7 @@ class Journal(GrowingFile):
         return self.written
 
     async def write(self) -> bool:
-        """Writes all waiting lines once no other write runs; false if that fails."""
+        """Writes all waiting lines once no other write runs; returns False if that fails."""
         async with self.one_at_a_time:
             lines = self.lines
             self.lines = []
@@ -109,7 +111,7 @@ class Journal(GrowingFile):
 
 
 class Writer:
-    """A process that writes a file, and the socket through which it gets the texts."""
+    """A process that writes a file, and the socket through which it receives the texts."""
 
     def __init__(self, path: str) -> None:
         self.socket, other = socket.socketpair()
@@ -122,19 +124,19 @@ class Writer:
         return self.process.poll() is not None
 
     async def append(self, text: bytes) -> None:
-        """Lets the process write a text to the disk; texts are written one at a time."""
+        """Lets the process write a text to the disk, one text at a time."""
         loop = asyncio.get_running_loop()
         await loop.sock_sendall(self.socket, SIZE.pack(len(text)) + text)
         answer = await loop.sock_recv(self.socket, FAULT.size)
         if len(answer) < FAULT.size:
-            raise OSError(errno.EPIPE, "the process that writes it has ended")
+            raise OSError(errno.EPIPE, "its writing process has ended")
         (number,) = FAULT.unpack(answer)
         if number:
             raise OSError(number, os.strerror(number))
 
 
 class AuditLog(Journal):
-    """A journal that another process writes, so that the server can end while its disk hangs."""
+    """A journal that another process writes, so that the server can exit while its disk hangs."""
 
     def __init__(self, path: str) -> None:
         super().__init__(path)
@@ -161,7 +163,7 @@ class Marks(Journal):
                     self.apply(found[1], found[2] or b"")
 
     def apply(self, name: bytes, mark: bytes) -> None:
-        """Counts a mark of a name, or one that ends another."""
+        """Counts a mark of a name, or one that ends another mark."""
         if mark in UNDOES:
             self.pairs.discard((name, UNDOES[mark]))
         else:
@@ -171,7 +173,7 @@ class Marks(Journal):
         return (name, mark) in self.pairs
 
     async def put(self, name: bytes, mark: bytes = b"") -> bool:
-        """Writes a mark to the disk, and then counts it; false if that fails."""
+        """Writes a mark to the disk, and then counts it; returns False if that fails."""
         words = (name, mark, utc().encode()) if mark else (name, utc().encode())
         is_on_disk = await self.add(b" ".join(words))
         if is_on_disk:

@@ -1,4 +1,4 @@
-"""The server's start, its run and its end."""
+"""The start of the server, its run and its end."""
 
 import asyncio
 import logging
@@ -46,14 +46,14 @@ def main() -> int:
     except Problem as problem:
         log.error("%s", problem)
     except ImportError as fault:
-        log.error("an option needs python3-%s, which is missing", fault.name)
+        log.error("an option needs the missing package python3-%s", fault.name)
     except OSError as fault:
         log.error("%s: %s", fault.filename or "the system", fault.strerror)
     return 1
 
 
 async def serve(options: Options) -> int:
-    """Answers clients until the book ends or a signal comes; returns the status."""
+    """Answers clients until the book ends or a signal arrives; returns the status."""
     for door in options.doors:
         door.prepare()
     service = Service(options)
@@ -74,7 +74,7 @@ async def serve(options: Options) -> int:
 
 
 async def refuse_older_credkeep(options: Options) -> None:
-    """Raises Problem if credkeep lacks an option that the server gives it."""
+    """Raises Problem if credkeep lacks an option that the server passes."""
     process = await asyncio.create_subprocess_exec(
         *(options.credkeep, options.file, "serve", "--help"),
         stdin=asyncio.subprocess.DEVNULL,
@@ -87,12 +87,12 @@ async def refuse_older_credkeep(options: Options) -> None:
 
 
 def log_fault(_loop: asyncio.AbstractEventLoop, context: dict[str, Any]) -> None:
-    """Logs a fault of the server's own without its text, which may quote a line."""
+    """Logs a fault of the server itself without its text, which may quote a line."""
     log.error("a fault: %s", type(context.get("exception")).__name__)
 
 
 async def serve_clients(service: Service) -> None:
-    """Lets clients in once the book answers, and serves them until it is cancelled."""
+    """Admits clients once the book answers, and serves them until it is cancelled."""
     await asyncio.shield(service.book.ask(b"show", b"-"))  # so that nobody cancels this answer
     await take_in(service)
     service.transfers.remove_copy()
@@ -112,8 +112,9 @@ async def serve_clients(service: Service) -> None:
 
 
 async def notify_once_answered(book: Book, beat: float) -> None:
-    """Waits for the book's answer to a line. Tells systemd that the server is alive once the answer
-    is there, and in each beat until then in which an import has the book's file."""
+    """Waits for the book's answer to a line. Reports to systemd that the server is alive when the
+    answer has arrived, and at each interval before that during which an import has the book's
+    file."""
     answer = book.ask(b"show", b"-")
     while not answer.done():
         await asyncio.wait([answer], timeout=beat)
@@ -122,14 +123,15 @@ async def notify_once_answered(book: Book, beat: float) -> None:
 
 
 def beat_seconds() -> float:
-    """The seconds of a beat: half of systemd's limit."""
+    """The seconds of an interval: half of systemd's limit."""
     text = os.environ.get("WATCHDOG_USEC", "")
     microseconds = float(text) if text.isdecimal() else 0.0
     return microseconds / 2e6 if microseconds else UNWATCHED_SECONDS
 
 
 def end_idle_clients(service: Service, idle: float) -> None:
-    """Closes clients that neither sent a line nor read their answers for this many seconds."""
+    """Closes the connections of clients that neither sent a line nor read their answers for this
+    many seconds."""
     for client in list(service.clients):
         is_waiting = client.running and not client.writing.locked()
         if client.active < time.monotonic() - idle and not is_waiting:
@@ -137,8 +139,7 @@ def end_idle_clients(service: Service, idle: float) -> None:
 
 
 async def end(service: Service) -> int:
-    """Ends the clients, each once it has its answers, and then the book; returns the book's
-    status."""
+    """Ends the clients, each after its answers, and then the book; returns the book's status."""
     began = time.monotonic()
     notify("STOPPING=1")
     for task in service.accepting:
@@ -156,7 +157,7 @@ async def end(service: Service) -> int:
 
 
 async def wait_for_answers(service: Service, began: float) -> None:
-    """Waits until each client has its answers and is closed, up to the limit."""
+    """Waits, up to the limit, until each client has its answers and is closed."""
     seconds = 0.0
     while (service.clients or service.tasks) and seconds <= LINES_SECONDS:
         await asyncio.sleep(0.01)
@@ -173,10 +174,10 @@ async def end_book(book: Book, seconds: float) -> int:
     book.end()
     await asyncio.wait([book.ended], timeout=seconds)
     if not book.ended.done():
-        log.error("killing the book: it still runs after %d s", LAST_SECONDS)
+        log.error("killing the book's process, which still runs after %d s", LAST_SECONDS)
         book.kill()
         await asyncio.wait([book.ended], timeout=KILLED_SECONDS)
     if book.ended.done():
         return book.ended.result()
-    log.error("the book can't be killed: its disk hangs")
+    log.error("the book's process can't be killed: its disk hangs")
     return 128 + signal.SIGKILL

@@ -20,7 +20,7 @@ class Names:
         self.folds_local_part = options.fold_local_part
 
     def of_book(self, name: bytes) -> bytes:
-        """The name of an account in the book; NO_NAME for a refused name."""
+        """The name of an account in the book; NO_NAME if the name is refused."""
         if not self.has_addresses:
             return name
         if OF_AN_ADDRESS.fullmatch(name):
@@ -34,7 +34,8 @@ class Names:
         return b"e." + base64.b32encode(digest)[:30].lower()
 
     def spelling(self, name: bytes) -> bytes:
-        """The one spelling of an address that users may type in several; other names stay."""
+        """The canonical spelling of an address that users may type in several ways; other names
+        stay unchanged."""
         local, at, domain = name.rpartition(b"@")
         if not self.has_addresses or not at:
             return name

@@ -1,5 +1,5 @@
-"""An htpasswd file, which the server never writes, and HTPASSWD.moved, which it writes beside the
-file."""
+"""An htpasswd file, which the server never writes, and HTPASSWD.moved, which the server writes
+beside it."""
 
 import asyncio
 import re
@@ -19,8 +19,8 @@ MUST_CHANGE = b"expire"  # the mark in HTPASSWD.moved of who must change before 
 
 
 class OldFile:
-    """The file, which is read again once it has changed. HTPASSWD.moved names the users who have
-    left the file, and other users who must change the password."""
+    """The file; it is read again after each change. HTPASSWD.moved lists the users who have left
+    the file, and other users who must change the password."""
 
     def __init__(self, path: str, names: Names) -> None:
         self.path = path
@@ -54,7 +54,7 @@ class OldFile:
             log.warning(text, self.path, len(stuck), len(lines), users, dots)
 
     async def refresh(self) -> None:
-        """Reads the file again if it has changed. If the file is gone, the book decides, and the
+        """Reads the file again if it has changed. If the file is missing, the book decides, and the
         file's last bars still count."""
         async with self.reading:
             try:
@@ -66,17 +66,17 @@ class OldFile:
                 self.version = ()
 
     async def line(self, name: bytes) -> Line:
-        """The file's line of a name that hasn't moved; otherwise a line without a record."""
+        """The file's line for a name that hasn't moved; otherwise a line without a record."""
         await self.refresh()
         return Line() if self.has_moved(name) else self.lines.get(name, Line())
 
     async def bars(self, name: bytes) -> bool:
-        """Whether the file's line of a name bars its user, also once they have moved."""
+        """Whether the file's line for a name bars its user, even after the move."""
         await self.refresh()
         return bool(self.last_lines.get(name, Line()).bar(today()))
 
     async def barred(self) -> set[bytes]:
-        """The names of the users whom the file's lines bar, if a book can have these names."""
+        """The names of the users whom the lines of the file bar, if a book allows these names."""
         await self.refresh()
         barred = {name for name, line in self.last_lines.items() if line.bar(today())}
         return {name for name in barred if NAME.fullmatch(name)}
@@ -85,19 +85,22 @@ class OldFile:
         return self.moved.has(name)
 
     async def note_moved(self, name: bytes) -> bool:
-        """Notes that the file no longer decides about a name; false if that can't be written."""
+        """Notes that the file no longer decides about a name; returns False if the note can't be
+        written."""
         return self.has_moved(name) or await self.moved.put(name)
 
     def is_expired(self, name: bytes) -> bool:
-        """Whether HTPASSWD.moved says that a name, which hasn't moved, must change the password."""
+        """Whether HTPASSWD.moved says that the user of a name, who hasn't moved, must change the
+        password."""
         return self.moved.has(name, MUST_CHANGE) and not self.has_moved(name)
 
     async def expire(self, name: bytes) -> bool:
-        """Notes in HTPASSWD.moved that a name must change the password; false if that fails."""
+        """Notes in HTPASSWD.moved that the user of a name must change the password; returns False
+        if that fails."""
         return self.is_expired(name) or await self.moved.put(name, MUST_CHANGE)
 
     def must_change(self, name: bytes, line: Line) -> bool:
-        """Whether the user of a name's line must change a right password."""
+        """Whether the user in a name's line must change a right password."""
         return line.must_change(today()) or self.is_expired(name)
 
 
@@ -108,7 +111,7 @@ def version_of(path: str) -> tuple[int, ...]:
 
 
 def version_at_rest(path: str) -> tuple[int, ...]:
-    """The version of a file once it no longer changes: htpasswd empties the file, and then writes
+    """The version of a file that no longer changes: htpasswd truncates the file, and then writes
     it."""
     version = version_of(path)
     for _ in range(MOST_LOOKS):
@@ -120,19 +123,19 @@ def version_at_rest(path: str) -> tuple[int, ...]:
 
 
 def users_in(path: str) -> list[list[bytes]]:
-    """The fields of each user's line of a file."""
+    """The fields of each user's line in a file."""
     with open(path, "rb") as file:
         lines = [line.rstrip() for line in file if not line.startswith(b"#")]
     return [line.split(b":") for line in lines if b":" in line]
 
 
 def printable(name: bytes) -> str:
-    """A name in a form that is safe in the log."""
+    """A name in a form that is safe for the log."""
     return re.sub(rb"[^!-~]", b"?", name).decode()
 
 
 def why_stuck(name: bytes, line: Line) -> str:
     """The reason why a user can't move; empty if the user can."""
     if not NAME.fullmatch(name):
-        return "no name of a book"
+        return "not a name of a book"
     return why_unknown(line.record) or line.why_shut(today())

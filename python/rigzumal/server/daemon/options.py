@@ -35,47 +35,48 @@ def option(text: str, metavar: str = "", default: object = "", most: int = 10**9
     return field(default=default, metadata={"help": text, "metavar": metavar, "type": kind})
 
 
-LINE = f"a line's record may need; by default {TIMES} times --setting's"
+LINE = f"of a line's record; by default {TIMES} times that of --setting"
 
 
 @dataclass
 class Options:
-    """The values of the command line, with these defaults."""
+    """The values from the command line, with these defaults."""
 
     file: str = ""
     doors: list[Door] = field(default_factory=list)
     socket: list[list[str]] = field(default_factory=list)
     http: str = option("answer HTTP at one more socket", "SOCKET")
-    tries: int = option("failed tries until a name must wait; 0: no limit", "N", 10, MOST_TRIES)
-    idle: int = option("the seconds until an idle client is closed", "SECONDS", 600)
+    tries: int = option("failed tries before a name must wait; 0: no limit", "N", 10, MOST_TRIES)
+    idle: int = option("seconds before an idle connection is closed", "SECONDS", 600)
     audit: str = option("append a JSON line to this file for each change", "LOG")
     audit_tries: bool = option("log failed tries too")
     metrics: str = option("print the counts of an admin socket's server", "SOCKET")
-    foreign: str = option("an htpasswd file, whose users move into the book", "HTPASSWD")
-    upgrade: str = option("costs of new records; a right verify upgrades others", "COSTS")
+    foreign: str = option("an htpasswd file whose users move into the book", "HTPASSWD")
+    upgrade: str = option("costs of new records; a right login upgrades others", "COSTS")
     least_length: int = option("the least length of a new password", "N", 0)
     setting: str = option("for credkeep: the costs of new records", "TEXT")
     at_once: int = option(
-        "a user's lines to hash at once; 0: one a processor", "N", 0, MOST_AT_ONCE
+        "lines of a user hashed at once; 0: one per processor", "N", 0, MOST_AT_ONCE
     )
     memory: str = option("for credkeep: the memory of all hashes, such as 512M", "SIZE")
-    most_memory: str = option(f"memory that {LINE}", "SIZE")
-    most_work: str = option(f"work that {LINE}", "SIZE")
+    most_memory: str = option(f"the most memory {LINE}", "SIZE")
+    most_work: str = option(f"the most work {LINE}", "SIZE")
     wait: int = option("for credkeep: the longest wait for FILE", "SECONDS", 30, 3600)
     credkeep: str = option("the program to run instead of credkeep", "PROGRAM", "credkeep")
     mail_names: bool = option("accept e-mail addresses as names")
     fold_local_part: bool = option("change the part before the @ to lower case too")
 
     def bound(self) -> None:
-        """Bounds a line's costs if no option does: a costly record would delay everybody."""
+        """Sets a bound on the costs in a line if no option does, since a costly record would delay
+        everybody."""
         costs = costs_of(self.setting or USUAL)
         if costs:  # credkeep refuses what is no setting
             self.most_memory = self.most_memory or size_of(TIMES * costs.memory)
             self.most_work = self.most_work or size_of(TIMES * costs.work)
 
     def workers(self) -> int:
-        """The number of lines that the book hashes at once: a user's, and one more for another
-        user."""
+        """The number of lines that the book hashes at the same time: those of one user, and one
+        more for another user."""
         return 1 + min(self.at_once or len(os.sched_getaffinity(0)), MOST_AT_ONCE)
 
     def book_words(self) -> list[str]:
@@ -137,7 +138,7 @@ def parser() -> Parser:
 
 
 def parse(words: Sequence[str]) -> Options:
-    """The options of a command line; raises Problem for impossible ones."""
+    """The options on a command line; raises Problem for impossible ones."""
     options = parser().parse_args(words, Options())
     if options.metrics:
         return options

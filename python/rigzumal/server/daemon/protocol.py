@@ -1,8 +1,9 @@
-"""The operations and the answers of lines: one table of each.
+"""The operations and the answers of lines: one table for each.
 
-The server, credkeep-ask and the HTTP door read these tables. From them tools/protocol.py writes the
-replies of the clients for Python, the header of the PAM module, and the answers in docs/ERRORS.md
-and credkeep-server(8). tests/server/test_protocol.py tests whether all agree.
+The server, credkeep-ask and the HTTP door read these tables. From these tables tools/protocol.py
+writes the replies of the Python clients, the header of the PAM module, and the answers in
+docs/ERRORS.md and credkeep-server(8). tests/server/test_protocol.py tests whether all of them
+agree.
 """
 
 from __future__ import annotations
@@ -17,7 +18,7 @@ RIGHT, WRONG, ABSENT, NO_ACCOUNT = "yes", "no", "absent", "noaccount"
 
 @dataclass(frozen=True)
 class Answer:
-    """An answer with no other words, such as names, after it."""
+    """An answer without further words, such as names, after it."""
 
     meaning: str  # on pages
     tried: str = ""  # as what a try is counted that gets it
@@ -41,7 +42,7 @@ def refused(meaning: str, ask: int = 1, http: int = 503) -> Answer:
 
 ANSWERS = {
     "yes": Answer(
-        "the password is right; of `known`: the account has a record",
+        "the password is right; after `known`: the account has a record",
         tried=RIGHT,
         reply="YES",
         http=200,
@@ -72,7 +73,7 @@ ANSWERS = {
         ask=4,
     ),
     "absent": Answer(
-        "the account has no record; of `known`, also: it is locked",
+        "the account has no record; after `known`: it has none, or it is locked",
         tried=ABSENT,
         reply="ABSENT",
         http=401,
@@ -92,17 +93,17 @@ ANSWERS = {
     ),
     "upgraded": Answer("the record has the new costs", tried=RIGHT, changed=True, reply="UPGRADED"),
     "removed": Answer(
-        "the record is gone, and the name stays", tried=RIGHT, changed=True, reply="REMOVED"
+        "the record is removed, and the name stays", tried=RIGHT, changed=True, reply="REMOVED"
     ),
     "kept": Answer("the record already has these costs", tried=RIGHT, reply="KEPT"),
     "ok": done("OK", "the operation took effect"),
     "enrolled": done("ENROLLED", "the account has its first record"),
-    "disabled": done("DISABLED", "the record is gone, and the name stays"),
-    "deleted": done("DELETED", "name and record are gone"),
+    "disabled": done("DISABLED", "the record is removed, and the name stays"),
+    "deleted": done("DELETED", "the name and the record are removed"),
     "renamed": done("RENAMED", "the account has the new name"),
-    "locked": done("LOCKED", "each password is wrong from now on, until `unlock`"),
-    "unlocked": done("UNLOCKED", "the lock is gone, and the record counts again"),
-    "forgiven": Answer("no failed try counts any more"),
+    "locked": done("LOCKED", "every password is wrong until `unlock`"),
+    "unlocked": done("UNLOCKED", "the lock is removed, and the record counts again"),
+    "forgiven": Answer("its failed tries no longer count"),
     "exists": Answer(
         "the account already has a record; of `rename`: an account already has the new name",
         reply="EXISTS",
@@ -148,21 +149,22 @@ ANSWERS = {
     "bad 1 exists": refused("the book, or the file of `--foreign`, already has the name", ask=4),
     "bad 2 full": refused("the book has no room for another account", ask=6),
     "bad 3 name": Answer("no book can have such a name", http=401, pam="USER_UNKNOWN", ask=1),
-    "bad 4 memory": refused("there was no memory for a hash: see `--memory`", ask=3),
+    "bad 4 memory": refused("a hash got too little memory: see `--memory`", ask=3),
     "bad 5 noaccount": refused("the book lacks the name", ask=4),
     "bad 11 line": refused("no such line exists"),
-    "bad 13 password": refused("the password isn't base64 of up to 256 bytes", ask=6, http=401),
+    "bad 13 password": refused("the password isn't base64 of at most 256 bytes", ask=6, http=401),
     "bad 14 busy": refused(
         "others changed the account meanwhile, or another import is running: try again", ask=5
     ),
     "bad 16 long": refused(
-        "a line of over 960 bytes, or an import of over 128 MiB; the connection goes on", http=401
+        "the line has over 960 bytes, or the import over 128 MiB; the connection stays open",
+        http=401,
     ),
     "bad 18 costly": refused(
         "the record or the setting needs more than `--most-memory`" " or `--most-work` allows"
     ),
     "bad 19 disk": Answer(
-        "the disk of the book or of the audit log has too little room for a change; logins go on",
+        "the disk of the book or of the audit log is too full for a change; logins continue",
         pam="AUTHTOK_ERR",
         ask=5,
         text="The server's disk is full: the password stays as it was.",
@@ -173,14 +175,14 @@ NO_ANSWER = Answer("")  # any other text
 
 @dataclass(frozen=True)
 class Command:
-    """A command of credkeep-ask for a server: the words after it, and its text of help."""
+    """A command of credkeep-ask for a server: its arguments, and its help text."""
 
     words: str
     text: str
 
     @cached_property
     def counts(self) -> range:
-        """The number of words after the command, without options."""
+        """The number of arguments after the command, without options."""
         words = [word for word in self.words.split() if not word.startswith(("[-", "[OPTION]"))]
         least = sum(not word.startswith("[") for word in words)
         return range(least, len(words) + 1)
@@ -206,7 +208,7 @@ class Operation:
 
     @cached_property
     def tries(self) -> bool:
-        """Whether a line has a present password, and so may be a guess."""
+        """Whether a line contains a present password, and may therefore be a guess."""
         return self.place("PW") > 0
 
     @cached_property
@@ -216,12 +218,12 @@ class Operation:
 
     @cached_property
     def new(self) -> int:
-        """The place of a new password among its fields; 0 without one."""
+        """The position of a new password among its fields; 0 if it has none."""
         return self.place("NEW")
 
     @cached_property
     def setting(self) -> int:
-        """The place of a setting among its fields; 0 without one."""
+        """The position of a setting among its fields; 0 if it has none."""
         return self.place("[SETTING]")
 
     @cached_property

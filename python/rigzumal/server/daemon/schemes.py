@@ -1,4 +1,4 @@
-"""Judges the records of an htpasswd file as nginx judges them."""
+"""Checks passwords against the records of an htpasswd file, as nginx does."""
 
 import ctypes.util
 import hashlib
@@ -22,17 +22,17 @@ crypt_r.restype = ctypes.c_char_p
 
 
 def why_unknown(record: bytes) -> str:
-    """The reason why no password is right for a record; empty if one may be."""
+    """The reason why no password is right for a record; empty if some password may be right."""
     if record.startswith((APACHE, SHA1, SALTED_SHA1, *CRYPT)):
         return ""
     if record[:1] in b"!*":
         return "locked"
     is_des = re.fullmatch(rb"[./0-9A-Za-z]{13}", record)
-    return "DES" if is_des else "plain text, or another scheme"
+    return "DES" if is_des else "plain text or an unknown scheme"
 
 
 def is_right(record: bytes, password: bytes) -> bool:
-    """Whether a record is of a password, as nginx judges it."""
+    """Whether a password is right for a record, as nginx decides it."""
     is_cut = record.startswith(BCRYPT) and len(password) > LONGEST_BCRYPT
     if is_cut or b"\0" in password:
         return False

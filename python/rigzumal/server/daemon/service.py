@@ -1,4 +1,4 @@
-"""The requests of clients: their rights, their turns at the book, and their notes in the audit
+"""The requests of clients: their rights, their turns at the book, and their entries in the audit
 log."""
 
 import asyncio
@@ -49,7 +49,7 @@ class Request:
 
     @property
     def word(self) -> bytes:
-        """The word of its operation."""
+        """The word of the operation."""
         return self.words[0]
 
     @property
@@ -101,7 +101,7 @@ class Service:
     # ---- a request comes
 
     def submit(self, client: Client, tag: bytes, words: list[bytes]) -> bytes:
-        """Begins to process a request, or returns the server's own answer."""
+        """Begins to process a request, or returns an answer of the server itself."""
         while len(words) < 2:  # an operation, and one field at least
             words.append(b"")
         if what := why_denied(client.door, words):
@@ -118,7 +118,7 @@ class Service:
         return b""
 
     def begin(self, answering: Coroutine[Any, Any, None]) -> None:
-        """Begins a task; the server's own end waits for the task's."""
+        """Begins a task; the server exits only after the task has ended."""
         task = asyncio.ensure_future(answering)
         self.tasks.add(task)
         task.add_done_callback(self.tasks.discard)
@@ -129,13 +129,13 @@ class Service:
         log_seldom(values, "denied at %s to uid %d: %s", *values)
 
     def with_names_of_book(self, words: list[bytes]) -> list[bytes]:
-        """The words of a request, with its names in the book's form."""
+        """The words of a request, with names in the book's form."""
         word, *fields = words
         count = OPERATIONS[word].names
         return [word, *map(self.names.of_book, fields[:count]), *fields[count:]]
 
     def own_answer(self, words: list[bytes]) -> bytes:
-        """The server's own answer to a request that needs no answer of the book, or nothing."""
+        """The server's own answer to a request that the book needn't answer, or nothing."""
         operation = OPERATIONS[words[0]]
         if len(b" ".join(words)) + 1 > LONGEST:  # with names that became longer
             return LONG
@@ -146,8 +146,8 @@ class Service:
         return b""
 
     def answer_to_new_password(self, field: bytes) -> bytes:
-        """The answer to a refused new password; empty for others, and for a field that is no
-        password."""
+        """The answer to a refused new password; empty for any other password, and for a field that
+        isn't a password."""
         password = password_of(field)
         if password is None:  # which the book refuses
             return b""
@@ -164,8 +164,8 @@ class Service:
     # ---- it is answered
 
     async def process(self, request: Request) -> None:
-        """Answers a request, and notes the answer in the audit log. A change is noted before the
-        client gets the answer, and a login afterwards, so that a slow disk holds up no login."""
+        """Answers a request, and records the answer in the audit log. A change is recorded before
+        the client gets the answer, and a login afterwards, so that a slow disk delays no login."""
         client, operation = request.client, request.operation
         answer = await self.answer_in_turn(request)
         if seconds := seconds_to_wait(answer):
@@ -187,8 +187,8 @@ class Service:
             await self.upgrade(request)
 
     async def answer_in_turn(self, request: Request) -> bytes:
-        """The answer to a request, once it has a place; nothing if it changes nothing, and its
-        client has ended by then."""
+        """The answer to a request, once it has a place; nothing if the request changes nothing and
+        its client has ended by then."""
         client, came = request.client, time.monotonic()
         async with client.queues[request.places]:  # one of its requests waits at a time
             await request.places.take(client.user)
@@ -201,8 +201,8 @@ class Service:
             request.places.release(client.user)
 
     async def answer_if_room(self, request: Request) -> bytes:
-        """The answer to a request. The server doesn't try a change without room on the disks, or if
-        so many lines wait for the audit log that it can't note the change."""
+        """The answer to a request. The server doesn't try a change if the disks have no room, or if
+        so many lines wait for the audit log that the server can't record the change."""
         if request.operation.changes and self.audit.is_full():
             return UNAVAILABLE
         if request.operation.changes and not self.has_room():
@@ -210,11 +210,11 @@ class Service:
         return await self.answer(request)
 
     def has_room(self) -> bool:
-        """Whether the disks have room for a change: without room a change would end the book, or be
-        stored and not noted."""
+        """Whether the disks have room for a change: without room, a change would end the book, or
+        be stored without a record in the log."""
         full = [path for path, folder in self.folders.items() if not has_room(folder)]
         for path in full:
-            text = "%s: its disk has under %d KiB left, so the book isn't changed"
+            text = "%s: its disk has less than %d KiB left, so the server refuses changes"
             log_seldom(("disk", path), text, path, NEEDED // 1024)
         return not full
 
@@ -235,7 +235,7 @@ class Service:
         return await self.book.ask(*request.words)
 
     async def log_in(self, *words: bytes) -> bytes:
-        """The answer to a login. The quickest login with a name that the book lacks measures the
+        """The answer to a login. The fastest login with a name that the book lacks measures the
         time of a hash at the costs of new records."""
         began = time.monotonic()
         self.logins += 1
@@ -251,19 +251,21 @@ class Service:
         return answer
 
     async def ask_besides(self, request: Request, *words: bytes) -> bytes:
-        """The book's answer to a further line of a request; the audit log gets the line too."""
+        """The book's answer to an additional line of a request; the audit log gets that line
+        too."""
         answer = await self.book.ask(*words)
         await self.note(replace(request, words=list(words)), answer)
         return answer
 
     async def end_waits(self) -> None:
-        """Ends the waits of failed tries that the book's last process counted."""
+        """Ends the waits after failed tries that the book's last process counted."""
         self.tally.end_waits(self.foreign.rest if self.foreign else lambda _: 0)
         if self.foreign:
             await self.foreign.end_waits()
 
     async def upgrade(self, request: Request) -> None:
-        """Upgrades a record of other costs after a right password; upgrades run one at a time."""
+        """After a right password, upgrades a record with other costs; upgrades run one at a
+        time."""
         if self.upgrading.locked() or not self.has_room():
             return
         async with self.upgrading:
@@ -277,7 +279,8 @@ class Service:
     # ---- the audit log
 
     async def note(self, request: Request, answer: bytes) -> bool:
-        """Adds an answered change, or a right password, to the audit log; false if that fails."""
+        """Adds an answered change, or a right password, to the audit log; returns False if that
+        fails."""
         if not self.audit.path or not self.is_noted(request, answer):
             return True
         client, (word, *fields) = request.client, request.words
@@ -290,7 +293,7 @@ class Service:
         return await self.audit.add(json.dumps(entry).encode())
 
     def is_noted(self, request: Request, answer: bytes) -> bool:
-        """Whether the audit log gets such an answer."""
+        """Whether the audit log records such an answer."""
         operation = request.operation
         if operation.is_transfer:
             return True
@@ -303,7 +306,7 @@ class Service:
 
 
 def answer_to_known(row: bytes) -> bytes:
-    """The answer to `known`, by an account's row; the row itself if it is a refusal."""
+    """The answer to `known`, from an account's row; the row itself if it is a refusal."""
     for begin, answer in KNOWN.items():
         if row.startswith(begin):
             return answer
@@ -311,7 +314,8 @@ def answer_to_known(row: bytes) -> bytes:
 
 
 def why_denied(door: Door, words: list[bytes]) -> str:
-    """The part of a request that its socket doesn't allow, in words for the log; empty if none."""
+    """The part of a request that its socket doesn't allow, in words for the log; empty if
+    everything is allowed."""
     word = words[0]
     if word not in OPERATIONS:
         return "an unknown operation"

@@ -23,15 +23,16 @@ MOST_SHOWN, LONGEST_STATS = 1000, 4096  # names in an answer, letters of one
 
 @dataclass(frozen=True)
 class Metric:
-    """A metric of Prometheus: its name and text, and the counts of `stats` that are its samples."""
+    """A metric for Prometheus: its name and text, and the counts of `stats` that are its
+    samples."""
 
     name: str
     text: str
     counts: tuple[str, ...]
 
     def lines(self, counted: dict[str, str]) -> Iterator[str]:
-        """The metric in Prometheus' text format: each sample has its answer as a label if there are
-        several."""
+        """The metric in Prometheus' text format: if it has several samples, each one has its answer
+        as a label."""
         kind = "counter" if self.name.endswith("_total") else "gauge"
         yield f"# HELP credkeep_{self.name} {self.text}"
         yield f"# TYPE credkeep_{self.name} {kind}"
@@ -59,18 +60,18 @@ COUNTED = [*(count for metric in METRICS for count in metric.counts), "book"]  #
 
 @dataclass(frozen=True)
 class Wait:
-    """The wait in the answer to a try: its seconds, and the moment of the answer."""
+    """The wait in the answer to a try: its seconds, and the time of the answer."""
 
     seconds: int
     told: float
 
     def rest(self) -> int:
-        """The seconds that are left now."""
+        """The remaining seconds."""
         return max(0, math.ceil(self.seconds - (time.monotonic() - self.told)))
 
 
 def remember(notes: "OrderedDict[str, Note]", name: str, note: Note) -> None:
-    """Stores a name's last note, and forgets the oldest names if there are too many."""
+    """Stores the latest note about a name, and forgets the oldest names if there are too many."""
     notes[name] = note
     notes.move_to_end(name)
     if len(notes) > REMEMBERED:
@@ -78,7 +79,7 @@ def remember(notes: "OrderedDict[str, Note]", name: str, note: Note) -> None:
 
 
 class Tally:
-    """The answers of a server since its start, counted."""
+    """Counts the answers of a server since its start."""
 
     def __init__(self, options: Options) -> None:
         self.tries = options.tries  # tries that may fail until the next has to wait
@@ -88,7 +89,7 @@ class Tally:
         self.early = OrderedDict[str, Wait]()  # the last wait of each name that a try was answered
 
     def count(self, kind: Operation, name: str, answer: str, seconds: int = 0) -> None:
-        """Counts an answer to a request for a name, with the seconds of its wait; and logs the
+        """Counts an answer to a request for a name, with the seconds of its wait, and logs the
         wait."""
         if answer == LATER.decode():
             self.counts["later"] += 1
@@ -115,24 +116,24 @@ class Tally:
                 remember(self.logins, name, time.time())
 
     def end_wait(self, name: str, why: str) -> None:
-        """Notes that a name's wait has ended, and logs the end if the wait was logged."""
+        """Notes that the wait of a name has ended, and logs this if the wait was logged."""
         self.early.pop(name, None)
         if forget_message((LATER, name)):
-            log.info("%s need not wait any longer: %s", name, why)
+            log.info("%s no longer has to wait: %s", name, why)
 
     def end_waits(self, staying: Callable[[str], int]) -> None:
-        """Ends all waits, since a new process of the book knows no failed tries; only waits at
-        names for which `staying` has seconds remain."""
+        """Ends all waits, since a new process of the book knows no failed tries; only waits of
+        names for which `staying` returns seconds remain."""
         ended = [name for name in self.early if not staying(name)]
         for name in ended:
             del self.early[name]
             forget_message((LATER, name))
         if ended:
-            log.info("%d names need not wait any longer: the book's process is new", len(ended))
+            log.info("%d names no longer have to wait: the book's process is new", len(ended))
 
     def waits(self) -> list[str]:
-        """The names whose wait isn't over, each as NAME:SECONDS with the rest of the wait: a try
-        there came too early, and no login or `forgive` ended the wait."""
+        """The names whose wait isn't over, each as NAME:SECONDS with the remaining seconds: a try
+        at that name was too early, and no login or `forgive` has ended the wait."""
         early = self.early.items()
         return [f"{name}:{rest}" for name, wait in early if (rest := wait.rest())]
 

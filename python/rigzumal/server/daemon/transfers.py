@@ -1,8 +1,8 @@
-"""Whole books through a socket: an import, an export and a backup.
+"""Transfers of whole books through a socket: an import, an export and a backup.
 
-credkeep does each of them. An import needs the book's file: the book's process ends in order, lines
-wait, and the next process starts after the import. An export, a backup and a trial of an import use
-a copy, which credkeep writes beside the file while the book is served.
+credkeep carries out each of them. An import needs exclusive use of the book's file: the book's
+process ends in order, lines wait, and the next process starts after the import. An export, a backup
+and a trial import use a copy, which credkeep writes beside the file while the server uses the book.
 """
 
 from __future__ import annotations
@@ -56,7 +56,7 @@ class Result:
     faults: bytes = b""
 
     def answer(self, tag: bytes) -> Iterator[bytes]:
-        """The answer, in pieces: a line with the sizes of both texts, and then the texts."""
+        """The answer, in pieces: a line with the sizes of both texts, followed by the texts."""
         left = self.output.seek(0, os.SEEK_END)
         yield b"%b ended %d %d %d\n" % (tag, self.status, left, len(self.faults))
         self.output.seek(0)
@@ -80,7 +80,7 @@ class Incoming:
         self.text = memory_file()
 
     def take(self, data: bytes) -> bytes:
-        """Stores the bytes of the text, and returns the bytes after the text."""
+        """Stores bytes of the text, and returns the bytes after the text."""
         own, rest = data[: self.missing], data[self.missing :]
         self.text.write(own)
         self.missing -= len(own)
@@ -88,7 +88,7 @@ class Incoming:
 
 
 class Transfers:
-    """The imports, exports and backups of a server. Runs of credkeep go one after another."""
+    """The imports, exports and backups of a server. Runs credkeep for one request at a time."""
 
     def __init__(self, service: Service) -> None:
         self.service = service
@@ -115,7 +115,7 @@ class Transfers:
         return b""
 
     def submit_import(self, request: Request, fields: list[bytes]) -> bytes:
-        """Asks the client for the text by the answer `send`, or returns another answer."""
+        """Asks the client for the text with the answer `send`, or returns another answer."""
         size, *options = fields
         are_known = all(option.decode(errors="replace") in IMPORT_OPTIONS for option in options)
         if not re.fullmatch(rb"[0-9]{1,12}", size) or not are_known:
@@ -134,8 +134,8 @@ class Transfers:
         return b"send %d" % int(size)
 
     def has_room(self, size: int) -> bool:
-        """Whether the disks have room for a change, and the book's disk for this many bytes
-        more."""
+        """Whether the disks have room for a change, and the book's disk for this many additional
+        bytes."""
         folder = self.service.folders[self.file]
         return self.service.has_room() and has_room(folder, size + NEEDED)
 
@@ -145,14 +145,14 @@ class Transfers:
         self.has_import = False
 
     def begin(self, request: Request, text: Optional[BinaryIO]) -> None:
-        """Begins a request; an import goes on even if its client ends."""
+        """Begins a request; an import continues even if its client ends."""
         request.client.running += 1
         self.service.begin(self.process(request, text))
 
     # ---- it is done
 
     async def process(self, request: Request, text: Optional[BinaryIO]) -> None:
-        """Runs and answers a request. A fault costs this request, and never the service."""
+        """Runs and answers a request. A fault fails only this request, and never the service."""
         client = request.client
         try:
             result = await self.result(request, text)
@@ -168,14 +168,14 @@ class Transfers:
             client.answered.set()
 
     async def is_noted(self, request: Request, result: Result) -> bool:
-        """Notes a request in the audit log; false if that fails."""
+        """Records a request in the audit log; returns False if that fails."""
         if result.status or is_only_tried(request):
             return True
         is_import = request.word == b"import"
         return await self.service.note(request, result.first_line() if is_import else b"ok")
 
     async def result(self, request: Request, text: Optional[BinaryIO]) -> Result:
-        """The result of a request, which runs once no other credkeep runs."""
+        """The result of a request, which runs when no other credkeep runs."""
         try:
             async with self.one_at_a_time:
                 if self.service.book.has_ended():
@@ -208,7 +208,7 @@ class Transfers:
         return result
 
     async def use_copy(self, request: Request, text: Optional[BinaryIO]) -> Result:
-        """Runs a request on a copy, while the book is served."""
+        """Runs a request on a copy, while the server uses the book."""
         try:
             backup = await self.run(self.file, "backup", self.copy)
             if backup.status:
@@ -223,14 +223,14 @@ class Transfers:
             self.remove_copy()
 
     async def export_copy(self) -> Result:
-        """The lines of the copy, with a lock at users whom an old file bars."""
+        """The lines of the copy, with a lock for users whom an old file bars."""
         result = await self.run(self.copy, "export")
         if self.service.foreign:
             result.output = await self.service.foreign.with_locks(result.output)
         return result
 
     def remove_copy(self) -> None:
-        """Removes the copy, or the rest of one that a kill left."""
+        """Removes the copy, or the part of a copy that a kill left."""
         for path in (self.copy, f"{self.copy}-wal", f"{self.copy}-new"):
             try:
                 os.unlink(path)
@@ -242,7 +242,8 @@ class Transfers:
     # ---- credkeep
 
     def import_words(self, request: Request) -> list[str]:
-        """The words of credkeep's import, with the bounds on a record's costs that lines have."""
+        """The arguments of credkeep's import, with the bounds on a record's costs that lines
+        have."""
         options = self.service.options
         words = ["import", *(option.decode() for option in request.words[2:])]
         if options.most_memory:
@@ -258,7 +259,7 @@ class Transfers:
         return await asyncio.to_thread(with_names_of_book, text, self.service.names)
 
     async def run(self, file: str, *words: str, text: Optional[BinaryIO] = None) -> Result:
-        """The result of a run of credkeep, with this text as its input."""
+        """The result of a run of credkeep with this text as its input."""
         options, result = self.service.options, Result()
         if text is not None:
             text.seek(0)
@@ -292,13 +293,13 @@ def is_only_tried(request: Request) -> bool:
 
 
 def have_killed_first(pid: int) -> None:
-    """Makes the system kill this process before the server when memory runs out."""
+    """Makes the system kill this process before the server if memory runs out."""
     with suppress(OSError), open(f"/proc/{pid}/oom_score_adj", "w") as file:
         file.write(KILLED_FIRST)
 
 
 async def beginning_of(stream: asyncio.StreamReader) -> bytes:
-    """The whole lines at the beginning of a stream; the stream is read to its end."""
+    """The whole lines at the beginning of a stream, which is read to its end."""
     text, left_out = b"", 0
     while more := await stream.read(PIECE):
         if len(text) < LONGEST_FAULTS:
@@ -313,7 +314,7 @@ async def beginning_of(stream: asyncio.StreamReader) -> bytes:
 
 
 def with_names_of_book(text: BinaryIO, names: Names) -> BinaryIO:
-    """The lines of an import; the addresses before their first colons are in the book's form."""
+    """The lines of an import, with the addresses before their first colons in the book's form."""
     written = memory_file()
     text.seek(0)
     for line in text:

@@ -1,6 +1,6 @@
-"""Failed tries at users of an old file who aren't in the book: the book counts those at its own
-accounts. The rules are the book's. Requests for such a user run one at a time, so no two tries at
-one name are judged at once.
+"""Counts failed tries at users of an old file who aren't in the book: the book counts those at its
+own accounts. The rules are those of the book. Requests for such a user run one at a time, so no two
+tries at one name run at the same time.
 """
 
 import math
@@ -15,26 +15,26 @@ COUNTED_BEYOND = 10  # the limit at which the wait is longest
 
 @dataclass(frozen=True)
 class Failed:
-    """Tries that failed in a row."""
+    """The number of consecutive failures."""
 
     count: int
     last: float  # the moment of the last one
 
 
 class Tries:
-    """The limits on the tries at each of these users."""
+    """The limits on tries for each of these users."""
 
     def __init__(self, limit: int) -> None:
         self.limit = limit or math.inf  # failed tries until the next has to wait
         self.failed = dict[bytes, Failed]()
 
     def count(self, name: bytes) -> int:
-        """The number of failures in a row; a day without a failure ends the row."""
+        """The number of consecutive failures, which a day without a failure resets."""
         failed = self.failed.get(name)
         return failed.count if failed and time.monotonic() < failed.last + FORGOTTEN else 0
 
     def rest(self, name: bytes) -> int:
-        """The seconds that the next try still has to wait."""
+        """The remaining seconds before the next try."""
         count = self.count(name)
         if count < self.limit:
             return 0

@@ -23,8 +23,8 @@ TAG = b"1"  # of each request: the server answers one at a time
 
 
 def credentials(headers: Sequence[tuple[bytes, bytes]]) -> Optional[tuple[bytes, bytes]]:
-    """The name in a request's only Authorization (RFC 7617), and the password in the form of a
-    line's field."""
+    """The name in a request's only Authorization header (RFC 7617), and the password in the form of
+    a line's field."""
     values = [value for name, value in headers if name == b"authorization"]
     found = BASIC.fullmatch(values[0]) if len(values) == 1 else None
     if found is None:
@@ -40,7 +40,8 @@ def credentials(headers: Sequence[tuple[bytes, bytes]]) -> Optional[tuple[bytes,
 
 
 def status_of_framing(request: Any) -> int:
-    """The status of a request that servers may read in two ways; 0 for others. RFC 9112, 6.1."""
+    """The status for a request that servers may read in two ways; 0 for any other request. RFC
+    9112, 6.1."""
     if request.http_version not in VERSIONS:
         return 505
     names = {name for name, _ in request.headers}
@@ -49,7 +50,7 @@ def status_of_framing(request: Any) -> int:
 
 
 class WebClient(Client):
-    """A client that sends requests, and gets each answer before the server reads the next
+    """A client that sends requests, and receives each answer before the server reads the next
     request."""
 
     no_room = b"HTTP/1.1 503 Service Unavailable\r\nContent-Length: 0\r\nConnection: close\r\n\r\n"

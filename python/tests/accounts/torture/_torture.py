@@ -1,5 +1,5 @@
-"""The load on a database: the number of processes, and the operations that each asks of accounts,
-which are logged."""
+"""The load on a database: the number of processes, and the logged operations that each one does on
+accounts."""
 
 import asyncio
 import dataclasses
@@ -37,13 +37,13 @@ RISK = 0.01
 
 
 def hasher(memory):
-    """A hasher that costs next to nothing; memory is in KiB."""
+    """An almost free hasher; memory is in KiB."""
     return PasswordHasher(time_cost=1, memory_cost=memory, parallelism=1)
 
 
 @dataclasses.dataclass
 class Torture:
-    """The load on a database, as the command has it, or as tests alter it."""
+    """The load on a database, as the command specifies it, or as tests modify it."""
 
     url: str
     table: str = "rigzumal_torture"  # created, and dropped again if the history is legal
@@ -133,7 +133,7 @@ class Torture:
     def _load(self, names):
         """Runs the processes; returns the number of those that ended by an exception.
 
-        If processes are to be killed, the first one is at its first change.
+        If processes are to be killed, the first one is killed at its first change.
         """
         end, faults, running = time.monotonic() + self.seconds, 0, {}
         for number in range(self.processes):
@@ -260,7 +260,7 @@ class Worker:
     # ---- the ways of doing an operation
 
     async def _login(self, accounts, request):
-        """A login, logged as the parts of an upgrade, and as its caller sees it: as a verify at the
+        """A login, logged as the parts of an upgrade, and as its caller sees it: as a verify of the
         record that it leaves."""
         with accounts.call(request) as said:
             reply = await done(accounts.login(request.key, request.password))

@@ -1,23 +1,24 @@
 """Decides whether each account's answers are those of one legal history.
 
 A history is legal if each operation can be given one moment between its call and its answer, so
-that every reply, and the record after it, is what the whole operation does at the record that
-stands at its moment. An operation without an answer has one moment after its call, or took no
-place. The law `updates_are_one_history` of the crate cred_book proves this of any store whose
-update is one comparison and one writing, and of any function from what stands to a reply and what
-stands after: resets and texts of other schemes too.
+that its reply, and the record after it, are those of the whole operation on the record at that
+moment. An operation without an answer has one moment after its call, or didn't take place. The law
+`updates_are_one_history` of the crate cred_book proves this of any store whose update is one
+comparison and one writing, and of any function from what stands to a reply and what stands after:
+resets and texts of other schemes too.
 
-Why the check is exact. Each record has a fresh salt, so it stands during one period, and each
-change names the record that it replaces. So the changes of an account fall into chains, and the
-order within a chain is given: it can be kept if and only if the earliest moments, taken one after
-another, are in time. A chain can come before another, or before what was done where no record
-stood, if and only if none of its calls is after one of the other's answers. There are moments for
-all if and only if each two have an order. Sorting apart, this takes time in proportion to the
+Why the check is exact. Each record has a fresh salt, so it exists during a single period, and each
+change names the record that it replaces. The changes of an account therefore form chains, and the
+order within a chain is fixed: it is possible if and only if the earliest moments, one after
+another, are in time. A chain can come before another, or before an operation without a record, if
+and only if none of its calls comes after an answer of the other. Moments for all of them exist if
+and only if each two have an order. Apart from sorting, this check takes time in proportion to the
 history.
 
 The attempt of an operation without an answer doesn't prove that the record which it read was
-stored: a crash may lose a record that no answer named. It took place exactly if what was answered
-wants it: a record that somebody was told of had been put, and one that is gone had been replaced.
+stored: a crash may lose a record that no answer named. An attempt took place exactly if the answers
+require it: a record that an answer names had been stored, and a record that no longer exists had
+been replaced.
 """
 
 from __future__ import annotations
@@ -44,7 +45,7 @@ class Attempt(NamedTuple):
 @dataclass(eq=False)
 class Operation:
     """An operation with the times of its call and its answer, in any unit; also the first and the
-    last record, of the kinds "seed" and "end"."""
+    last record, with the kinds "seed" and "end"."""
 
     id: str
     kind: str
@@ -111,7 +112,7 @@ def conflict(events):
 
 
 def possible(it, record, maker):
-    """The replies that an operation may have at a record that `maker` wrote."""
+    """The replies that an operation may have for a record that `maker` wrote."""
     if record is None:
         return {"enrolled" if it.kind in ("enrol", "reset") else "absent"}
     if it.kind in ("enrol", "reset"):
@@ -127,10 +128,10 @@ def possible(it, record, maker):
 
 
 class _Span(NamedTuple):
-    """A chain, or an operation at no record.
+    """A chain, or an operation without a record.
 
-    Of two spans one can come before the other if its last call isn't after the other's
-    first answer.
+    One of two spans can come before the other if its last call isn't after the other's first
+    answer.
     """
 
     first: float  # answer
@@ -139,7 +140,7 @@ class _Span(NamedTuple):
 
 
 class _Records:
-    """The operations at each record, and those that wrote and replaced it."""
+    """The operations on each record, and those that wrote and replaced it."""
 
     def __init__(self, events):
         self.maker, self.replacer, self.at_none = {}, {}, []
@@ -163,7 +164,7 @@ class _Records:
                 raise _Conflict(f"{other.id} and {it.id} both {word} {record}")
 
     def _judge(self, it):
-        """Refuses a reply that isn't that of the whole operation at the record."""
+        """Refuses a reply that isn't that of the whole operation on the record."""
         record, by = it.before or "no record", self.replacer.get(it.before or "")
         if it.kind == "end" and by is not None:
             raise _Conflict(f"{by.id} replaced {record}, which stands at the end")
@@ -216,9 +217,9 @@ class _Records:
 
 
 def _one_after_another(spans):
-    """Refuses two spans of which neither can come before the other.
+    """Refuses two spans if neither can come before the other.
 
-    If each two have an order, that of their middles is one of all.
+    If each two spans have an order, the order of their midpoints is an order of all.
     """
     spans.sort(key=lambda it: it.first + it.last)
     latest = _Span(-math.inf, -math.inf, "")
@@ -238,8 +239,8 @@ class Account:
 
 
 class Illegal(Exception):
-    """There is no legal history, with the reason. `part` has no legal order, whatever other
-    operations ran beside it; without any one of its operations the rest has one.
+    """No legal history exists; the exception gives the reason. `part` has no legal order, whatever
+    other operations ran at the same time; without any one of its operations the rest has one.
     """
 
     def __init__(self, reason, part):

@@ -8,9 +8,9 @@ The logs are lines of JSON, of any number of processes and of one clock (CLOCK_M
     {"event": "answer", "id", "time", "reply", "before", "after"}
     {"event": "end", "key", "time", "record"}           what stands when all is over
 
-Records are texts, or null where none stands. Passwords are labels. An answer's reply may be
-"unknown" (none came) or "failed" (surely nothing was done). Costs are numbers: an upgrade is
-answered "kept" unless its costs are above the record's.
+Records are texts, or null if no record exists. Passwords are labels. An answer's reply may be
+"unknown" (none came) or "failed" (surely nothing was done). Costs are numbers: an upgrade gets the
+answer "kept" unless its costs are higher than the record's.
 """
 
 import json
@@ -27,7 +27,7 @@ from torture.history import Account, Attempt, Operation, verdict
 class Log:
     """The log of one process.
 
-    With this probability the process kills itself at its worst moments: between an UPDATE and its
+    With this probability the process kills itself at the worst moments: between an UPDATE and its
     COMMIT, and between a COMMIT and its answer.
     """
 
@@ -46,7 +46,7 @@ class Log:
         return name
 
     def tried(self, name, worked):
-        """Writes that a change is about to be committed."""
+        """Logs that a change is about to be committed."""
         before, after = worked.ticket.copy, worked.after
         if before != after:
             said = {"before": before, "after": after, "reply": worked.reply.value}
@@ -54,7 +54,8 @@ class Log:
             self._dare()
 
     def answered(self, name, answer):
-        """Writes an answer, with the record at which it was judged and the record after it."""
+        """Logs an answer, with the record against which it was decided and the record
+        afterwards."""
         if answer.reply.makes_change:
             self._dare()
         records = {"before": answer.before, "after": answer.after}

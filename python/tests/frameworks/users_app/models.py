@@ -68,11 +68,11 @@ class Counted(models.Model):
 
 
 class Peppered(Methods, CompareAndSetMixin, Counted, Groupless):
-    """A model with its own methods in front of the mixin."""
+    """A model with its own methods before the mixin."""
 
 
 class Unreached(CompareAndSetMixin, Methods, Counted, Groupless):
-    """A model with its own methods behind the mixin, which would skip them."""
+    """A model with its own methods after the mixin, which would skip them."""
 
 
 class Unmixed(Methods, Counted, Groupless):

@@ -1,4 +1,4 @@
-"""Django's `manage.py changepassword`, which undoes no change that came meanwhile.
+"""Django's `manage.py changepassword`, which never undoes a simultaneous change.
 
 Replaces Django's own command if INSTALLED_APPS has `rigzumal.django` before
 `django.contrib.auth`.
@@ -19,7 +19,7 @@ from rigzumal.django import records, users
 
 
 class Command(changepassword.Command):
-    """Django's command; while it runs, the user model compares."""
+    """Django's command; the user model compares while it runs."""
 
     @hidden_below
     def handle(self, *args: Any, **options: Any) -> Any:
@@ -30,5 +30,5 @@ class Command(changepassword.Command):
         except records.RecordChanged:
             raise CommandError(
                 "The password was changed meanwhile, perhaps by a login with an old"
-                " record. Nothing was done; please run the command again."
+                " record. Nothing was saved; please run the command again."
             ) from None

@@ -1,5 +1,6 @@
-"""credkeep-ask(1): credkeep's commands; the program asks for passwords at the terminal, unseen.
+"""credkeep-ask(1): the commands of credkeep; the program asks for passwords at the terminal,
+without echo.
 
-Like all of `daemon` it imports nothing of the rest of rigzumal, so that bin/credkeep-ask can run it
-alone.
+Like all of `daemon`, this package imports no other part of rigzumal, so that bin/credkeep-ask can
+run it on its own.
 """

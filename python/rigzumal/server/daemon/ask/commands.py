@@ -37,7 +37,8 @@ LISTS = ("list", "marks", "stats", "waits")  # commands whose answers are names,
 
 
 class Commands:
-    """The commands for a server, each a method: it prints the answer, and returns the status."""
+    """The commands for a server, one method for each: it prints the answer, and returns the
+    status."""
 
     def __init__(self, server: Server) -> None:
         self.server = server
@@ -105,8 +106,8 @@ class Commands:
         return "!" in marks_of(self.server.send("show", name))
 
     def items(self, command: str) -> str:
-        """Prints a line for each item of an answer; standard error gets the number of items left
-        out."""
+        """Prints a line for each item of an answer, and the number of omitted items on standard
+        error."""
         items = self.server.ask(command).split()[1:]
         if items and items[-1].startswith("more="):
             more = items.pop().removeprefix("more=")
@@ -114,7 +115,7 @@ class Commands:
         return "\n".join(items)
 
     def marks(self, names: list[str]) -> str:
-        """Prints the marks of all names, or of one, in a line each."""
+        """Prints the marks of all names, or of one name, one mark on each line."""
         if not names:
             found = self.server.pages("marks")
         else:
@@ -126,7 +127,7 @@ class Commands:
         return "\n".join(f"{name}:{MARKS[mark]}" for name, mark in told)
 
     def show(self, name: str, is_whole: bool) -> str:
-        """Prints the marks and then a record's costs, or the whole record."""
+        """Prints the marks, followed by the costs of a record or by the whole record."""
         said = self.server.ask("show", name)
         marks = marks_of(said)
         if said in ("none", marks):
@@ -135,7 +136,7 @@ class Commands:
         return "$".join(said.split("$")[:-2]) if is_record and not is_whole else said
 
     def load(self, name: str) -> str:
-        """Loads a record, or a line of NAME:RECORD, from standard input."""
+        """Loads a record, or a line NAME:RECORD, from standard input."""
         line = sys.stdin.buffer.readline().strip()
         record = line.decode("ascii", "replace").removeprefix(f"{name}:")
         if not re.fullmatch(r"\$[!-~]{1,600}", record):
@@ -145,15 +146,15 @@ class Commands:
     # ---- the whole book
 
     def import_text(self, options: list[str]) -> int:
-        """Adds the accounts of the lines of standard input."""
+        """Adds the accounts in the lines of standard input."""
         text = sys.stdin.buffer.read(LONGEST_TEXT + 1)
         if len(text) > LONGEST_TEXT:
             end(6, f"standard input has over {LONGEST_TEXT >> 20} MiB: import it in parts")
         return self.server.run_with(text, "import", str(len(text)), *options)
 
     def backup(self, file: str) -> int:
-        """Writes the server's copy beside the destination, from which credkeep then writes the
-        backup."""
+        """Writes the server's copy beside the destination; credkeep then writes the backup from
+        it."""
         end_in_order()
         folder = os.path.dirname(os.path.abspath(file))
         try:
@@ -175,7 +176,7 @@ def marks_of(said: str) -> str:
 
 
 def is_name(word: str) -> bool:
-    """Whether a name is one field of a line, and no longer than an address."""
+    """Whether a name is a single field of a line, and no longer than an address."""
     try:
         size = len(word.encode())
     except UnicodeEncodeError:  # a byte of the command line that isn't UTF-8

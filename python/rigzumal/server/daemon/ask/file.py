@@ -1,4 +1,5 @@
-"""A book's file: credkeep is run with the same words, and gets the passwords by a pipe."""
+"""A book's file: runs credkeep with the same arguments, and passes it the passwords through a
+pipe."""
 
 from __future__ import annotations
 
@@ -16,7 +17,7 @@ VALUED = ("--wait", "--setting")  # options that have a value behind them
 
 @dataclass(frozen=True)
 class Words:
-    """The part of a command line for credkeep that matters here."""
+    """The part of credkeep's command line that matters here."""
 
     file: str = ""
     command: str = ""
@@ -41,7 +42,7 @@ def meaning_of(words: list[str]) -> Words:
 
 
 def become_credkeep(words: list[str]) -> NoReturn:
-    """Runs credkeep in place of this program."""
+    """Runs credkeep instead of this program."""
     try:
         os.execvp(PROGRAM, [PROGRAM, *words])
     except OSError as fault:
@@ -49,16 +50,16 @@ def become_credkeep(words: list[str]) -> NoReturn:
 
 
 def tell_left_out(file: str) -> None:
-    """Reports that a backup leaves out the locks that an earlier server kept beside the book."""
+    """Reports that a backup omits the locks that an earlier server kept beside the book."""
     if os.path.exists(f"{file}-locks"):
         text = f"{file}-locks has locks of an earlier credkeep-server, which the copy lacks"
         print(f"credkeep-ask: {text}: start credkeep-server once before", file=sys.stderr)
 
 
 def ask_credkeep(words: list[str]) -> int:
-    """Runs credkeep with the words, and returns its status.
+    """Runs credkeep with these arguments, and returns its status.
 
-    The call looks for the account before it asks for passwords. Where no password would help, it
+    The call looks for the account before it asks for passwords. If no password would help, it
     prints credkeep's answer at once.
     """
     meant = meaning_of(words)

@@ -30,7 +30,7 @@ def usage() -> str:
 
 
 def how_many(counts: range) -> str:
-    """The number of a command's words, spelled out."""
+    """The number of arguments of a command, spelled out."""
     if len(counts) > 1:
         return "a name or none"
     if counts.start == 0:
@@ -39,7 +39,7 @@ def how_many(counts: range) -> str:
 
 
 def path_of(book: str) -> str:
-    """An administrator's socket: its path, or that of a book by its name."""
+    """An administrator's socket: its path, or the name of its book."""
     return book if "/" in book else f"/run/rigzumal/{book}/admin.sock"
 
 
@@ -55,7 +55,7 @@ def ask_server(words: list[str]) -> int:
     if len(behind) not in COMMANDS[command].counts:
         end(1, f"{command} takes {how_many(COMMANDS[command].counts)}")
     if command != "backup" and not all(map(is_name, behind)):
-        end(1, f"a name has no spaces, isn't empty, and has up to {LONGEST_NAME} bytes of UTF-8")
+        end(1, f"a name has no spaces, at least one byte, and up to {LONGEST_NAME} bytes of UTF-8")
     return Commands(Server(path_of(book))).do(command, behind, options)
 
 

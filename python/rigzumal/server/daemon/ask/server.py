@@ -1,4 +1,4 @@
-"""The server at an administrator's socket: lines, and its answers."""
+"""The server at an administrator's socket: sends lines, and reads the answers."""
 
 from __future__ import annotations
 
@@ -20,7 +20,7 @@ PLAIN = ("bad 1 exists", "bad 5 noaccount")
 
 
 class Server:
-    """A connection to the server. Each of its calls ends the program if it can't go on."""
+    """A connection to the server. Each of its methods ends the program if it can't continue."""
 
     def __init__(self, path: str) -> None:
         self.path = path
@@ -35,7 +35,7 @@ class Server:
         self.answers = self.socket.makefile("rb")
 
     def send(self, *words: str) -> str:
-        """The answer to a line, even a refusal."""
+        """The answer to a line, even if it is a refusal."""
         with suppress(OSError):  # a server that has ended answers nothing
             self.socket.sendall(f"{TAG} {' '.join(words)}\n".encode())
         return self.answer()
@@ -47,11 +47,12 @@ class Server:
             line = self.answers.readline()
         tag, _, said = line.decode("ascii", "replace").rstrip("\n").partition(" ")
         if tag != TAG or not line.endswith(b"\n") or said == "unavailable":
-            end(5, f"{self.path}: no answer; the change may be stored or not: ask by `show`")
+            text = "no answer; the change may or may not be stored: check with `show`"
+            end(5, f"{self.path}: {text}")
         return said
 
     def ask(self, *words: str) -> str:
-        """The answer to a line that isn't refused."""
+        """The answer to a line that must not be refused."""
         said = self.send(*words)
         if said in PLAIN:
             return said.split(" ")[2]
@@ -66,7 +67,8 @@ class Server:
         return said
 
     def pages(self, operation: str) -> dict[str, str]:
-        """All names of a list, with their marks: each page begins with the last name of another."""
+        """All names of a list, with their marks: each page begins with the last name of the
+        previous one."""
         found, first = dict[str, str](), "-"
         while True:
             page = self.ask(operation, first, str(AT_ONCE)).split()[1:]
@@ -89,16 +91,16 @@ class Server:
         self.socket.settimeout(None)
         said = self.ask(*words)
         if said != f"send {len(text)}":
-            end(5, f"{self.path}: no answer from a server: {said:.40}")
+            end(5, f"{self.path}: not an answer of a server: {said:.40}")
         with suppress(OSError):  # a server that has ended answers nothing
             self.socket.sendall(text)
         return self.copy_result(self.answer(), sys.stdout.buffer)
 
     def copy_result(self, said: str, output: BinaryIO) -> int:
-        """Copies the output of credkeep on both streams, and returns its status."""
+        """Copies both output streams of credkeep, and returns its status."""
         word, *numbers = said.split(" ")
         if word != "ended" or len(numbers) != 3 or not all(map(str.isdecimal, numbers)):
-            end(5, f"{self.path}: no answer from a server: {said:.40}")
+            end(5, f"{self.path}: not an answer of a server: {said:.40}")
         status, size, size_of_faults = map(int, numbers)
         self.copy(size, output)
         self.copy(size_of_faults, sys.stderr.buffer)
@@ -121,10 +123,10 @@ class Server:
         with suppress(OSError):
             piece = self.answers.read(most)
         if not piece:
-            end(5, f"{self.path}: the server has ended, and this isn't all of it")
+            end(5, f"{self.path}: the server has ended, and the output is incomplete")
         return piece
 
 
 def as_said_here(text: str) -> str:
-    """A sentence with the program's name before it."""
+    """A sentence, preceded by the program's name."""
     return text[0].lower() + text[1:].rstrip(".")

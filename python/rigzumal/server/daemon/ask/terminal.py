@@ -1,4 +1,4 @@
-"""The terminal: texts for it, and passwords that are typed unseen."""
+"""The terminal: prints texts, and reads passwords without echo."""
 
 from __future__ import annotations
 
@@ -24,27 +24,27 @@ def end(status: int, text: str = "") -> NoReturn:
 
 
 def end_by(number: int, _: object) -> NoReturn:
-    """Ends the program only by the first signal, so that the echo comes back."""
+    """Ends the program only at the first signal, so that the echo is restored."""
     for signal_number in SIGNALS:
         signal.signal(signal_number, signal.SIG_IGN)
     sys.exit(128 + number)
 
 
 def end_in_order() -> None:
-    """Makes a signal, from now on, run the program's last steps before its end."""
+    """Makes a signal from now on run the program's last steps before its end."""
     for number in SIGNALS:
         signal.signal(number, end_by)
 
 
 @contextmanager
 def unseen() -> Iterator[int]:
-    """The terminal without its echo, which comes back at any end."""
+    """The terminal without echo; the echo is restored however the block ends."""
     end_in_order()
     try:
         terminal = os.open("/dev/tty", os.O_RDWR | os.O_NOCTTY)
         saved = termios.tcgetattr(terminal)
     except (OSError, termios.error):
-        end(2, "there is no terminal to ask at")
+        end(2, "no terminal is available to ask at")
     mute = [*saved]
     mute[3] &= ~termios.ECHO
     try:
@@ -56,7 +56,7 @@ def unseen() -> Iterator[int]:
 
 
 def read_line(terminal: int, prompt: str) -> bytes:
-    """The line that the user types, without its end."""
+    """The line that the user types, without its newline."""
     os.write(terminal, prompt.encode())
     line = b""
     while not line.endswith(b"\n"):
@@ -93,7 +93,7 @@ def write_answer(said: str) -> None:
 
 
 def end_unwritten() -> NoReturn:
-    """Ends the program after a failed write of its answer, and keeps Python from flushing the
+    """Ends the program after it failed to write its answer, and keeps Python from flushing the
     rest."""
     os.dup2(os.open(os.devnull, os.O_WRONLY), sys.stdout.fileno())
-    end(2, "the answer couldn't be written")
+    end(2, "the output couldn't be written")
