@@ -71,7 +71,8 @@ class ForeignTries(ForeignCase):
         )
         run("htpasswd", "-D", self.file, "cid")
         service.talk("login verify cid {secret} -> noaccount\nadmin forgive cid -> noaccount")
-        lines = [it.partition(": ")[2] for it in service.log().splitlines() if " wait" in it]
+        told = [it.partition(": ")[2] for it in service.log().splitlines()]
+        lines = [it for it in told if " must wait " in it or " has to wait: " in it]
         self.assertEqual(lines[0], "ada must wait after 1 failed tries")
         self.assertEqual(len(lines), 7, lines)
 

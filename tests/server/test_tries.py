@@ -161,7 +161,8 @@ class Tries(Case):
         )
         service.set_clock(1)
         service.talk("login verify bob {secret} -> yes\nlogin verify bob {secret} -> yes")
-        lines = [it.partition(": ")[2] for it in service.log().splitlines() if " wait" in it]
+        told = [it.partition(": ")[2] for it in service.log().splitlines()]
+        lines = [it for it in told if " must wait " in it or " has to wait: " in it]
         said = [
             "ada must wait after 2 failed tries",
             "ada no longer has to wait: an administrator forgave it",

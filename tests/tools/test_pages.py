@@ -10,7 +10,7 @@ import pages  # noqa: E402
 import tree  # noqa: E402
 
 README = "They need, from nothing on four processors,\n7 to 16 and 34 to 79 minutes.\n"
-BUILDING = """These are of virtual machines with four processors. Others are slower.
+BUILDING = """The times below are from virtual machines with four processors. Others are slower.
 
 | What | Elapsed |
 |---|--:|
