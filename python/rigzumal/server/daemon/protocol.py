@@ -110,7 +110,7 @@ ANSWERS = {
         ask=4,
     ),
     "none": Answer(
-        "there is none: the account has no record or no lock, or got no right password so far",
+        "the account has no record or no lock, or has had no right password so far",
         reply="NONE",
         ask=4,
     ),
