@@ -23,8 +23,7 @@ class Answers(Commands):
     has_table = False
 
     def test_answers_and_statuses(self):
-        """Each command's answers and statuses; with 1 to 6 except 4, standard error gives the
-        reason."""
+        """Each command's answers and statuses; standard error has the reason of 1 to 3, 5 and 6."""
         one, two, bad = (
             pathlib.Path(self.file(line)).rename(f"{self.server.path}.{place}")
             for place, line in enumerate((f"bob {RECORD}", f"bob {LOW.hash('two')}", "cid garbage"))
