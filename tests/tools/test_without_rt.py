@@ -35,12 +35,12 @@ NEEDING = [
     (
         "python tools/refuse_memory.py",
         1,
-        ["{top}/crates/book_tests/out/book_tests_tests isn't there"],
+        ["{top}/crates/book_tests/out/book_tests_tests doesn't exist"],
     ),
     (
         "python tools/peak_memory.py",
         1,
-        ["{top}/crates/hash_tests/out/hash_tests_tests isn't there"],
+        ["{top}/crates/hash_tests/out/hash_tests_tests doesn't exist"],
     ),
     ("python tools/tree.py run the gate", 1, [f"{RT} run the gate", BESIDE]),
     ("python bench/keep/run.py", 1, ["{top}/crates/credkeep/out/credkeep is not there"]),
