@@ -68,10 +68,10 @@ OTHERS = {
 # The words for faults, in the order of their numbers.
 MEANINGS = (
     "no fault|field|argon2id and scrypt|version|form of the scheme|outside its range|the salt|"
-    "the tag|out of memory|512 bytes|another password|room|kind of Argon2|version of Argon2|"
+    "the tag|out of memory|512 bytes|another password|buffer|kind of Argon2|version of Argon2|"
     "lanes is not 1 to 255|8 KiB a lane to 2 GiB|pass|4 to 2^32 - 1 bytes|an input has 2^32 bytes|"
     "the cost is out of range|the block size is not 1 to 255|the parallelization is not 1 to 255|"
-    "the key size is not 1|operation|the copy is not a record|256 bytes|random bytes|other costs|"
+    "the key size is not 1|operation|the copy is not a record|256 bytes|random bytes|differ from|"
     "the password is null|the salt is null|the secret is null|the associated data is null"
 ).split("|")
 
