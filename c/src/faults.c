@@ -41,7 +41,7 @@ static const struct {
     [RIGZUMAL_COPY] = {"copy", "the copy is not a record"},
     [RIGZUMAL_LONG_PASSWORD] = {"longpassword", "a password has over 256 bytes"},
     [RIGZUMAL_NO_RANDOM] = {"norandom", "the system returned no random bytes for a salt"},
-    [RIGZUMAL_OTHER_COSTS] = {"othercosts", "the record's costs or sizes differ from those of a new one"},
+    [RIGZUMAL_OTHER_COSTS] = {"othercosts", "the record's costs or sizes differ from a new one's"},
     [RIGZUMAL_NULL_PASSWORD] = {"nullpassword", "the password is null, but its size is not 0"},
     [RIGZUMAL_NULL_SALT] = {"nullsalt", "the salt is null, but its size is not 0"},
     [RIGZUMAL_NULL_SECRET] = {"nullsecret", "the secret is null, but its size is not 0"},

@@ -70,7 +70,8 @@ def decoded(text: str) -> Optional[bytes]:
     if not re.fullmatch("[A-Za-z0-9+/]+", text) or len(text) % 4 == 1:
         return None
     password = base64.b64decode(text + "=" * (-len(text) % 4))
-    return password if len(password) <= 256 else None
+    is_only_form = base64.b64encode(password).decode().rstrip("=") == text
+    return password if is_only_form and len(password) <= 256 else None
 
 
 def tag_of(password: bytes, salt: str) -> str:

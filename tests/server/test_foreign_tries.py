@@ -174,21 +174,30 @@ class ForeignTries(ForeignCase):
                 service.talk("admin reset bob {secret} -> enrolled")
 
     def test_password_in_place_of_a_barred_one(self) -> None:
-        """The book gets another password in place of a barred user's. It has no NUL, at which some
-        schemes hash nothing, and isn't shorter."""
+        """The book gets another password in place of a barred user's. The new one isn't shorter,
+        and has a NUL only if the other has one: some schemes hash nothing at a NUL."""
         record = made_by(MAKERS["sha1"], "secret")
         self.file.write_text(f"ada:{record}:::::::nologin\n")
         service = self.over("--tries", "0")
         client = service.client()
-        for password in [b"", b"secret", b"x" * 73, b"x" * 256] * 60:
+        for password in [b"", b"secret", b"x" * 73, b"x" * 256, b"a\0b"] * 60:
             self.assertEqual(client.ask(f"verify ada {field_of(password)}"), "no")
         client.talk(f"verify ada {field_of(b'x' * 257)} -> bad 13 password")
         client.talk(f"change ada - {'A' * 940} -> bad 13 password")
-        passwords = [password_of(it.split(" ")[2].encode()) for it in verifies_of(service)]
-        sizes = [len(it or b"") for it in passwords]
-        self.assertEqual(sizes, [24, 24, 73, 256] * 60 + [257])
-        self.assertEqual([it for it in passwords if not it or b"\0" in it], [])
+        passwords = [password_of(it.split(" ")[2].encode()) or b"" for it in verifies_of(service)]
+        self.assertEqual([len(it) for it in passwords], [24, 24, 73, 256, 24] * 60 + [257])
+        self.assertEqual([b"\0" in it for it in passwords], [*[False] * 4, True] * 60 + [False])
         self.assertEqual(len({*passwords}), len(passwords), "a password was drawn twice")
+
+    def test_fields_that_are_no_password(self) -> None:
+        """A barred user's line with such a field gets the answer of another user's."""
+        record = made_by(MAKERS["sha1"], "secret")
+        self.file.write_text(f"ada:{record}:::::::nologin\nbob:{record}\n")
+        client = self.over("--tries", "0").client()
+        for field in ("QQ==", "QQ=", "QR", "Q", "*"):
+            for name in ("ada", "bob"):
+                with self.subTest(field, name=name):
+                    self.assertEqual(client.ask(f"verify {name} {field}"), "bad 13 password")
 
 
 def verifies_of(service: Service) -> list[str]:

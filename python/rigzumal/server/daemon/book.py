@@ -30,13 +30,19 @@ LONGEST_REST = 0.1  # seconds
 
 
 def password_of(field: bytes) -> Optional[bytes]:
-    """The password in a field of a line; None if the field isn't base64."""
+    """The password in a field of a line; None if the field isn't the one of a password."""
     if field == b"-":
         return b""
     try:
-        return base64.b64decode(field + b"=" * (-len(field) % 4), validate=True)
+        password = base64.b64decode(field + b"=" * (-len(field) % 4), validate=True)
     except ValueError:
         return None
+    return password if field_of(password) == field else None
+
+
+def field_of(password: bytes) -> bytes:
+    """The field with this password in a line."""
+    return base64.b64encode(password).rstrip(b"=") or b"-"
 
 
 def seconds_to_wait(answer: bytes) -> int:

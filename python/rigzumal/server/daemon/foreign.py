@@ -1,7 +1,6 @@
 """Users of an htpasswd file, who move into the book when they enter their right passwords."""
 
 import asyncio
-import base64
 from collections.abc import Collection
 from contextlib import AsyncExitStack
 from dataclasses import replace
@@ -11,7 +10,7 @@ from weakref import WeakValueDictionary
 
 from .aging import Line, today
 from .book import LACKS, LATER, LOCKED, NO_ACCOUNT, NO_RECORD, UNAVAILABLE
-from .book import has_record, password_of
+from .book import field_of, has_record, password_of
 from .old_file import OldFile
 from .schemes import is_right
 from .service import Request, Service
@@ -246,10 +245,10 @@ class Foreign:
 
 
 def with_wrong_password(words: list[bytes]) -> list[bytes]:
-    """The words of a try with a password that nobody has; a field that isn't a password stays
+    """The words of a try with a password that nobody has. A field that the book would refuse stays
     unchanged.
 
-    A long password keeps its length, and the new one has no NUL: some old schemes don't hash a
+    A long password keeps its length, and one with a NUL gets a NUL: some old schemes don't hash a
     password that is too long or has a NUL.
     """
     operation, name, *fields = words
@@ -257,8 +256,9 @@ def with_wrong_password(words: list[bytes]) -> list[bytes]:
     if password is None:
         return words
     nobodys = token_urlsafe(18).encode()
-    field = base64.b64encode(nobodys + password[len(nobodys) :]).rstrip(b"=")
-    return [operation, name, field, *fields[1:]]
+    if b"\0" in password:
+        nobodys = nobodys[:-1] + b"\0"
+    return [operation, name, field_of(nobodys + password[len(nobodys) :]), *fields[1:]]
 
 
 def ends_record(word: bytes, row: bytes) -> bool:

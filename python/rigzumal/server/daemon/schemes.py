@@ -1,5 +1,6 @@
 """Checks passwords against the records of an htpasswd file, as nginx does."""
 
+import base64
 import ctypes.util
 import hashlib
 import hmac
@@ -7,8 +8,6 @@ import re
 from contextlib import suppress
 
 from passlib.hash import apr_md5_crypt
-
-from .book import password_of
 
 CRYPT_DATA = 131232  # bytes of crypt_r's own in the oldest libraries, which need most
 BCRYPT, LONGEST_BCRYPT = (b"$2a$", b"$2b$", b"$2y$"), 72  # bytes: crypt ignores all behind
@@ -43,7 +42,14 @@ def is_right(record: bytes, password: bytes) -> bool:
         data = ctypes.create_string_buffer(CRYPT_DATA)
         return hmac.compare_digest(crypt_r(password, record, data) or b"", record)
     scheme, _, field = record.partition(b"}")
-    digest = password_of(field) or b""
+    digest = decoded(field)
     salt = digest[20:] if scheme == b"{SSHA" else b""
     made = hashlib.sha1(password + salt).digest() + salt
     return scheme in (b"{SHA", b"{SSHA") and hmac.compare_digest(made, digest)
+
+
+def decoded(text: bytes) -> bytes:
+    """The bytes of a text in base64, with padding or without; none if the text isn't base64."""
+    with suppress(ValueError):
+        return base64.b64decode(text + b"=" * (-len(text) % 4), validate=True)
+    return b""
