@@ -251,7 +251,7 @@ class Mail(Case):
         """An imap login with a folded part before the @."""
         server = started(room, "--mail-names", "--fold-local-part")
         server.enrol(**{"ann@example.org": "mail word"})
-        (word,) = re.findall("With `--fold-local-part` write `(%\\w+)`", PAGE.read_text())
+        (word,) = re.findall("With `--fold-local-part`, write `(%\\w+)`", PAGE.read_text())
         names = f"auth_username_format = {word}\n"
         run_dovecot(("args = dovecot", "args = mail"), ("", names))
         for typed in ("ann@example.org", "Ann@example.org", "ANN@Example.ORG"):
