@@ -60,7 +60,7 @@ class Files(Ann, TestCase):
         log_in()
         found = files_entered(PYTHON / "rigzumal", log_in)
         page = (TOP / "docs/ARCHITECTURE.md").read_text()
-        (row,) = re.findall(r"^\| a login by Django's `authenticate`.*", page, re.M)
+        (row,) = re.findall(r"^\| a login with Django's `authenticate`.*", page, re.M)
         self.assertEqual(re.findall(r"python/\S+\.py", row), found)
 
 

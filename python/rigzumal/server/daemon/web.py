@@ -8,7 +8,6 @@ from typing import Any, Optional
 
 import h11
 
-from .book import field_of
 from .clients import READ_SIZE, Client
 from .protocol import ANSWERS, NO_ANSWER
 
@@ -37,7 +36,7 @@ def credentials(headers: Sequence[tuple[bytes, bytes]]) -> Optional[tuple[bytes,
     name, colon, password = text.partition(b":")
     if not colon or not NAME.fullmatch(name):
         return None
-    return name, field_of(password)
+    return name, base64.b64encode(password).rstrip(b"=") or b"-"
 
 
 def status_of_framing(request: Any) -> int:
