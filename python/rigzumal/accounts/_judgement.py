@@ -228,7 +228,8 @@ class Judge:
         return step(kind, copy, password, new, setting, secret)
 
     def _spend(self, record: str, request: Request, secrets: Iterable[Optional[bytes]]) -> None:
-        """Computes as many hashes as a wrong password costs for a record with these costs."""
+        """Computes the hashes of a wrong password for a record with these costs, without the new
+        record of an upgrade."""
         for secret in secrets:
             is_right(record, request.password, secret)
         if request.kind is Kind.CHANGE and self._secret is None:

@@ -90,7 +90,7 @@ class Reports(Cheap, TransactionTestCase):
         self.assertIsNotNone(found)
         reporter = ExceptionReporter(RequestFactory().get("/"), *found)
         frames = [it for it in reporter.get_traceback_frames() if "vars" in it]
-        frames = [it for it in frames if "/tests/" not in it["filename"]]
+        frames = [it for it in frames if not it["filename"].startswith(f"{PYTHON / 'tests'}/")]
         self.assertTrue(any("rigzumal" in it["filename"] for it in frames))
         for frame in frames:
             for secret in self.secrets:
