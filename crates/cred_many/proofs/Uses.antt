@@ -157,14 +157,9 @@ one_used works w old new one = record {
   others = one.others;
 }
 
--- the lines of those that waited have used their turns
-pub used_before : (works back : List (Entry × Task)) (w : Entry × Task) (old new newer : List Open) → UseTurns (entries_of works) old new → HaveTurns (w ∷ []) back new newer → HaveTurns (works ++ w ∷ []) back old newer
-used_before works back w old new newer used had = record {
-  each = All-push (λ v. Contains back v ⊎ IsFewer old newer v.0) works w
-      (All-weaker (λ v. IsFewer old new v.0) (λ v. Contains back v ⊎ IsFewer old newer v.0) (λ v h. inr (let less = had.others v.0.number in omega (arith, less, h))) works (each_work (IsFewer old new) works used.fewer))
-      (elim (All-head (λ v. Contains back v ⊎ IsFewer new newer v.0) w [] had.each) [
-        | inl it ↦ inl it
-        | inr it ↦ inr (let keeps = used.others w.0.number in omega (arith, keeps, it))
-      ]);
-  others = keeps_on old new newer used.others had.others;
+-- the lines of all have used their turns
+pub all_used_up : (works : List (Entry × Task)) (old new : List Open) → UseTurns (entries_of works) old new → HaveTurns works [] old new
+all_used_up works old new used = record {
+  each = All-weaker (λ v. IsFewer old new v.0) (λ v. Contains [] v ⊎ IsFewer old new v.0) (λ v h. inr h) works (each_work (IsFewer old new) works used.fewer);
+  others = used.others;
 }

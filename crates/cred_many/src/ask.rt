@@ -74,6 +74,11 @@ impl Ask {
         matches!(self, Ask::Reset(..))
     }
 
+    /// Whether the operation is done as its line comes, without a hash.
+    pub(crate) fn is_quick(&self) -> bool {
+        matches!(self, Ask::Quick(_) | Ask::Forgive(_))
+    }
+
     /// The account whose password the operation tries.
     pub(crate) fn tried(&self) -> Option<Name>
         ensures name { IfSome result (λ name. name ≡ name_asked self.now) }

@@ -6,7 +6,6 @@ ghost use Rattle.cred_many.specs.{Inbox.HasTaken, Inbox.MayFollow, Inbox.after, 
 
 use crate::group::MOST_TOGETHER;
 use crate::inbox::Inbox;
-use crate::open::MOST_OPEN;
 use crate::scribe::{Hashed, Job, Message, Scribe};
 use crate::service_id::ServiceId;
 use crate::stopwatch::Stopwatch;
@@ -80,7 +79,7 @@ impl<J: ServiceId> MessageLoop<J> {
     }
 
     /// While changes wait, handles the messages that have arrived, so that their changes are made
-    /// together. Ends after as many messages as there may be at once.
+    /// together. Ends after as many messages as changes may wait.
     fn gather<T: Wait + Clock, K: Host, W: Write + Drop>(
         &mut self,
         rt: &T,
@@ -91,19 +90,43 @@ impl<J: ServiceId> MessageLoop<J> {
         ensures taken { HasTaken (view inbox.old.pass).got scribe.old.output.fault scribe.old.came
             → HasTaken (view inbox.new.pass).got scribe.new.output.fault scribe.new.came }
     {
-        for _ in 0..MOST_OPEN {
+        for _ in 0..MOST_TOGETHER {
             if self.changes.is_empty() || self.changes.len() >= MOST_TOGETHER {
                 return;
             }
             let Ok(message) = inbox.try_recv(rt) else {
                 return;
             };
+            self.commit_before(rt, scribe, &message);
             self.take_in(rt, scribe, message);
         }
     }
 
-    /// Handles a message. The works of one account are committed in the order in which they were
-    /// hashed, so that a right password's place among wrong ones tells nothing.
+    /// Commits the waiting changes, if one of them is of the same account as this message, or if
+    /// the message is a line that is done at once, since that may concern any account. So a right
+    /// password's place among wrong ones tells nothing.
+    fn commit_before<T: Wait + Clock, K: Host, W: Write + Drop>(
+        &mut self,
+        rt: &T,
+        scribe: &mut Scribe<J, K, W>,
+        message: &Message<J>,
+    )
+        ensures turns { scribe.new.output.fault ≡ None → HaveTurns self.old.changes.items
+            self.new.changes.items scribe.old.output.pending scribe.new.output.pending }
+        ensures going { scribe.new.output.fault ≡ None → scribe.old.output.fault ≡ None }
+        ensures same_came { scribe.new.came ≡ scribe.old.came }
+    {
+        let is_behind = match message {
+            Message::Came(line) => line.ask().is_quick(),
+            Message::Hashed(hashed) => self.has_change_of(&hashed.worked().request().name()),
+            Message::NoMemory(_) | Message::Ended => false,
+        };
+        if is_behind {
+            self.commit(rt, scribe);
+        }
+    }
+
+    /// Handles a message.
     fn take_in<T: Wait + Clock, K: Host, W: Write + Drop>(
         &mut self,
         rt: &T,
@@ -123,12 +146,7 @@ impl<J: ServiceId> MessageLoop<J> {
                 let now = self.stopwatch.read(rt);
                 self.pass_on(rt, scribe.take(self.alloc, line, now));
             }
-            Message::Hashed(hashed) => {
-                if self.has_change_of(&hashed.worked().request().name()) {
-                    self.commit(rt, scribe);
-                }
-                self.take_hashed(rt, scribe, hashed);
-            }
+            Message::Hashed(hashed) => self.take_hashed(rt, scribe, hashed),
             Message::NoMemory(starved) => {
                 scribe.no_memory(starved);
                 self.pass_on(rt, None);

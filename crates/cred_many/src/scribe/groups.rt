@@ -14,14 +14,13 @@ use std::alloc::Global;
 use std::io::Write;
 
 impl<J: ServiceId, K: Host, W: Write> Scribe<J, K, W> {
-    /// Whether a work is committed by itself: it makes no change, or its account is marked or has
-    /// failed tries. Where a try may be sent away, its answer so waits for no changes of others,
+    /// Whether a work is committed by itself: it makes no change as the account is now, or the
+    /// account is marked or has failed tries. Where a try may be sent away, its answer so waits for no changes of others,
     /// be its password right or wrong.
     pub(crate) fn is_apart(&self, hashed: &Hashed<J>) -> bool {
         let name = hashed.worked().request().name();
-        !hashed.worked().reply().makes_change()
-            || self.keeper.mark_of(&name).is_marked()
-            || !self.tries.is_clear(&name)
+        let (_, _, changes) = self.keeper.accounts().judge(hashed.worked());
+        !changes || self.keeper.mark_of(&name).is_marked() || !self.tries.is_clear(&name)
     }
 
     /// Commits the changes of different accounts among these works together, and answers their
