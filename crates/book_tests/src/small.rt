@@ -1,6 +1,6 @@
 //! A keeper whose capacity is its own.
 
-use cred_book::{BookError, Keeper, Name, Register, Reply, Request, Ticket, Worked};
+use cred_book::{BookError, Keeper, Name, Register, Reply, Worked};
 use cred_phc::Record;
 use std::alloc::Global;
 use std::sync::Wait;
@@ -45,10 +45,6 @@ impl Keeper for SmallBook {
 
     fn show(&self, name: &Name) -> Result<Option<Record>, BookError> {
         Register::show(&self.register, name)
-    }
-
-    fn begin(&self, request: Request) -> Result<Ticket, (Request, BookError)> {
-        Register::begin(&self.register, request)
     }
 
     fn commit<R: Wait>(&mut self, _rt: &R, worked: Worked) -> Result<Reply, (Worked, BookError)> {

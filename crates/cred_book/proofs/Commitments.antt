@@ -1,8 +1,9 @@
 -- A commit and a judgement, by what stands at the name.
-use Rattle.std.proofs.Common.{◌≡◌, ℕ, List, Bool, true, false, Option, Some, None, Err, refl, sym, ap, ◌∙◌}
+use Rattle.std.proofs.Common.{◌≡◌, ◌<◌, ℕ, List, Bool, true, false, Option, Some, None, Result, Err, arith, refl, sym, ap, ◌∙◌}
+use Rattle.std.proofs.lemmas.Bool.{false≢true}
 use Rattle.std.specs.FinMap as map
 use Rattle.cred_phc.specs.Values.{RecordValue}
-use Rattle.cred_book.specs.{Accounts.Accounts, Calls.Shows, declared.error.BookError.BookError}
+use Rattle.cred_book.specs.{Accounts.Accounts, Calls.EntersWithin, Calls.Shows, declared.error.BookError.BookError}
 use Rattle.cred_book.specs.declared.error.BookError.TheVariants as error
 use Rattle.cred_book.specs.Commits.{commit_outcome, commit_outcome_at, commit_outcome_if, judgement, judgement_at, judgement_if}
 use Rattle.cred_book.specs.{Works.Task, Works.name_of, Works.same, Works.whole, Works.makes_change, declared.reply.Reply.Reply}
@@ -50,3 +51,11 @@ module _ (book : Accounts) (work : Task) (name : List ℕ) (is : name ≡ name_o
 pub not_shown : (book : Accounts) (name : List ℕ) (e : BookError) → Shows book name (Err e) → map.get book name ≡ None
 not_shown book name error.NoAccount h = h
 not_shown book name _ h = absurd h
+
+-- a new name that there is room for is refused for want of memory alone
+pub not_refused : (room : ℕ) (old new : Accounts) (name : List ℕ) (now : Option RecordValue) (e : BookError) → EntersWithin room old new name now (Err e) → (◌≡◌ {A = Result (Unit {0}) BookError} (Err e) (Err error.Memory) → ⊥)
+    → map.contains_key old name ≡ false → map.len old < room → ⊥
+not_refused room old new name now error.Exists h granted absent few = false≢true (sym absent ∙ h.0)
+not_refused room old new name now error.Full h granted absent few = omega (arith, h.1, few)
+not_refused room old new name now error.Memory h granted absent few = granted refl
+not_refused room old new name now _ h granted absent few = h

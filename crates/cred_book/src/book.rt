@@ -1,20 +1,18 @@
 //! The book: the names of all accounts, and the record of each.
 
-ghost use Rattle.std.specs.Prelude.{◌≡◌, ◌⊎◌, ◌<◌, ◌≤◌, IfOk, IfErr, MatchBool, MatchResult, T, true};
+ghost use Rattle.std.specs.Prelude.{◌≡◌, ◌⊎◌, ◌<◌, IfOk, IfErr, MatchResult, T};
 ghost use Rattle.std.specs.FinMap as map;
 ghost use Rattle.std.specs.Slice.Iter.{iter_rest};
-ghost use Rattle.cred_book.specs.{Accounts.most_accounts, Accounts.with_entry, Calls.Admits, Calls.Loads, Calls.Shows};
-ghost use Rattle.cred_book.specs.{Commits.Begins, Commits.Sets, Commits.commit_outcome, Commits.judgement, Names.name_cmp, Places.IsGapFor, Places.IsPlaceOf};
-ghost use Rattle.cred_book.specs.Works.{is_for_current};
+ghost use Rattle.cred_book.specs.{Accounts.most_accounts, Accounts.with_entry};
+ghost use Rattle.cred_book.specs.{Names.name_cmp, Places.IsGapFor, Places.IsPlaceOf};
 
+use crate::account_book::AccountBook;
+use crate::account_map::AccountMap;
 use crate::error::BookError;
 use crate::name::Name;
 use crate::register::Register;
-use crate::reply::Reply;
-use crate::request::Request;
-use crate::ticket::{Ticket, Worked};
 use cred_phc::Record;
-use std::alloc::Global;
+use std::alloc::{AllocError, Global};
 use std::marker::Model;
 use std::slice;
 
@@ -23,27 +21,8 @@ const MOST_ACCOUNTS: usize = 4096;
 
 /// A map from at most 4096 names to at most one record each.
 ///
-/// A new book allocates all its memory, so no later call on it can run out of memory.
-#[derive(Drop)]
-pub struct Book {
-    accounts: Vec<(Name, Option<Record>)>,
-}
-
-impl Model for Book {
-    ghost use Rattle.std.specs.Prelude.{ℕ, List, vec_capacity};
-    ghost use Rattle.std.specs.Coded.{coded_ℕ, coded_list, coded_option};
-    ghost use Rattle.std.specs.FinMap as map;
-    ghost use Rattle.cred_phc.specs.contracts.Record as stored;
-    ghost use Rattle.cred_book.specs.Accounts.{Accounts, IsKept};
-
-    ghost Value = { Accounts };
-
-    ghost coded = { map.code (coded_list coded_ℕ) (coded_option stored.the_row.coded) };
-
-    ghost view = { λ b. map.from_sorted b.accounts.items };
-
-    ghost invariant = { λ b. IsKept b.accounts.items (vec_capacity b.accounts) };
-}
+/// A new book allocates all its memory, so no later call on it but `copy` can run out of memory.
+pub type Book = AccountBook<AccountArray>;
 
 impl Book {
     /// A book with no names.
@@ -53,8 +32,10 @@ impl Book {
         ensures empty { IfOk result (λ book. book ≡ map.empty) }
         ensures memory { IfErr result (λ e. e ≡ BookError.Memory) }
     {
-        let accounts = Vec::with_capacity(alloc, MOST_ACCOUNTS)?;
-        Ok(Book { accounts })
+        let entries = Vec::with_capacity(alloc, MOST_ACCOUNTS)?;
+        Ok(AccountBook {
+            accounts: AccountArray { entries },
+        })
     }
 
     /// The book of a register, for code that works on a `Book` alone.
@@ -76,122 +57,17 @@ impl Book {
                 Err(_) => return Err(BookError::Memory),
             }
         }
-        Ok(Book { accounts: copied })
-    }
-
-    /// Adds a name, with no record.
-    ///
-    /// Errors: `Exists` if the book has the name; `Full` if it has 4096 names.
-    pub fn admit(&mut self, name: Name) -> Result<(), BookError>
-        ensures done { Admits self.old self.new name result }
-        ensures granted { result ≡ Err BookError.Memory → ⊥ }
-    {
-        if self.show(&name).is_ok() {
-            return Err(BookError::Exists);
-        }
-        if self.is_full() {
-            return Err(BookError::Full);
-        }
-        self.put(&name, None);
-        Ok(())
-    }
-
-    /// Whether the book has no room for another name.
-    pub fn is_full(&self) -> bool
-        ensures { MatchBool result (most_accounts ≤ map.len self.now)
-            (map.len self.now < most_accounts) }
-    {
-        self.len() >= MOST_ACCOUNTS
-    }
-
-    /// The number of names, at most 4096.
-    pub fn len(&self) -> usize
-        ensures { result ≡ map.len self.now }
-    {
-        self.accounts.len()
+        Ok(AccountBook {
+            accounts: AccountArray { entries: copied },
+        })
     }
 
     /// The names with their records, in the order of the names.
     pub fn iter(&self) -> slice::Iter<'_, (Name, Option<Record>)>
         ensures { iter_rest result ≡ map.entries self.now }
     {
-        self.accounts.iter()
-    }
-
-    /// Stores this record at the account, in place of any other.
-    ///
-    /// Errors: `NoAccount` if the book doesn't have the name.
-    pub fn load(&mut self, name: &Name, stored: Record) -> Result<(), BookError>
-        ensures done { Loads self.old self.new name.now stored result }
-        ensures granted { result ≡ Err BookError.Memory → ⊥ }
-    {
-        self.set(name, Some(stored))
-    }
-
-    /// The account's record, if it has one.
-    ///
-    /// Errors: `NoAccount` if the book doesn't have the name.
-    pub fn show(&self, name: &Name) -> Result<Option<Record>, BookError>
-        ensures { Shows self.now name.now result }
-    {
-        match place_of(&self.accounts, name) {
-            Ok(place) => Ok(self.accounts[place].1),
-            Err(_) => Err(BookError::NoAccount),
-        }
-    }
-
-    /// Copies the record of the request's account into a ticket. A setting in the request must not
-    /// be of version 0x10 (`Request::is_for_current`).
-    ///
-    /// Errors: `NoAccount` if the book doesn't have the name; the request comes back.
-    pub fn begin(&self, request: Request) -> Result<Ticket, (Request, BookError)>
-        requires { is_for_current request ≡ true }
-        ensures { Begins self.now request result }
-    {
-        match self.show(&request.name()) {
-            Ok(stored) => Ok(Ticket::new(request, stored)),
-            Err(_) => Err((request, BookError::NoAccount)),
-        }
-    }
-
-    /// Does the whole operation if the record still equals the copy, and otherwise nothing.
-    pub fn commit(&mut self, worked: Worked) -> Reply
-        ensures { (result, self.new) ≡ commit_outcome self.old worked }
-    {
-        match place_of(&self.accounts, &worked.request().name()) {
-            Ok(place) => {
-                let (reply, after, _) = worked.judgement_at(self.accounts[place].1);
-                self.accounts[place].1 = after;
-                reply
-            }
-            Err(_) => Reply::NoAccount,
-        }
-    }
-
-    /// The reply to a commit of this work now, the record of the account after it (none if the book
-    /// doesn't have the name), and whether the commit would be a change.
-    pub fn judge(&self, worked: &Worked) -> (Reply, Option<Record>, bool)
-        ensures { result ≡ judgement self.now worked.now }
-    {
-        match self.show(&worked.request().name()) {
-            Ok(now) => worked.judgement_at(now),
-            Err(_) => (Reply::NoAccount, None, false),
-        }
-    }
-
-    /// Stores this record at the account, or none.
-    ///
-    /// Errors: `NoAccount` if the book doesn't have the name.
-    pub fn set(&mut self, name: &Name, now: Option<Record>) -> Result<(), BookError>
-        ensures { Sets self.old self.new name.now now result }
-    {
-        match place_of(&self.accounts, name) {
-            Ok(place) => {
-                self.accounts[place].1 = now;
-                Ok(())
-            }
-            Err(_) => Err(BookError::NoAccount),
-        }
+        let accounts = &self.accounts;
+        accounts.entries.iter()
     }
 
     /// Stores this record at the account, or none. A new name is added if the book has room;
@@ -199,49 +75,102 @@ impl Book {
     pub fn put(&mut self, name: &Name, now: Option<Record>)
         ensures { self.new ≡ with_entry self.old name.now now }
     {
-        match place_of(&self.accounts, name) {
-            Ok(place) => self.accounts[place].1 = now,
-            Err(place) => {
-                if !self.is_full() {
-                    match self.accounts.insert(place, (*name, now)) {
-                        Ok(()) => {}
-                        Err(_) => unreachable!(),
-                    }
-                }
+        if self.contains(name) {
+            self.replace(name, now);
+        } else if !self.is_full() {
+            match self.enter(*name, now) {
+                Ok(()) => {}
+                Err(_) => unreachable!(),
             }
         }
     }
+}
 
-    /// Removes a name with its record. Without that name, nothing changes.
-    pub fn remove(&mut self, name: &Name)
-        ensures { self.new ≡ map.remove self.old name.now }
-    {
-        match place_of(&self.accounts, name) {
+/// Accounts in the order of their names, in memory that has room for 4096 from the start.
+#[derive(Drop)]
+pub struct AccountArray {
+    entries: Vec<(Name, Option<Record>)>,
+}
+
+impl Model for AccountArray {
+    ghost use Rattle.std.specs.Prelude.{ℕ, List, vec_capacity};
+    ghost use Rattle.std.specs.Coded.{coded_ℕ, coded_list, coded_option};
+    ghost use Rattle.std.specs.FinMap as map;
+    ghost use Rattle.cred_phc.specs.contracts.Record as stored;
+    ghost use Rattle.cred_book.specs.Accounts.{Accounts, IsKept};
+
+    ghost Value = { Accounts };
+
+    ghost coded = { map.code (coded_list coded_ℕ) (coded_option stored.the_row.coded) };
+
+    ghost view = { λ a. map.from_sorted a.entries.items };
+
+    ghost invariant = { λ a. IsKept a.entries.items (vec_capacity a.entries) };
+}
+
+impl AccountMap for AccountArray {
+    ghost use Rattle.cred_book.specs.Accounts.{most_accounts};
+
+    ghost accounts = { λ a. a };
+
+    const CAPACITY: usize = MOST_ACCOUNTS;
+
+    ghost CAPACITY = { most_accounts };
+
+    ghost may_run_out = { ⊥ };
+
+    fn get(&self, name: &Name) -> Option<Option<Record>> {
+        match place_of(&self.entries, name) {
+            Ok(place) => Some(self.entries[place].1),
+            Err(_) => None,
+        }
+    }
+
+    fn replace(&mut self, name: &Name, stored: Option<Record>) {
+        match place_of(&self.entries, name) {
+            Ok(place) => self.entries[place].1 = stored,
+            Err(_) => unreachable!(),
+        }
+    }
+
+    fn enter(&mut self, name: Name, stored: Option<Record>) -> Result<(), BookError> {
+        let Err(place) = place_of(&self.entries, &name) else {
+            return Err(BookError::Exists);
+        };
+        if self.len() >= MOST_ACCOUNTS {
+            return Err(BookError::Full);
+        }
+        match self.entries.insert(place, (name, stored)) {
+            Ok(()) => Ok(()),
+            Err(_) => unreachable!(),
+        }
+    }
+
+    fn remove(&mut self, name: &Name) {
+        match place_of(&self.entries, name) {
             Ok(place) => {
-                let _taken = self.accounts.remove(place);
+                let _taken = self.entries.remove(place);
             }
             Err(_) => {}
         }
     }
 
-    /// An equal book.
-    ///
-    /// Errors: `Memory` if there is not enough for 4096 accounts.
-    pub fn copy(&self) -> Result<Book, BookError>
-        ensures equal { IfOk result (λ book. book ≡ self.now) }
-        ensures memory { IfErr result (λ e. e ≡ BookError.Memory) }
-    {
-        let mut entries = Vec::with_capacity(*self.accounts.allocator(), MOST_ACCOUNTS)?;
-        entries.extend_from_slice(&self.accounts)?;
-        Ok(Book { accounts: entries })
+    fn len(&self) -> usize {
+        self.entries.len()
+    }
+
+    fn copy(&self) -> Result<AccountArray, AllocError> {
+        let mut entries = Vec::with_capacity(*self.entries.allocator(), MOST_ACCOUNTS)?;
+        entries.extend_from_slice(&self.entries)?;
+        Ok(AccountArray { entries })
     }
 }
 
 /// The index of the name, or the index at which it would be inserted.
-fn place_of(accounts: &[(Name, Option<Record>)], name: &Name) -> Result<usize, usize>
-    requires { T (map.is_sorted name_cmp accounts.now) }
-    ensures { MatchResult result (IsPlaceOf name_cmp accounts.now name.now)
-        (IsGapFor name_cmp accounts.now name.now) }
+fn place_of(entries: &[(Name, Option<Record>)], name: &Name) -> Result<usize, usize>
+    requires { T (map.is_sorted name_cmp entries.now) }
+    ensures { MatchResult result (IsPlaceOf name_cmp entries.now name.now)
+        (IsGapFor name_cmp entries.now name.now) }
 {
-    accounts.binary_search_by_key(name, |&(there, _)| there)
+    entries.binary_search_by_key(name, |&(there, _)| there)
 }

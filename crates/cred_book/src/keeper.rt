@@ -1,6 +1,5 @@
 //! The trait of everything that keeps a book.
 
-use crate::book::Book;
 use crate::error::BookError;
 use crate::name::Name;
 use crate::reply::Reply;
@@ -49,49 +48,17 @@ pub trait Keeper {
     /// Errors: `NoAccount` if the book doesn't have the name; the request comes back.
     fn begin(&self, request: Request) -> Result<Ticket, (Request, BookError)>
         requires { is_for_current request ≡ true }
-        ensures { Begins (book self.now) request result };
+        ensures { Begins (book self.now) request result }
+    {
+        match self.show(&request.name()) {
+            Ok(stored) => Ok(Ticket::new(request, stored)),
+            Err(_) => Err((request, BookError::NoAccount)),
+        }
+    }
 
     /// Does the whole operation if the record still equals the copy, and otherwise nothing.
     ///
     /// Errors: `Memory`; the work comes back.
     fn commit<R: Wait>(&mut self, rt: &R, worked: Worked) -> Result<Reply, (Worked, BookError)>
         ensures { Commits (book self.old) (book self.new) worked result };
-}
-
-/// A book keeps itself, and is never refused memory.
-impl Keeper for Book {
-    ghost use Rattle.std.specs.Prelude.{◌≡◌, IfErr};
-    ghost use Rattle.cred_book.specs.Calls.{Admits, Loads};
-    ghost use Rattle.cred_book.specs.Commits.{Commits};
-
-    ghost book = { λ b. b };
-
-    fn admit<R: Wait>(&mut self, _rt: &R, name: Name) -> Result<(), BookError>
-        ensures done { Admits self.old self.new name result }
-        ensures granted { result ≡ Err BookError.Memory → ⊥ }
-    {
-        Book::admit(self, name)
-    }
-
-    fn load<R: Wait>(&mut self, _rt: &R, name: &Name, stored: Record) -> Result<(), BookError>
-        ensures done { Loads self.old self.new name.now stored result }
-        ensures granted { result ≡ Err BookError.Memory → ⊥ }
-    {
-        Book::load(self, name, stored)
-    }
-
-    fn show(&self, name: &Name) -> Result<Option<Record>, BookError> {
-        Book::show(self, name)
-    }
-
-    fn begin(&self, request: Request) -> Result<Ticket, (Request, BookError)> {
-        Book::begin(self, request)
-    }
-
-    fn commit<R: Wait>(&mut self, _rt: &R, worked: Worked) -> Result<Reply, (Worked, BookError)>
-        ensures done { Commits self.old self.new worked result }
-        ensures granted { IfErr result (λ _. ⊥) }
-    {
-        Ok(Book::commit(self, worked))
-    }
 }

@@ -6,6 +6,8 @@
 //! [`Register`] is a book that grows. [`Keeper`] is the trait of everything that keeps a book.
 #![tactic(auto)]
 
+mod account_book;
+mod account_map;
 mod book;
 mod change;
 mod error;
@@ -20,7 +22,9 @@ mod same;
 mod slot;
 mod ticket;
 
-pub use book::Book;
+pub use account_book::AccountBook;
+pub use account_map::AccountMap;
+pub use book::{AccountArray, Book};
 pub use change::Change;
 pub use error::BookError;
 pub use keeper::Keeper;
@@ -31,7 +35,7 @@ pub use laws::{
 };
 pub use name::Name;
 pub use outcome::Hashing;
-pub use register::Register;
+pub use register::{AccountTree, Register};
 pub use reply::Reply;
 pub use request::Request;
 pub use same::same_is_equality;

@@ -79,7 +79,7 @@ impl Ticket {
     }
 
     /// Hashes on the caller's thread, without a runtime, in memory that is kept from hash to
-    /// hash to hash.
+    /// hash.
     ///
     /// Errors: the ticket comes back if memory runs out. The scratch can still serve the next
     /// ticket.

@@ -16,7 +16,7 @@ use crate::naming::{Naming, Opened};
 use crate::publisher::Publisher;
 use crate::session::Session;
 use crate::told::Told;
-use cred_book::{Book, BookError, Keeper, Name, Reply, Request, Ticket, Worked};
+use cred_book::{Book, BookError, Keeper, Name, Reply, Worked};
 use cred_phc::Record;
 use std::alloc::Global;
 use std::fmt;
@@ -192,10 +192,6 @@ impl<J: Naming> Keeper for Committer<J> {
 
     fn show(&self, name: &Name) -> Result<Option<Record>, BookError> {
         self.publisher.book().show(name)
-    }
-
-    fn begin(&self, request: Request) -> Result<Ticket, (Request, BookError)> {
-        self.publisher.book().begin(request)
     }
 
     #[tactic(auto, using(crate::proofs::Changes::commits))]

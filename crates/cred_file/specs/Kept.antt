@@ -2,7 +2,7 @@
 use Rattle.std.specs.{Prelude.ℕ, Prelude.List, Prelude.Option, Prelude.refl, Coded.Coded, Coded.code_by, Coded.coded×, Coded.coded_option}
 use Rattle.sqlite.specs.Held.{Held, held_code}
 use Rattle.cred_book.specs.Accounts.{Accounts}
-use Rattle.cred_book.specs.contracts.register.Register as accounts
+use Rattle.cred_book.specs.contracts.register.AccountTree as accounts
 use Rattle.cred_file.specs.Cells.{Cells, Marks, cells_of, mark_at, mark_in}
 use Rattle.cred_file.specs.declared.mark.Mark.{Mark}
 use Rattle.cred_file.specs.contracts.marks.Marks as marked

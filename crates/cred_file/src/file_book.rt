@@ -8,8 +8,8 @@ ghost use Rattle.sqlite.specs.Held.{state};
 ghost use Rattle.cred_file.specs.{Cells.mark_in, Schema.no_schema, Failures.IsUnbegun, Kept.cells, Keeps.Keeps, Keeps.MayBegin, Opening.IsFound, Opening.IsUnopened};
 ghost use Rattle.std.specs.Prelude.{◌≡◌, true, false, IfErr, IfOk, IfSome, MatchBool, None, OnOk, Some, option_map};
 ghost use Rattle.std.specs.FinMap as fin;
-ghost use Rattle.cred_book.specs.{Accounts.register_capacity, Calls.AdmitsWithin, Calls.Loads, Calls.Shows, Commits.Begins, Commits.Commits};
-ghost use Rattle.cred_book.specs.Works.{is_for_current, makes_change};
+ghost use Rattle.cred_book.specs.{Accounts.register_capacity, Calls.AdmitsWithin, Calls.Loads, Commits.Commits};
+ghost use Rattle.cred_book.specs.Works.{makes_change};
 ghost use Rattle.sqlite.specs.State.{HasCleanDisk, Survives};
 
 use crate::catalogue::is_of_book;
@@ -17,7 +17,7 @@ use crate::fault::{Lost, OpenFault};
 use crate::mark::Mark;
 use crate::marks::Marks;
 use crate::statements::{create_table, read_table};
-use cred_book::{BookError, Keeper, Name, Register, Reply, Request, Ticket, Worked};
+use cred_book::{BookError, Keeper, Name, Register, Reply, Worked};
 use cred_phc::Record;
 use sqlite::{Alter, Connection};
 use sqlite_schema::schema::Schema;
@@ -215,10 +215,6 @@ impl<S: Alter> Keeper for FileBook<S> {
 
     fn show(&self, name: &Name) -> Result<Option<Record>, BookError> {
         self.book.show(name)
-    }
-
-    fn begin(&self, request: Request) -> Result<Ticket, (Request, BookError)> {
-        self.book.begin(request)
     }
 
     fn commit<R: Wait>(&mut self, _rt: &R, worked: Worked) -> Result<Reply, (Worked, BookError)>

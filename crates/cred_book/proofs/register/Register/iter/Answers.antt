@@ -3,4 +3,4 @@ use Rattle.cred_book.proofs.Kept.{entries_of}
 use Rattle.cred_book.proofs.register.Register.iter.Goals as goal
 
 pub returns : goal.returns
-returns c = c.iter.ensures.rest ∙ sym (entries_of _ c.self.invariant.sorted _ c.self.view_is)
+returns c = c.iter.ensures.rest ∙ sym (entries_of _ c.accounts.invariant.sorted _ (c.accounts.view_is ∙ c.self.view_is))

@@ -19,7 +19,7 @@ invariant_of-self-in-Ok-insert_row g c =
     let cells = cells_of book marks in
     let old = c.self.inside.conn in
     let name = c.args.name in
-    let entered = c.in-Ok-enter.ensures in
+    let entered = c.in-Ok-enter.ensures.done in
     let absent = has_cell marks book name ∙ entered.0 in
     let room = subst (λ n. n < register_capacity) (sym (len_cells marks book)) entered.1 in
     let it = cell c.args.stored c.none-mark.result in
@@ -32,7 +32,7 @@ returns-in-Ok-insert_row-clause-remembers g c =
     let book = c.self.inside.book in
     let marks = mark_at c.self.inside.marks in
     let name = c.args.name in
-    let entered = c.in-Ok-enter.ensures in
+    let entered = c.in-Ok-enter.ensures.done in
     let is = (λ i. cells_of (entered.2 i) (c.forget.ensures i)) ∙ cells_put book marks name unmarked c.args.stored ∙ ap (fin.insert (cells_of book marks) name) (sym (renewal_absent marks book name c.args.stored entered.0)) in
     record {
       made = is ∙ ap (λ k. after_attempt (cells k) (Put name c.args.stored)) c.self.view_is;
@@ -42,7 +42,7 @@ returns-in-Ok-insert_row-clause-remembers g c =
 
 pub returns-clause-remembers : goal.returns-clause-remembers
 returns-clause-remembers g c =
-    let entered = c.in-Ok-enter.ensures in
+    let entered = c.in-Ok-enter.ensures.done in
     let back = c.remove.ensures ∙ ap (λ b. fin.remove b c.args.name) entered.2 ∙ remove_again c.self.inside.book c.args.name c.args.stored entered.0 in
     record {
       made = ap (λ b. cells_of b (mark_at c.self.inside.marks)) back ∙ ap (λ k. cells k) c.self.view_is;
@@ -57,7 +57,7 @@ invariant_of-self-in-Err-insert_row g c =
     let cells = cells_of book marks in
     let old = c.self.inside.conn in
     let name = c.args.name in
-    let entered = c.in-Ok-enter.ensures in
+    let entered = c.in-Ok-enter.ensures.done in
     let absent = has_cell marks book name ∙ entered.0 in
     let room = subst (λ n. n < register_capacity) (sym (len_cells marks book)) entered.1 in
     let back = c.remove.ensures ∙ ap (λ b. fin.remove b name) entered.2 ∙ remove_again book name c.args.stored entered.0 in
@@ -69,7 +69,7 @@ invariant_of-self-in-Err-insert_row g c =
 
 pub returns-clause-done : goal.returns-clause-done
 returns-clause-done g c =
-    let entered = c.in-Ok-enter.ensures in
+    let entered = c.in-Ok-enter.ensures.done in
     let is = ap (λ v. v.book) c.self.view_is in (
       subst (λ b. fin.contains_key b c.args.name ≡ false) is entered.0,
       subst (λ b. fin.len b < register_capacity) is entered.1,

@@ -13,7 +13,7 @@ returns-in-Ok-enter-clause-added c =
     let e = c.in_ok-entry.entry in
     let book = c.args.self.now.book in
     let marks = mark_at c.args.self.now.marks in
-    let entered = c.in-Ok-enter.ensures in
+    let entered = c.in-Ok-enter.ensures.done in
     let past : is_past c.args.self.now.last e.id ≡ true = search rules in
     record {
       line = record { id = e.id; name = e.name; stored = cell e.stored e.mark };
@@ -29,9 +29,9 @@ returns-in-Err-Exists-clause-left_out c =
     let e = c.in_ok-entry.entry in
     let line : Line = record { id = e.id; name = e.name; stored = cell e.stored e.mark } in
     let h = rw c.in-Err-Exists.field-0-is at c.in-Err-Exists.ensures in
-    (line, c.in_ok-entry.ensures.says, search rules, search rules, has_cell (mark_at c.args.self.now.marks) c.args.self.now.book e.name ∙ h.0)
+    (line, c.in_ok-entry.ensures.says, search rules, search rules, has_cell (mark_at c.args.self.now.marks) c.args.self.now.book e.name ∙ h.done.0)
 
 pub returns-in-Err-Full-clause-left_out : goal.returns-in-Err-Full-clause-left_out
 returns-in-Err-Full-clause-left_out c =
     let h = rw c.in-Err-Full.field-0-is at c.in-Err-Full.ensures in
-    subst (λ n. register_capacity ≤ n) (sym (len_cells (mark_at c.args.self.now.marks) c.args.self.now.book)) h.1
+    subst (λ n. register_capacity ≤ n) (sym (len_cells (mark_at c.args.self.now.marks) c.args.self.now.book)) h.done.1

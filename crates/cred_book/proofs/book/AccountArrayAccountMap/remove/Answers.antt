@@ -1,6 +1,6 @@
 use Rattle.std.proofs.Common.{sym}
 use Rattle.cred_book.proofs.{Kept.is_absent, Kept.kept_remove, Kept.remove_there, Rows.remove_absent}
-use Rattle.cred_book.proofs.book.Book.remove.Goals as goal
+use Rattle.cred_book.proofs.book.AccountArrayAccountMap.remove.Goals as goal
 
 pub invariant_of-self : goal.invariant_of-self
 invariant_of-self c =

@@ -3,7 +3,7 @@ use Rattle.std.proofs.lemmas.Bool.{false≢true}
 use Rattle.std.specs.FinMap as map
 use Rattle.cred_book.specs.Accounts.{register_capacity}
 use Rattle.cred_book.proofs.Registered.{kept_of, written_of, has_of}
-use Rattle.cred_book.proofs.register.Register.replace.Goals as goal
+use Rattle.cred_book.proofs.register.AccountTreeAccountMap.replace.Goals as goal
 
 pub unreachable-requires : goal.unreachable-requires
 unreachable-requires c = absurd (false≢true (ap is_some c.in-None.ensures.value ∙ has_of _ c.self.invariant _ c.self.view_is _ ∙ c.requires))

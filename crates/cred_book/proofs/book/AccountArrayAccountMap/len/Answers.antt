@@ -1,0 +1,9 @@
+use Rattle.std.proofs.Common.{arith, sym}
+use Rattle.cred_book.proofs.Kept.{len_of}
+use Rattle.cred_book.proofs.book.AccountArrayAccountMap.len.Goals as goal
+
+pub returns-clause-len : goal.returns-clause-len
+returns-clause-len c = rw (c.len.ensures, c.self.inside.entries.ok.0) (sym (len_of _ c.self.invariant.sorted _ c.self.view_is))
+
+pub returns-clause-few : goal.returns-clause-few
+returns-clause-few c = omega (arith, len_of _ c.self.invariant.sorted _ c.self.view_is, c.self.invariant.few)
