@@ -17,11 +17,13 @@ use Rattle.cred_file.specs.Cells.{Cell, Cells}
 use Rattle.cred_book.specs.{Accounts.Accounts, Accounts.register_capacity, Calls.EntersWithin, Names.is_name, declared.error.BookError.BookError}
 use Rattle.sqlite_catalog.specs.Listing.{IsSound}
 use Rattle.cred_file.specs.Schema.{IsBookSchema, book_schema, statistics, insert_text, update_text, delete_text, rename_text}
-use Rattle.cred_file.specs.{Failures.Changes, Failures.Refuses, Table.StandsFor, Table.Tells, Edits.after_attempt, Edits.moved, Edits.PutsEntry}
+use Rattle.cred_file.specs.{Failures.Changes, Failures.Refuses, Failures.put_text, Rows.Suits, Rows.is_update, Table.StandsFor, Table.Tells, Edits.after_attempt, Edits.moved, Edits.PutsEntry}
 use Rattle.cred_file.specs.{Keeps.HoldsBook, Keeps.IsTableOf, Keeps.IsRenamable, Keeps.LeavesOnly, Keeps.Keeps, Keeps.IsOrWith, declared.fault.Lost.Lost}
 use Rattle.sqlite_trees.specs.View.{doubt}
 use Rattle.cred_book.specs.declared.error.BookError.TheVariants as error
 use Rattle.cred_book.proofs.Rows.{no_some}
+use Rattle.cred_file.specs.declared.row_statement.RowStatement.{RowStatement}
+use Rattle.cred_file.specs.declared.row_statement.RowStatement.TheVariants as statement
 use Rattle.cred_file.proofs.Texts.{Means, of_book, insert_is, update_is, delete_is, rename_is, matched, deleting, renaming, terms}
 use Rattle.cred_file.proofs.Changes.{AreQuiet, does_insert, does_update, does_delete, does_rename}
 
@@ -123,8 +125,13 @@ changes g old new {sql} {params} step fails r settled runs survives =
       clean = survives.clean;
     }
 
+-- what each statement is that writes a row
+abbrev pub row_command : RowStatement → Command
+row_command statement.Insert = Insert 0 (Values terms 3)
+row_command statement.Update = Update 0 (record { lets = []; body = matched })
+
 module _ (book : Cells) (name : List ℕ) where
-  pub insert_step : (value : Value) (v : Cell) → IsTrue (is_name name) → Tells value v → fin.contains_key book name ≡ false
+  insert_step : (value : Value) (v : Cell) → IsTrue (is_name name) → Tells value v → fin.contains_key book name ≡ false
       → IsStep insert_text (Text name ∷ value ∷ []) (Insert 0 (Values terms 3)) book (fin.insert book name v)
   insert_step value v named tells absent = record {
     means = insert_is;
@@ -133,7 +140,7 @@ module _ (book : Cells) (name : List ℕ) where
     ends_nothing = (λ e. cc, λ n e. cc);
   }
 
-  pub update_step : (value : Value) (v : Cell) → Tells value v → fin.contains_key book name ≡ true
+  update_step : (value : Value) (v : Cell) → Tells value v → fin.contains_key book name ≡ true
       → IsStep update_text (Text name ∷ value ∷ []) (Update 0 (record { lets = []; body = matched })) book (fin.insert book name v)
   update_step value v tells there = record {
     means = update_is;
@@ -141,6 +148,11 @@ module _ (book : Cells) (name : List ℕ) where
     runs = λ o n t c h. h;
     ends_nothing = (λ e. cc, λ n e. cc);
   }
+
+  pub row_step : (s : RowStatement) (value : Value) (v : Cell) → IsTrue (is_name name) → Tells value v → Suits s name book
+      → IsStep (put_text (is_update s)) (Text name ∷ value ∷ []) (row_command s) book (fin.insert book name v)
+  row_step statement.Insert value v named tells absent = insert_step value v named tells absent
+  row_step statement.Update value v named tells there = update_step value v tells there
 
   pub delete_step : fin.contains_key book name ≡ true
       → IsStep delete_text (Text name ∷ []) (Delete 0 (record { lets = []; body = deleting })) book (fin.remove book name)

@@ -6,6 +6,7 @@ pub mod Table
 pub mod Edits
 pub mod Keeps
 pub mod Kept
+pub mod Rows
 pub mod Transactions
 pub mod Opening
 pub mod Drafts

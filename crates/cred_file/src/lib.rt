@@ -9,6 +9,7 @@ mod mark;
 mod marks;
 mod reading;
 mod restart;
+mod row_statement;
 mod statements;
 mod transaction;
 

@@ -5,7 +5,8 @@ ghost use Rattle.std.specs.FinMap as fin;
 ghost use Rattle.cred_book.specs.Accounts.{register_capacity};
 ghost use Rattle.cred_file.specs.{Cells.cell, Cells.cells_of, Cells.mark_at, Cells.mark_text, Edits.moved, Failures.Changes, Failures.FailsToDelete, Failures.FailsToPut, Failures.FailsToRename, Failures.Refuses};
 ghost use Rattle.cred_file.specs.Schema.{IsBookSchema, create_text, no_schema};
-ghost use Rattle.cred_file.specs.Keeps.{Has, IsRenamable, IsTableOf, Lacks, MayBegin};
+ghost use Rattle.cred_file.specs.Keeps.{Has, IsRenamable, IsTableOf, MayBegin};
+ghost use Rattle.cred_file.specs.Rows.{Suits, is_update};
 ghost use Rattle.cred_file.specs.{Table.IsTextOf, Table.StandsFor, Table.Tells, Opening.IsFound, Opening.IsUnopened};
 ghost use Rattle.sqlite.specs.{State.HasCleanDisk, State.IsUnchanged, State.Survives, Held.state};
 ghost use Rattle.sqlite_value.specs.Value.{owned};
@@ -14,6 +15,7 @@ use crate::fault::OpenFault;
 use crate::mark::Mark;
 use crate::marks::Marks;
 use crate::reading::Draft;
+use crate::row_statement::RowStatement;
 use cred_book::{Name, Register};
 use cred_phc::{PhcError, Record, write_record};
 use sqlite::types::ValueRef;
@@ -63,40 +65,23 @@ pub(crate) fn value_of<'a>(text: &'a [u8], stored: &Option<Record>, mark: Mark) 
     }
 }
 
-/// Adds the row of a name that doesn't exist, with a record's text or NULL.
-pub(crate) fn insert_row<S: Alter>(
+/// Writes a record's text, or NULL, in the row of a name, by this statement.
+pub(crate) fn write_row<S: Alter>(
     conn: &mut Connection<S>,
+    statement: RowStatement,
     name: &Name,
     text: &[u8],
     stored: &Option<Record>,
     mark: Mark,
 ) -> Result<usize, Error>
     requires { IsTextOf text.now (cell stored.now mark) }
-    ensures { Changes S.Store conn.old conn.new (Lacks name.now)
+    ensures { Changes S.Store conn.old conn.new (Suits statement name.now)
         (λ book. fin.insert book name.now (cell stored.now mark))
-        (FailsToPut S.Store conn.old conn.new false name.now (cell stored.now mark)) result }
+        (FailsToPut S.Store conn.old conn.new (is_update statement) name.now
+        (cell stored.now mark)) result }
 {
     conn.execute(
-        "INSERT INTO account (name, record) VALUES (?1, ?2)",
-        &[ValueRef::Text(name.bytes()), value_of(text, stored, mark)],
-    )
-}
-
-/// Writes a record's text, or NULL, in the row of an existing name.
-pub(crate) fn update_row<S: Alter>(
-    conn: &mut Connection<S>,
-    name: &Name,
-    text: &[u8],
-    stored: &Option<Record>,
-    mark: Mark,
-) -> Result<usize, Error>
-    requires { IsTextOf text.now (cell stored.now mark) }
-    ensures { Changes S.Store conn.old conn.new (Has name.now)
-        (λ book. fin.insert book name.now (cell stored.now mark))
-        (FailsToPut S.Store conn.old conn.new true name.now (cell stored.now mark)) result }
-{
-    conn.execute(
-        "UPDATE account SET record = ?2 WHERE name = ?1",
+        statement.text(),
         &[ValueRef::Text(name.bytes()), value_of(text, stored, mark)],
     )
 }

@@ -3,7 +3,7 @@
 ghost use Rattle.std.specs.Prelude.{◌≡◌, ◌⊎◌, ◌≤◌, ◌+◌, cond, false, List, None, ℕ, OnErr, OnOk};
 ghost use Rattle.std.specs.FinMap as fin;
 ghost use Rattle.cred_book.specs.Accounts.{Accounts};
-ghost use Rattle.cred_file.specs.{Cells.AllMarks, Cells.Cells, Cells.cell, Cells.cells_of, Cells.mark_at, Edits.AreApart, Edits.AreThere, Edits.joined, Edits.taken_cells, Edits.taken_in, Keeps.Has, Keeps.IsTableOf, Keeps.Lacks, Keeps.LeavesOnly, Table.Tells};
+ghost use Rattle.cred_file.specs.{Cells.AllMarks, Cells.Cells, Cells.cell, Cells.cells_of, Cells.mark_at, Edits.AreApart, Edits.AreThere, Edits.joined, Edits.taken_cells, Edits.taken_in, Keeps.IsTableOf, Keeps.Lacks, Keeps.LeavesOnly, Rows.Suits, Table.Tells};
 ghost use Rattle.cred_file.specs.Transactions.{AgreeOn, HasRoom, IsUnderWay, KeepsOthers, MakesWithin, added_mark, changed_mark, marks_with, taken_marks};
 ghost use Rattle.sqlite.specs.{State.HasCleanDisk, State.Shows, State.Survives, Held.state};
 ghost use Rattle.sqlite_value.specs.Value.{owned};
@@ -11,6 +11,7 @@ ghost use Rattle.sqlite_trees.specs.View.{doubt};
 
 use crate::mark::Mark;
 use crate::marks::Marks;
+use crate::row_statement::RowStatement;
 use crate::statements::{text_of, value_of};
 use cred_book::{Name, Register};
 use cred_phc::Record;
@@ -137,7 +138,7 @@ fn enter_one<S: Alter>(
         Ok(()) => {}
         Err(_) => return Err(out_of_memory()),
     }
-    match insert_stored(alloc, tx, name, stored, mark) {
+    match write_stored(alloc, tx, RowStatement::Insert, name, stored, mark) {
         Ok(()) => Ok(()),
         Err(error) => {
             book.remove(name);
@@ -146,18 +147,19 @@ fn enter_one<S: Alter>(
     }
 }
 
-/// Adds the row of a name that doesn't exist, with a record or none, and its mark.
-fn insert_stored<S: Alter>(
+/// Writes a record, or none, with a mark in the row of a name, by this statement.
+fn write_stored<S: Alter>(
     alloc: Global,
     tx: &mut Transaction<'_, S>,
+    statement: RowStatement,
     name: &Name,
     stored: &Option<Record>,
     mark: Mark,
 ) -> Result<(), Error>
     ensures same_reference { tx.new.conn.ghost_name ≡ tx.old.conn.ghost_name }
-    ensures entered { HasCleanDisk (state S.Store tx.new.conn.now) → OnOk result
+    ensures written { HasCleanDisk (state S.Store tx.new.conn.now) → OnOk result
         (MakesWithin (state S.Store tx.old.conn.now) (state S.Store tx.new.conn.now)
-        (Lacks name.now) (λ b. fin.insert b name.now (cell stored.now mark))) }
+        (Suits statement name.now) (λ b. fin.insert b name.now (cell stored.now mark))) }
     ensures survives { Survives (state S.Store tx.old.conn.now)
         (state S.Store tx.new.conn.now) (λ _. ⊥) }
 {
@@ -165,7 +167,7 @@ fn insert_stored<S: Alter>(
         return Err(out_of_memory());
     };
     tx.execute(
-        "INSERT INTO account (name, record) VALUES (?1, ?2)",
+        statement.text(),
         &[ValueRef::Text(name.bytes()), value_of(&text, stored, mark)],
     )?;
     Ok(())
@@ -192,33 +194,8 @@ fn update_each<S: Alter>(
 {
     for (name, slot) in changed.iter() {
         let mark = marks.at(name).renewed_with(given.at(name));
-        update_stored(alloc, tx, name, &slot.stored(), mark)?;
+        write_stored(alloc, tx, RowStatement::Update, name, &slot.stored(), mark)?;
     }
-    Ok(())
-}
-
-/// Writes a record, or none, with a mark in the row of an existing name.
-fn update_stored<S: Alter>(
-    alloc: Global,
-    tx: &mut Transaction<'_, S>,
-    name: &Name,
-    stored: &Option<Record>,
-    mark: Mark,
-) -> Result<(), Error>
-    ensures same_reference { tx.new.conn.ghost_name ≡ tx.old.conn.ghost_name }
-    ensures updated { HasCleanDisk (state S.Store tx.new.conn.now) → OnOk result
-        (MakesWithin (state S.Store tx.old.conn.now) (state S.Store tx.new.conn.now)
-        (Has name.now) (λ b. fin.insert b name.now (cell stored.now mark))) }
-    ensures survives { Survives (state S.Store tx.old.conn.now)
-        (state S.Store tx.new.conn.now) (λ _. ⊥) }
-{
-    let Ok(text) = text_of(alloc, stored, mark) else {
-        return Err(out_of_memory());
-    };
-    tx.execute(
-        "UPDATE account SET record = ?2 WHERE name = ?1",
-        &[ValueRef::Text(name.bytes()), value_of(&text, stored, mark)],
-    )?;
     Ok(())
 }
 

@@ -13,7 +13,8 @@ ghost use Rattle.cred_file.specs.declared.fault.Attempt.TheVariants as Attempt;
 use super::FileBook;
 use crate::fault::{Attempt, Lost};
 use crate::mark::Mark;
-use crate::statements::{delete_row, insert_row, rename_row, text_of, update_row};
+use crate::row_statement::RowStatement;
+use crate::statements::{delete_row, rename_row, text_of, write_row};
 use cred_book::{BookError, Name, Reply, Worked};
 use cred_phc::Record;
 use sqlite::Alter;
@@ -240,7 +241,14 @@ impl<S: Alter> FileBook<S> {
             Ok(()) => {}
             Err(refusal) => return Err(refusal),
         }
-        match insert_row(&mut self.conn, &name, &text, &stored, mark) {
+        match write_row(
+            &mut self.conn,
+            RowStatement::Insert,
+            &name,
+            &text,
+            &stored,
+            mark,
+        ) {
             Ok(_) => {
                 self.marks.forget(&name);
                 Ok(())
@@ -275,7 +283,14 @@ impl<S: Alter> FileBook<S> {
         let Ok(text) = text_of(self.alloc, &stored, mark) else {
             return Err(BookError::Memory);
         };
-        match update_row(&mut self.conn, name, &text, &stored, mark) {
+        match write_row(
+            &mut self.conn,
+            RowStatement::Update,
+            name,
+            &text,
+            &stored,
+            mark,
+        ) {
             Ok(_) => {
                 self.book.replace(name, stored);
                 self.marks.renew(name);
@@ -313,7 +328,14 @@ impl<S: Alter> FileBook<S> {
             Ok(()) => {}
             Err(_) => return Err(BookError::Memory),
         }
-        match update_row(&mut self.conn, name, &text, &stored, mark) {
+        match write_row(
+            &mut self.conn,
+            RowStatement::Update,
+            name,
+            &text,
+            &stored,
+            mark,
+        ) {
             Ok(_) => {
                 self.marks.set(name, mark);
                 Ok(())

@@ -21,13 +21,13 @@ pub loop-name-preserved : goal.loop-name-preserved
 loop-name-preserved g c =
     let was = c.loop-name.invariant in
     let mid = state g.S.Store c.loop-name.tx.conn.now in
-    let new = state g.S.Store c.update_stored.new.tx.conn.now in
+    let new = state g.S.Store c.write_stored.new.tx.conn.now in
     let mark = c.renewed_with-mark.ensures ∙ (λ i. renewed_with (c.at-in-loop-name.ensures i) (c.at.ensures i)) in
     record {
-      same = c.update_stored.ensures.same_reference ∙ was.same;
-      updated = one_updated _ mid new (changed_mark c.args.given.now) (mark_at c.args.marks.now) c.args.changed.now _ _ _ _ _ was.updated c.in-Some.ensures.steps c.stored.ensures (λ clean. omega (arith, c.update_stored.ensures.survives.clean, clean))
-          (λ clean. subst (λ n. MakesWithin mid new (Has c.in-Some.name.now) (λ b. fin.insert b c.in-Some.name.now (cell c.stored.result n))) mark (c.in_ok-update_stored.ensures.updated clean));
-      survives = survives_then _ mid new _ _ _ (λ _ db none. none) (λ _ db none. none) was.survives c.update_stored.ensures.survives;
+      same = c.write_stored.ensures.same_reference ∙ was.same;
+      updated = one_updated _ mid new (changed_mark c.args.given.now) (mark_at c.args.marks.now) c.args.changed.now _ _ _ _ _ was.updated c.in-Some.ensures.steps c.stored.ensures (λ clean. omega (arith, c.write_stored.ensures.survives.clean, clean))
+          (λ clean. subst (λ n. MakesWithin mid new (Has c.in-Some.name.now) (λ b. fin.insert b c.in-Some.name.now (cell c.stored.result n))) mark (c.in_ok-write_stored.ensures.written clean));
+      survives = survives_then _ mid new _ _ _ (λ _ db none. none) (λ _ db none. none) was.survives c.write_stored.ensures.survives;
     }
 
 pub returns-clause-updated : goal.returns-clause-updated

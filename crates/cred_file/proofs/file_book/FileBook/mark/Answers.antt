@@ -9,8 +9,8 @@ use Rattle.cred_file.specs.Kept.{cells}
 use Rattle.cred_file.proofs.Keeping.{keeps_done, keeps_lost, fits, len_old}
 use Rattle.cred_file.proofs.file_book.FileBook.mark.Goals as goal
 
-pub invariant_of-self-in-Ok-update_row : goal.invariant_of-self-in-Ok-update_row
-invariant_of-self-in-Ok-update_row g c =
+pub invariant_of-self-in-Ok-write_row : goal.invariant_of-self-in-Ok-write_row
+invariant_of-self-in-Ok-write_row g c =
     let book = c.self.inside.book in
     let marks = mark_at c.self.inside.marks in
     let cells = cells_of book marks in
@@ -20,25 +20,25 @@ invariant_of-self-in-Ok-update_row g c =
     let got = c.in-Ok.ensures in
     let there = has_cell marks book name ∙ ap is_some got in
     let is = ap (cells_of book) (c.set.ensures.marks ∙ ap (λ m. marked m name c.args.mark) c.in-Ok-hold.ensures.same) ∙ cells_mark book marks name c.args.mark c.in-Ok.stored got in
-    keeps_done g.S.Store old c.update_row.new.conn cells _ c.self.invariant c.if-is_some.ensures c.in-Ok-update_row.ensures.clean _ (fin.insert cells name it) is
-    (len_old cells name it there (fits _ c.self.invariant c.if-is_some.ensures)) (λ clean was. c.in-Ok-update_row.ensures.done clean cells there was)
+    keeps_done g.S.Store old c.write_row.new.conn cells _ c.self.invariant c.if-is_some.ensures c.in-Ok-write_row.ensures.clean _ (fin.insert cells name it) is
+    (len_old cells name it there (fits _ c.self.invariant c.if-is_some.ensures)) (λ clean was. c.in-Ok-write_row.ensures.done clean cells there was)
 
-pub invariant_of-self-in-Err-update_row : goal.invariant_of-self-in-Err-update_row
-invariant_of-self-in-Err-update_row g c =
+pub invariant_of-self-in-Err-write_row : goal.invariant_of-self-in-Err-write_row
+invariant_of-self-in-Err-write_row g c =
     let book = c.self.inside.book in
     let marks = mark_at c.self.inside.marks in
     let cells = cells_of book marks in
     let old = c.self.inside.conn in
     let name = c.args.name.now in
     let there = has_cell marks book name ∙ ap is_some c.in-Ok.ensures in
-    keeps_lost g.S.Store old c.update_row.new.conn cells _ c.self.invariant c.if-is_some.ensures c.in-Err-update_row.ensures.clean _ cells (ap (cells_of book) c.in-Ok-hold.ensures.same) _
-    (record { error = c.in-Err-update_row.error; attempt = Marks_of name c.args.mark }) c.new.ensures
+    keeps_lost g.S.Store old c.write_row.new.conn cells _ c.self.invariant c.if-is_some.ensures c.in-Err-write_row.ensures.clean _ cells (ap (cells_of book) c.in-Ok-hold.ensures.same) _
+    (record { error = c.in-Err-write_row.error; attempt = Marks_of name c.args.mark }) c.new.ensures
     (len_old cells name _ there (fits _ c.self.invariant c.if-is_some.ensures)) (λ clean was.
-    subst (λ it. LeavesOnly (state g.S.Store c.update_row.new.conn) (λ b. (b ≡ cells) ⊎ (b ≡ fin.insert cells name it))) (sym (marking_here marks book name c.in-Ok.stored c.args.mark c.in-Ok.ensures))
-    (c.in-Err-update_row.ensures.left clean cells there was))
+    subst (λ it. LeavesOnly (state g.S.Store c.write_row.new.conn) (λ b. (b ≡ cells) ⊎ (b ≡ fin.insert cells name it))) (sym (marking_here marks book name c.in-Ok.stored c.args.mark c.in-Ok.ensures))
+    (c.in-Err-write_row.ensures.left clean cells there was))
 
-pub returns-in-Ok-update_row-clause-remembers : goal.returns-in-Ok-update_row-clause-remembers
-returns-in-Ok-update_row-clause-remembers g c =
+pub returns-in-Ok-write_row-clause-remembers : goal.returns-in-Ok-write_row-clause-remembers
+returns-in-Ok-write_row-clause-remembers g c =
     let book = c.self.inside.book in
     let marks = mark_at c.self.inside.marks in
     let name = c.args.name.now in

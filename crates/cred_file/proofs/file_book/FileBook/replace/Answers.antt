@@ -21,11 +21,11 @@ invariant_of-self g c =
     let mark = c.renewed-mark.ensures ∙ ap renewed c.at.ensures in
     let put = (λ i. cells_of (c.replace.ensures i) (c.renew.ensures i)) ∙ cells_put book marks name (renewed (marks name)) c.args.stored in
     let is = put ∙ ap (λ m. fin.insert cells name (cell c.args.stored m)) (sym mark) in
-    keeps_done g.S.Store old c.update_row.new.conn cells _ c.self.invariant c.if-is_some.ensures c.in-Ok-update_row.ensures.clean _ (fin.insert cells name (cell c.args.stored c.renewed-mark.result)) is
-    (len_old cells name _ there (fits _ c.self.invariant c.if-is_some.ensures)) (λ clean was. c.in-Ok-update_row.ensures.done clean cells there was)
+    keeps_done g.S.Store old c.write_row.new.conn cells _ c.self.invariant c.if-is_some.ensures c.in-Ok-write_row.ensures.clean _ (fin.insert cells name (cell c.args.stored c.renewed-mark.result)) is
+    (len_old cells name _ there (fits _ c.self.invariant c.if-is_some.ensures)) (λ clean was. c.in-Ok-write_row.ensures.done clean cells there was)
 
-pub returns-in-Ok-update_row-clause-marks : goal.returns-in-Ok-update_row-clause-marks
-returns-in-Ok-update_row-clause-marks g c =
+pub returns-in-Ok-write_row-clause-marks : goal.returns-in-Ok-write_row-clause-marks
+returns-in-Ok-write_row-clause-marks g c =
     c.renew.ensures ∙ ap (λ (m : Marks). marked (mark_at m) c.args.name.now (renewed (mark_at m c.args.name.now))) (ap (λ v. v.marks) c.self.view_is)
 
 pub invariant_of-self-in-Err : goal.invariant_of-self-in-Err
@@ -36,13 +36,13 @@ invariant_of-self-in-Err g c =
     let old = c.self.inside.conn in
     let name = c.args.name.now in
     let there = has_cell marks book name ∙ subst (λ b. fin.contains_key b name ≡ true) (sym (ap (λ v. v.book) c.self.view_is)) c.requires in
-    keeps_lost g.S.Store old c.update_row.new.conn cells _ c.self.invariant c.if-is_some.ensures c.in-Err.ensures.clean _ cells refl _ (record { error = c.in-Err.error; attempt = Put name c.args.stored }) c.put.ensures
+    keeps_lost g.S.Store old c.write_row.new.conn cells _ c.self.invariant c.if-is_some.ensures c.in-Err.ensures.clean _ cells refl _ (record { error = c.in-Err.error; attempt = Put name c.args.stored }) c.put.ensures
     (len_old cells name _ there (fits _ c.self.invariant c.if-is_some.ensures)) (λ clean was.
-    subst (λ it. LeavesOnly (state g.S.Store c.update_row.new.conn) (λ b. (b ≡ cells) ⊎ (b ≡ fin.insert cells name it))) (ap (cell c.args.stored) (c.renewed-mark.ensures ∙ ap renewed c.at.ensures) ∙ sym (renewal_here marks book name c.args.stored (sym (has_cell marks book name) ∙ there)))
+    subst (λ it. LeavesOnly (state g.S.Store c.write_row.new.conn) (λ b. (b ≡ cells) ⊎ (b ≡ fin.insert cells name it))) (ap (cell c.args.stored) (c.renewed-mark.ensures ∙ ap renewed c.at.ensures) ∙ sym (renewal_here marks book name c.args.stored (sym (has_cell marks book name) ∙ there)))
     (c.in-Err.ensures.left clean cells there was))
 
-pub returns-in-Ok-update_row-clause-remembers : goal.returns-in-Ok-update_row-clause-remembers
-returns-in-Ok-update_row-clause-remembers g c =
+pub returns-in-Ok-write_row-clause-remembers : goal.returns-in-Ok-write_row-clause-remembers
+returns-in-Ok-write_row-clause-remembers g c =
     let book = c.self.inside.book in
     let marks = mark_at c.self.inside.marks in
     let name = c.args.name.now in
