@@ -4,8 +4,8 @@ use Rattle.std.specs.{Str.bytes_eq, Option.ok_or}
 use Rattle.cred_phc.specs.declared.error.PhcError.{PhcError}
 use Rattle.cred_phc.specs.declared.error.PhcError.TheVariants.{Shape, Version as WrongVersion, Params, Range, Salt, Tag, TooLong, Scheme as NoScheme}
 use Rattle.cred_phc.specs.{declared.scheme.Scheme.Scheme, declared.scheme.Scheme.TheVariants.Argon2, declared.scheme.Scheme.TheVariants.Scrypt}
-use Rattle.cred_phc.specs.{declared.scheme.Variant.Variant, declared.scheme.Name.Name}
-use Rattle.cred_phc.specs.{declared.scheme.Name.TheVariants.Argon2 as NamesArgon2, declared.scheme.Name.TheVariants.Scrypt as NamesScrypt, Base64.bytes_of}
+use Rattle.cred_phc.specs.{declared.scheme.Variant.Variant, declared.scheme.SchemeName.SchemeName}
+use Rattle.cred_phc.specs.{declared.scheme.SchemeName.TheVariants.Argon2 as NamesArgon2, declared.scheme.SchemeName.TheVariants.Scrypt as NamesScrypt, Base64.bytes_of}
 use Rattle.cred_phc.specs.Faults.{Judge, unless, numbers_fault, bytes_fault, judges_of, first, judgement, version_fault, named_fault, fields_fault, setting_fault, record_fault}
 use Rattle.cred_phc.specs.{Fields.name_of, Fields.numbers_of, Pieces.pieces, Ranges.argon_fits, Ranges.scrypt_fits, Ranges.salt_low}
 use Rattle.cred_phc.specs.Reading.{◌>>=◌, guard, next, end, argon_of, version_at, numbers_at, argon_at, scrypt_at, named_at, scheme_at, setting_at, tag_at, fields_of, read_setting, read_record}
@@ -99,7 +99,7 @@ unfolding scrypt_at
 scrypt_law follow last h fields =
     numbers_law (codes "ln=") (codes "r=") (codes "p=") scrypt_fits (λ n. Scrypt n.0 n.1 n.2) follow (bytes_fault 1 48 Salt ∷ last) (λ n. h (Scrypt n.0 n.1 n.2)) fields
 
-named_law : {B : Type 0} (old : Bool) (follow : Scheme × List (List ℕ) → Result B PhcError) (last : List Judge) → FollowsScheme follow last → (name : Option Name) (fields : List (List ℕ))
+named_law : {B : Type 0} (old : Bool) (follow : Scheme × List (List ℕ) → Result B PhcError) (last : List Judge) → FollowsScheme follow last → (name : Option SchemeName) (fields : List (List ℕ))
     → fault_in ((ok_or name NoScheme >>= (λ name. named_at old name fields)) >>= follow) ≡ named_fault old last name fields
 named_law old follow last h None fields = refl
 named_law old follow last h (Some (NamesArgon2 variant)) fields = argon_law old variant follow last h fields

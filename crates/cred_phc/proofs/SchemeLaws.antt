@@ -7,8 +7,8 @@ use Rattle.cred_phc.specs.declared.error.PhcError.TheVariants.{Shape, Version as
 use Rattle.cred_phc.specs.{declared.scheme.Scheme.Scheme, declared.scheme.Scheme.TheVariants.Argon2, declared.scheme.Scheme.TheVariants.Scrypt}
 use Rattle.cred_phc.specs.declared.scheme.Variant.{Variant}
 use Rattle.cred_phc.specs.declared.scheme.Variant.TheVariants.{D, I, Id}
-use Rattle.cred_phc.specs.declared.scheme.Name.{Name}
-use Rattle.cred_phc.specs.declared.scheme.Name.TheVariants.{Argon2 as NamesArgon2, Scrypt as NamesScrypt}
+use Rattle.cred_phc.specs.declared.scheme.SchemeName.{SchemeName}
+use Rattle.cred_phc.specs.declared.scheme.SchemeName.TheVariants.{Argon2 as NamesArgon2, Scrypt as NamesScrypt}
 use Rattle.cred_phc.specs.{Fields.name_of, Fields.numbers_of, Names.variant_name}
 use Rattle.cred_phc.specs.Ranges.{argon_fits, scrypt_fits, scheme_fits, is_current}
 use Rattle.cred_phc.specs.Reading.{guard, next, argon_of, scrypt_of, version_of, version_at, numbers_at, argon_at, scrypt_at, named_at, scheme_at}
@@ -17,11 +17,11 @@ use Rattle.std.proofs.{lemmas.Bool.and_from, lemmas.Bool.or_left, lemmas.Bool.or
 use Rattle.cred_phc.proofs.StepLaws.{bind_ok, ok_or_ok, next_ok, guard_ok, ok_pair, some_choice, ok_choice, err_choice}
 use Rattle.cred_phc.proofs.FieldLaws.{same_bytes, numbers_of-text, numbers_is}
 
-abbrev name_text : Name → List ℕ
+abbrev name_text : SchemeName → List ℕ
 name_text (NamesArgon2 variant) = variant_name variant
 name_text NamesScrypt = codes "scrypt"
 
-name_is : (field : List ℕ) (name : Name) → name_of field ≡ Some name → field ≡ name_text name
+name_is : (field : List ℕ) (name : SchemeName) → name_of field ≡ Some name → field ≡ name_text name
 name_is field name e = elim (some_choice (bytes_eq field (codes "argon2d")) (NamesArgon2 D) name _ e) [
   | inl h ↦ same_bytes _ _ h.0 ∙ ap name_text h.1
   | inr e ↦ elim (some_choice (bytes_eq field (codes "argon2i")) (NamesArgon2 I) name _ e) [
@@ -123,7 +123,7 @@ scrypt_is old fields rest scheme e =
     let written = numbers_is (codes "ln=") (codes "r=") (codes "p=") numbers.0 n numbers.3 small.0 small.1 small.2 in
     rw (← made.1) (scrypt_numbers n.0 n.1 n.2 ∷ [], inl (or_right old true refl, refl), numbers.2 ∙ ap (λ f. f ∷ rest) written)
 
-named_is : (old : Bool) (name : Name) (fields rest : List (List ℕ)) (scheme : Scheme) → named_at old name fields ≡ Ok (scheme, rest)
+named_is : (old : Bool) (name : SchemeName) (fields rest : List (List ℕ)) (scheme : Scheme) → named_at old name fields ≡ Ok (scheme, rest)
     → (more : List (List ℕ)) × IsFront old scheme ([] ∷ name_text name ∷ more) × (fields ≡ more ++ rest)
 named_is old (NamesArgon2 variant) fields rest scheme e = argon_is old variant fields rest scheme e
 named_is old NamesScrypt fields rest scheme e = scrypt_is old fields rest scheme e
@@ -172,7 +172,7 @@ variant_named D = refl
 variant_named I = refl
 variant_named Id = refl
 
-scheme_at-name : (old : Bool) (name : Name) (field : List ℕ) (more : List (List ℕ)) → name_of field ≡ Some name → scheme_at old ([] ∷ field ∷ more) ≡ named_at old name more
+scheme_at-name : (old : Bool) (name : SchemeName) (field : List ℕ) (more : List (List ℕ)) → name_of field ≡ Some name → scheme_at old ([] ∷ field ∷ more) ≡ named_at old name more
 unfolding scheme_at
 scheme_at-name old name field more e = rw e refl
 

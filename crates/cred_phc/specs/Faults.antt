@@ -3,7 +3,7 @@ use Rattle.std.specs.Prelude.{ℕ, List, [], ◌∷◌, ◌++◌, length, take, 
 use Rattle.std.specs.Str.{bytes_eq}
 use Rattle.cred_phc.specs.declared.error.PhcError.{PhcError}
 use Rattle.cred_phc.specs.declared.error.PhcError.TheVariants.{Shape, Version as WrongVersion, Params, Range, Salt, Tag, TooLong, Scheme as NoScheme}
-use Rattle.cred_phc.specs.{declared.scheme.Name.Name, declared.scheme.Name.TheVariants.Argon2, declared.scheme.Name.TheVariants.Scrypt}
+use Rattle.cred_phc.specs.{declared.scheme.SchemeName.SchemeName, declared.scheme.SchemeName.TheVariants.Argon2, declared.scheme.SchemeName.TheVariants.Scrypt}
 use Rattle.cred_phc.specs.Ranges.{argon_fits, scrypt_fits, MIN_ARGON2_SALT, MIN_SCRYPT_SALT, MAX_SALT, MIN_TAG, MAX_TAG, MAX_TEXT}
 use Rattle.cred_phc.specs.Names.{version_text, version_label, memory_label, passes_label, cost_label, block_size_label, parallelism_label}
 use Rattle.cred_phc.specs.{Pieces.pieces, Base64.bytes_of, Fields.name_of, Fields.numbers_of}
@@ -25,7 +25,7 @@ abbrev pub bytes_fault : ℕ → ℕ → PhcError → Judge
 bytes_fault low high e field = unless (is_some (bytes_of low high field)) e
 
 -- the numbers and the salt
-abbrev pub judges_of : Name → List Judge
+abbrev pub judges_of : SchemeName → List Judge
 judges_of (Argon2 variant) =
     (λ field. numbers_fault argon_fits
     (numbers_of memory_label passes_label parallelism_label field))
@@ -58,7 +58,7 @@ version_fault old judges (field ∷ fields) =
     else judgement judges (field ∷ fields)
 
 -- the fields that the name asks for, and those at the end
-abbrev pub named_fault : Bool → List Judge → Option Name → List (List ℕ) → Option PhcError
+abbrev pub named_fault : Bool → List Judge → Option SchemeName → List (List ℕ) → Option PhcError
 named_fault old last None fields = Some NoScheme
 named_fault old last (Some (Argon2 variant)) fields =
     version_fault old (judges_of (Argon2 variant) ++ last) fields

@@ -2,10 +2,10 @@
 use Rattle.std.specs.Prelude.{ℕ, List, [], ◌∷◌, length, drop, take, Option, Some, None, if◌then◌else◌}
 use Rattle.std.specs.Str.{bytes_eq}
 use Rattle.cred_phc.specs.declared.scheme.Variant.TheVariants.{D, I, Id}
-use Rattle.cred_phc.specs.{declared.scheme.Name.Name, declared.scheme.Name.TheVariants.Argon2, declared.scheme.Name.TheVariants.Scrypt}
+use Rattle.cred_phc.specs.{declared.scheme.SchemeName.SchemeName, declared.scheme.SchemeName.TheVariants.Argon2, declared.scheme.SchemeName.TheVariants.Scrypt}
 use Rattle.cred_phc.specs.{Names.variant_name, Names.scrypt_name, Pieces.pieces, Number.number_of}
 
-abbrev pub name_of : List ℕ → Option Name
+abbrev pub name_of : List ℕ → Option SchemeName
 name_of field =
     if bytes_eq field (variant_name D) then Some (Argon2 D)
     else if bytes_eq field (variant_name I) then Some (Argon2 I)

@@ -7,8 +7,8 @@ use Rattle.cred_phc.specs.declared.error.PhcError.{PhcError}
 use Rattle.cred_phc.specs.declared.error.PhcError.TheVariants.{Shape, Version as WrongVersion, Params, Range, Salt, Tag, TooLong, Scheme as NoScheme}
 use Rattle.cred_phc.specs.{declared.scheme.Scheme.Scheme, declared.scheme.Scheme.TheVariants.Argon2, declared.scheme.Scheme.TheVariants.Scrypt}
 use Rattle.cred_phc.specs.{declared.scheme.Variant.Variant, declared.parse.Form.Form}
-use Rattle.cred_phc.specs.{declared.parse.Form.TheVariants.Setting, declared.parse.Form.TheVariants.Record, declared.scheme.Name.Name}
-use Rattle.cred_phc.specs.declared.scheme.Name.TheVariants.{Argon2 as NamesArgon2, Scrypt as NamesScrypt}
+use Rattle.cred_phc.specs.{declared.parse.Form.TheVariants.Setting, declared.parse.Form.TheVariants.Record, declared.scheme.SchemeName.SchemeName}
+use Rattle.cred_phc.specs.declared.scheme.SchemeName.TheVariants.{Argon2 as NamesArgon2, Scrypt as NamesScrypt}
 use Rattle.cred_phc.specs.Ranges.{argon_fits, scrypt_fits, salt_low, MAX_SALT, MIN_TAG, MAX_TAG, MAX_TEXT}
 use Rattle.cred_phc.specs.Values.{SettingValue, setting_of, RecordValue, record_of}
 use Rattle.cred_phc.specs.Names.{version_text, version_label, memory_label, passes_label, cost_label, block_size_label, parallelism_label}
@@ -78,7 +78,7 @@ argon_at old variant fields =
 unfoldable pub scrypt_at : List (List ℕ) → Result (Scheme × List (List ℕ)) PhcError
 scrypt_at fields = numbers_at cost_label block_size_label parallelism_label scrypt_of fields
 
-abbrev pub named_at : Bool → Name → List (List ℕ) → Result (Scheme × List (List ℕ)) PhcError
+abbrev pub named_at : Bool → SchemeName → List (List ℕ) → Result (Scheme × List (List ℕ)) PhcError
 named_at old (NamesArgon2 variant) fields = argon_at old variant fields
 named_at old NamesScrypt fields = scrypt_at fields
 

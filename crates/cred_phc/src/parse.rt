@@ -10,8 +10,8 @@ use crate::number::numbers;
 use crate::pieces::Pieces;
 use crate::record::Record;
 use crate::scheme::{
-    BLOCK_SIZE_LABEL, COST_LABEL, MEMORY_LABEL, Name, PARALLELISM_LABEL, PASSES_LABEL, SCRYPT,
-    Scheme, VERSION_LABEL, Variant, version_text,
+    BLOCK_SIZE_LABEL, COST_LABEL, MEMORY_LABEL, PARALLELISM_LABEL, PASSES_LABEL, SCRYPT, Scheme,
+    SchemeName, VERSION_LABEL, Variant, version_text,
 };
 use crate::setting::Setting;
 use crate::tag::Tag;
@@ -120,17 +120,17 @@ fn last_field(fields: &mut Pieces<'_>) -> Result<(), PhcError>
     }
 }
 
-fn name(field: &[u8]) -> Option<Name>
+fn name(field: &[u8]) -> Option<SchemeName>
     ensures { result ≡ name_of field.now }
 {
     if field == Variant::D.name().as_bytes() {
-        Some(Name::Argon2(Variant::D))
+        Some(SchemeName::Argon2(Variant::D))
     } else if field == Variant::I.name().as_bytes() {
-        Some(Name::Argon2(Variant::I))
+        Some(SchemeName::Argon2(Variant::I))
     } else if field == Variant::Id.name().as_bytes() {
-        Some(Name::Argon2(Variant::Id))
+        Some(SchemeName::Argon2(Variant::Id))
     } else if field == SCRYPT.as_bytes() {
-        Some(Name::Scrypt)
+        Some(SchemeName::Scrypt)
     } else {
         None
     }
@@ -196,8 +196,8 @@ fn scheme(fields: &mut Pieces<'_>, form: Form) -> Result<Scheme, PhcError>
     }
     let field = next_field(fields)?;
     match name(field).ok_or(PhcError::Scheme)? {
-        Name::Argon2(variant) => argon(fields, form, variant),
-        Name::Scrypt => scrypt(fields),
+        SchemeName::Argon2(variant) => argon(fields, form, variant),
+        SchemeName::Scrypt => scrypt(fields),
     }
 }
 

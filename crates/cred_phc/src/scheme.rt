@@ -48,7 +48,7 @@ pub enum Scheme {
 
 /// The names that a text may begin with.
 #[derive(Clone, Copy)]
-pub(crate) enum Name {
+pub(crate) enum SchemeName {
     Argon2(Variant),
     Scrypt,
 }
