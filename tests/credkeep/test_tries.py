@@ -8,7 +8,7 @@ import pathlib
 import select
 import time
 from collections import Counter
-from collections.abc import Iterator
+from collections.abc import Iterator, Sequence
 from typing import NamedTuple
 
 from tests.credkeep.books import CHEAP, DONE, RECORD, TAG, BookTest, Service, lined
@@ -181,10 +181,10 @@ class PlacesTest(BookTest):
             self.hold.unlink()
             os.close(pipe)
 
-    def answers(self, state: State, lines: list[str]) -> list[str]:
+    def answers(self, state: State, lines: list[str], behind: Sequence[str] = ()) -> list[str]:
         """The answers to tagged lines of many accounts, in their order. All come while a change of
         another account is synced, and those that are hashed behind the first change wait for its
-        sync."""
+        sync. The lines `behind` come once the others are hashed."""
         self.begun(dict.fromkeys(("ann", "bob", *BEFORE, *BEHIND), RECORD))
         words = ["--at-once", "1", *state.options]
         with self.book.tagged(*words, env=self.environment) as service:
@@ -198,10 +198,12 @@ class PlacesTest(BookTest):
                 while not select.select([service.stdout], [], [], 0)[0]:
                     os.write(pipe, b".")
                     until(lambda: is_asleep(service), "the next sync waits")
+                service.send(lined(behind))
+                until(lambda: is_asleep(service), "the lines behind have come")
             done = service.end()
         self.assertEqual((done.status, done.faults), (0, ""))
         first, *answers = done.written.splitlines()
-        self.assertEqual((first, len(answers)), ("bob replaced", len(lines)))
+        self.assertEqual((first, len(answers)), ("bob replaced", len(lines) + len(behind)))
         return answers
 
     def test_places(self) -> None:
@@ -231,6 +233,28 @@ class PlacesTest(BookTest):
                 found = [it for it in answers if it.startswith(("try", "miss"))]
                 miss = "miss absent" if right == "removed" else "miss no"
                 self.assertEqual(found, [f"try {right}", *[miss] * LIMIT])
+
+    def test_record_that_changed_meanwhile(self) -> None:
+        """A try that was hashed before another line changed the record has the same place, whether
+        its password is that of the older record or not."""
+        for line, (_, wrong) in CHANGING.items():
+            with self.subTest(line):
+                places = []
+                for password in (OLD, OTHER):
+                    tries = [f"first change ann {OLD} {FRESH}", f"try {line.format(password)}"]
+                    lines = [*map(change_of, BEFORE), *tries, *map(change_of, BEHIND)]
+                    answers = self.answers(State([], [], [], ""), lines)
+                    places.append(answers.index(f"try {wrong}"))
+                self.assertEqual(*places)
+
+    def test_lock_behind_a_change(self) -> None:
+        """A lock that comes after a right password's hash waits for its change."""
+        for line, (right, _) in CHANGING.items():
+            lines = [*map(change_of, BEFORE), f"try {line.format(OLD)}", *map(change_of, BEHIND)]
+            with self.subTest(line):
+                answers = self.answers(State([], [], [], ""), lines, ["lock lock ann"])
+                found = [it for it in answers if it.startswith(("try", "lock"))]
+                self.assertEqual(found, [f"try {right}", "lock locked"])
 
 
 def change_of(name: str) -> str:

@@ -103,8 +103,8 @@ impl<J: ServiceId> MessageLoop<J> {
     }
 
     /// Commits the waiting changes, if one of them is of the same account as this message, or if
-    /// the message is a line that is done at once, since that may concern any account. So a right
-    /// password's place among wrong ones tells nothing.
+    /// the message is a line that is done at once, since that may concern any account. No later
+    /// line then overtakes a change of its account.
     fn commit_before<T: Wait + Clock, K: Host, W: Write + Drop>(
         &mut self,
         rt: &T,

@@ -15,8 +15,8 @@ use std::io::Write;
 
 impl<J: ServiceId, K: Host, W: Write> Scribe<J, K, W> {
     /// Whether a work is committed by itself: it makes no change as the account is now, or the
-    /// account is marked or has failed tries. Where a try may be sent away, its answer so waits for no changes of others,
-    /// be its password right or wrong.
+    /// account is marked or has failed tries. Where a try may be sent away, its answer then waits
+    /// for no changes of others, whether its password is right or wrong.
     pub(crate) fn is_apart(&self, hashed: &Hashed<J>) -> bool {
         let name = hashed.worked().request().name();
         let (_, _, changes) = self.keeper.accounts().judge(hashed.worked());
