@@ -9,7 +9,7 @@ use crate::import::{Importing, import};
 use crate::outcome::{Ending, Failure, command_end, import_end};
 use crate::report::{refuse, tell_end};
 use cred_admin::{
-    Detail, Edit, Line, Operation, Status, disable_shown, edit_account, list, show, show_json,
+    Detail, Edit, LineForm, Operation, Status, disable_shown, edit_account, list, show, show_json,
 };
 use cred_book::Name;
 use cred_cli::{Tools, Watched};
@@ -32,7 +32,7 @@ pub enum Order {
     /// Writes the account with this detail of its record in JSON.
     ShowJson { name: Name, detail: Detail },
     /// Writes a line of each account.
-    List { line: Line },
+    List { line: LineForm },
     /// Imports a passwd-file.
     Import { how: Importing },
 }

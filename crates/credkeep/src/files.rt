@@ -8,7 +8,7 @@ use crate::sidecar::{
     EMPTY_LOG, JOURNAL, LOG, has_changes_in_log, hold, if_there, len_of, len_of_log,
     look_at_its_log, real_path, sidecar,
 };
-use cred_admin::{Detail, Line, Status};
+use cred_admin::{Detail, LineForm, Status};
 use cred_keep::Order;
 use credkeep_words::{FileFault, Remarks};
 use sqlite::{Connection, Error, ErrorCode, FileFrom, FileStore, Start, Wary};
@@ -135,7 +135,7 @@ pub(crate) fn look_before_export(
 ) -> Result<(), Status> {
     match order {
         Order::List {
-            line: Line::Passwd(Detail::Record),
+            line: LineForm::Passwd(Detail::Record),
         } => accept(host, file, look_at_locks(host, file)),
         _ => Ok(()),
     }

@@ -2,7 +2,7 @@
 
 use crate::refusal::Refusal;
 use clap::ArgMatches;
-use cred_admin::{Detail, Existing, Line, LockedRecords, Rules};
+use cred_admin::{Detail, Existing, LineForm, LockedRecords, Rules};
 use cred_book::Name;
 use cred_cli::CostBounds;
 use cred_keep::{BadLines, Counts, Effect, Importing};
@@ -104,9 +104,14 @@ pub(crate) fn counts_in(values: &ArgMatches<'_>) -> Counts {
 }
 
 /// The form of the list of accounts.
-pub(crate) fn line_in(values: &ArgMatches<'_>) -> Line {
-    let plain = either(values, "costs", Line::Passwd(Detail::Costs), Line::Name);
-    either(values, "json", Line::Json(Detail::Costs), plain)
+pub(crate) fn line_in(values: &ArgMatches<'_>) -> LineForm {
+    let plain = either(
+        values,
+        "costs",
+        LineForm::Passwd(Detail::Costs),
+        LineForm::Name,
+    );
+    either(values, "json", LineForm::Json(Detail::Costs), plain)
 }
 
 /// The options of an import.

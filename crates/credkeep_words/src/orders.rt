@@ -8,7 +8,7 @@ use crate::options::{
 use crate::refusal::Refusal;
 use clap::ArgMatches;
 use cred_admin::{
-    Detail, Edit, EmptyPassword, Line, NewPassword, NewSetting, Operation, setting_of,
+    Detail, Edit, EmptyPassword, LineForm, NewPassword, NewSetting, Operation, setting_of,
 };
 use cred_book::Name;
 use cred_cli::{exceeds, memory_alone};
@@ -41,7 +41,7 @@ pub(crate) fn read_command<'a, R: RandomSource + AllocGlobal>(
         )?)),
         CommandName::Serve => Err(Refusal::Untagged),
         CommandName::List => list(values, line_in(values)),
-        CommandName::Export => list(values, Line::Passwd(Detail::Record)),
+        CommandName::Export => list(values, LineForm::Passwd(Detail::Record)),
         CommandName::Import => {
             let how = importing_in(values)?;
             perform(values, Order::Import { how })
@@ -69,7 +69,7 @@ fn perform<'a>(values: &ArgMatches<'a>, order: Order) -> Result<Command<'a>, Ref
     })
 }
 
-fn list<'a>(values: &ArgMatches<'a>, line: Line) -> Result<Command<'a>, Refusal<'a>> {
+fn list<'a>(values: &ArgMatches<'a>, line: LineForm) -> Result<Command<'a>, Refusal<'a>> {
     perform(values, Order::List { line })
 }
 
