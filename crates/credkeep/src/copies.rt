@@ -14,7 +14,7 @@ use crate::sidecar::{len_of, look_at_its_log, real_path, sidecar};
 use crate::snapshot::take_snapshot;
 use cred_admin::Status;
 use cred_file::OpenFault;
-use cred_keep::{CopyFault, Counts, copy_book, count_accounts};
+use cred_keep::{CopyFault, CountsForm, copy_book, count_accounts};
 use credkeep_words::{CommandLine, FileFault, Progress, Remarks, say};
 use sqlite::{Alter, Connection, Error, ErrorCode};
 use std::alloc::Global;
@@ -37,25 +37,25 @@ pub(crate) struct Contents {
 }
 
 impl Contents {
-    pub(crate) fn tell(self, host: &HostRuntime, counts: Counts) -> Status {
+    pub(crate) fn tell(self, host: &HostRuntime, counts: CountsForm) -> Status {
         match self.write(&mut host.stdout(), counts) {
             Ok(()) => Status::Done,
             Err(_) => say(host, "writing failed", Status::Io),
         }
     }
 
-    fn write<W: Write>(self, out: &mut W, counts: Counts) -> io::Result<()> {
+    fn write<W: Write>(self, out: &mut W, counts: CountsForm) -> io::Result<()> {
         let (accounts, changes) = (self.accounts, self.log.commits);
         match counts {
-            Counts::Hidden => Ok(()),
-            Counts::Plain => {
+            CountsForm::Hidden => Ok(()),
+            CountsForm::Plain => {
                 let (these, those) = (plural_of(accounts as u64), plural_of(changes));
                 writeln!(
                     out,
                     "{accounts} account{these}, {changes} change{those} in the log"
                 )
             }
-            Counts::Json => writeln!(out, "{{\"accounts\":{accounts},\"changes\":{changes}}}"),
+            CountsForm::Json => writeln!(out, "{{\"accounts\":{accounts},\"changes\":{changes}}}"),
         }
     }
 }

@@ -8,7 +8,7 @@ use crate::refusal::Refusal;
 use clap::{ArgMatches, Error};
 use cred_admin::{NewSetting, Status};
 use cred_cli::CostBounds;
-use cred_keep::{Counts, Order};
+use cred_keep::{CountsForm, Order};
 use cred_tries::TryLimit;
 use std::alloc::Global;
 use std::random::RandomSource;
@@ -20,7 +20,7 @@ pub struct CommandLine<'a> {
     /// The number of seconds for which a busy file is tried.
     pub wait: u16,
     pub remarks: Remarks,
-    pub counts: Counts,
+    pub counts: CountsForm,
     pub command: Command<'a>,
 }
 

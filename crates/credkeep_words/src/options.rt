@@ -5,7 +5,7 @@ use clap::ArgMatches;
 use cred_admin::{Detail, Existing, LineForm, LockedRecords, Rules};
 use cred_book::Name;
 use cred_cli::CostBounds;
-use cred_keep::{BadLines, Counts, Effect, Importing};
+use cred_keep::{BadLines, CountsForm, Effect, Importing};
 use cred_tries::{MOST_TRIES, TryLimit};
 
 /// The first value if the flag is given, and otherwise the second.
@@ -98,9 +98,9 @@ pub(crate) fn tries_in<'a>(values: &ArgMatches<'a>) -> Result<Option<TryLimit>, 
 }
 
 /// The form of counts.
-pub(crate) fn counts_in(values: &ArgMatches<'_>) -> Counts {
-    let plain = either(values, "quiet", Counts::Hidden, Counts::Plain);
-    either(values, "json", Counts::Json, plain)
+pub(crate) fn counts_in(values: &ArgMatches<'_>) -> CountsForm {
+    let plain = either(values, "quiet", CountsForm::Hidden, CountsForm::Plain);
+    either(values, "json", CountsForm::Json, plain)
 }
 
 /// The form of the list of accounts.
