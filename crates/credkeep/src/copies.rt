@@ -15,7 +15,7 @@ use crate::snapshot::take_snapshot;
 use cred_admin::Status;
 use cred_file::OpenFault;
 use cred_keep::{CopyFault, CountsForm, copy_book, count_accounts};
-use credkeep_words::{CommandLine, FileFault, Progress, Remarks, say};
+use credkeep_words::{CommandLine, FileFault, ProgressLine, Remarks, say};
 use sqlite::{Alter, Connection, Error, ErrorCode};
 use std::alloc::Global;
 use std::io;
@@ -155,7 +155,7 @@ fn read_book(
     remarks: Remarks,
 ) -> Result<LogLook, Status> {
     let source = accept(host, file, real_path(host, file))?;
-    let mut progress = Progress::new(host, remarks);
+    let mut progress = ProgressLine::new(host, remarks);
     let taken = take_snapshot(host, source.as_str(), read, &mut progress);
     if let Err(FileFault::System(error)) = taken {
         return Err(refuse_file(host, read.path(), error));

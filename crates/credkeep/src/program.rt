@@ -14,7 +14,7 @@ use cred_cli::{Tools, Watched};
 use cred_file::{FileBook, OpenFault};
 use cred_keep::{Order, refuse, serve_in};
 use credkeep_words::{
-    Command, CommandLine, Counted, Progress, Remarks, advise, read_passwords, read_words, say,
+    Command, CommandLine, Counted, ProgressLine, Remarks, advise, read_passwords, read_words, say,
 };
 use sqlite::{Alter, Connection};
 use std::alloc::Global;
@@ -130,7 +130,7 @@ fn on_file<T: Threads + Sync>(
         Order::Import { .. } => line.remarks,
         _ => Remarks::Hidden,
     };
-    let counted = Counted::new(input, Progress::new(host, remarks));
+    let counted = Counted::new(input, ProgressLine::new(host, remarks));
     let (conn, status) = obey(tools, conn, order, counted, host.stdout(), host.stderr());
     if status == Status::Done {
         advise(host, order, lines);
