@@ -5,7 +5,7 @@
 //! after it the log from its start to its end, is the database at one moment, unless the log began
 //! again meanwhile.
 
-use crate::draft::Draft;
+use crate::draft::DraftFile;
 use crate::files::OWNER_ALONE;
 use crate::log::{LOG_HEADER, fills};
 use crate::sidecar::{LOG, if_there, sidecar};
@@ -45,7 +45,7 @@ struct Stamp {
 pub(crate) fn take_snapshot(
     rt: &HostRuntime,
     path: &str,
-    draft: &Draft<'_>,
+    draft: &DraftFile<'_>,
     progress: &mut ProgressLine<'_>,
 ) -> Result<(), FileFault> {
     for _ in 0..TRIES {
@@ -79,7 +79,7 @@ fn stamp_of(rt: &HostRuntime, path: &str) -> io::Result<Stamp> {
 fn copy_both(
     rt: &HostRuntime,
     path: &str,
-    draft: &Draft<'_>,
+    draft: &DraftFile<'_>,
     progress: &mut ProgressLine<'_>,
 ) -> io::Result<()> {
     draft.file().set_len(0)?;
