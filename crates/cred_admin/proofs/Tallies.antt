@@ -2,7 +2,7 @@
 use Rattle.std.proofs.Common.{Bool, true, false, cond, ◌≡◌, ℕ, ◌+◌, ◌≤◌, ◌<◌, ◌⊎◌, inl, inr, refl, List, [], ◌∷◌, Result, Err, sym, ap, ◌∙◌, arith}
 use Rattle.std.specs.Cmp.Lexicographic.{nat_list_cmp_total}
 use Rattle.cred_book.specs.Accounts.{Accounts, register_capacity}
-use Rattle.cred_admin.specs.{Import.Comes, Import.Tally, Import.said_of, Import.tally_from, Import.with_account, Import.with_bad, Import.with_entry, Import.with_line, declared.entry.Entry.Entry, declared.entry.LineFault.LineFault, declared.entry.Said.Said, declared.import.Existing.Existing}
+use Rattle.cred_admin.specs.{Import.Comes, Import.Tally, Import.said_of, Import.tally_from, Import.with_account, Import.with_bad, Import.with_entry, Import.with_line, declared.entry.LineAccount.LineAccount, declared.entry.LineFault.LineFault, declared.entry.Said.Said, declared.import.Existing.Existing}
 use Rattle.cred_admin.specs.{declared.import.ImportFault.ImportFault, declared.import.Rules.Rules}
 use Rattle.cred_admin.proofs.Imported.{by_entry, by_line}
 use Rattle.std.specs.FinMap as map
@@ -30,7 +30,7 @@ at_least : (b : Bool) (n m : ℕ) → m ≡ cond b n (n + 1) → n ≤ m
 at_least true n m is = omega (arith, is)
 at_least false n m is = omega (arith, is)
 
-grows_account : (t : Tally) (e : Entry) → Grows t (with_account t e)
+grows_account : (t : Tally) (e : LineAccount) → Grows t (with_account t e)
 grows_account t e =
     record { more = at_least (map.contains_key t.accounts e.name) _ _ (map.len-insert nat_list_cmp_total t.accounts e.name e.stored); kept = omega arith }
 
@@ -49,7 +49,7 @@ tally_keeps rules book t n (line ∷ lines) = omega (arith, tally_keeps rules bo
 -- ---- too many accounts
 
 -- the account of a line is one too many
-pub one_too_many : (how : Existing) (book : Accounts) (t : Tally) (n room : ℕ) (e : Entry) → map.contains_key book e.name ≡ false → map.contains_key t.accounts e.name ≡ false → room ≤ map.len t.accounts
+pub one_too_many : (how : Existing) (book : Accounts) (t : Tally) (n room : ℕ) (e : LineAccount) → map.contains_key book e.name ≡ false → map.contains_key t.accounts e.name ≡ false → room ≤ map.len t.accounts
     → room < map.len (with_entry how book t n e).accounts
 one_too_many how book t n room e new_there new_here full =
     rw (new_there, new_here) (omega (arith, full, rw new_here at (map.len-insert nat_list_cmp_total t.accounts e.name e.stored)))

@@ -7,7 +7,7 @@ use Rattle.cred_book.specs.{Accounts.Accounts, Accounts.register_capacity, Error
 use Rattle.cred_book.specs.{Names.made_name, declared.error.BookError.BookError}
 use Rattle.cred_cli.specs.{Costs.exceeds, declared.costs.CostBounds.CostBounds}
 use Rattle.cred_file.specs.{Cells.AllMarks, Cells.mark_at, Cells.mark_of, Cells.marked, Cells.rest_of, Cells.unmarked, declared.mark.Mark.Mark}
-use Rattle.cred_admin.specs.{declared.entry.Entry.Entry, declared.entry.LineFault.LineFault, declared.entry.Said.Said, declared.import.Rules.Rules}
+use Rattle.cred_admin.specs.{declared.entry.LineAccount.LineAccount, declared.entry.LineFault.LineFault, declared.entry.Said.Said, declared.import.Rules.Rules}
 use Rattle.cred_admin.specs.declared.entry.LineFault.TheVariants.{Line, Text, Book, Costly, Locked as IsLocked}
 use Rattle.cred_admin.specs.declared.entry.Said.TheVariants.{Nothing, Account}
 use Rattle.cred_admin.specs.{declared.import.BadLine.BadLine, declared.import.Existing.Existing}
@@ -62,7 +62,7 @@ abbrev pub stored_at : List ℕ → Result (Option RecordValue) LineFault
 stored_at [] = Ok None
 stored_at (c ∷ cs) = stored_as (read_record (record_part (c ∷ cs)))
 
-abbrev pub entry : List ℕ → Option RecordValue → Mark → Entry
+abbrev pub entry : List ℕ → Option RecordValue → Mark → LineAccount
 entry name stored mark = record { name = name; stored = stored; mark = mark }
 
 abbrev pub said_with : List ℕ → Mark → Result (Option RecordValue) LineFault
@@ -158,25 +158,25 @@ with_bad t n why = record t { bad = t.bad ++ record { number = n; why = why } �
 abbrev pub with_kept : Tally → Tally
 with_kept t = record t { kept = t.kept + 1 }
 
-abbrev pub with_mark : Tally → Entry → Tally
+abbrev pub with_mark : Tally → LineAccount → Tally
 with_mark t e = record t { marks = marked t.marks e.name e.mark }
 
-abbrev pub with_account : Tally → Entry → Tally
+abbrev pub with_account : Tally → LineAccount → Tally
 with_account t e =
     with_mark (record t { accounts = map.insert t.accounts e.name e.stored }) e
 
-abbrev pub with_change : Tally → Entry → Tally
+abbrev pub with_change : Tally → LineAccount → Tally
 with_change t e = with_mark (record t { changed = map.insert t.changed e.name e.stored }) e
 
 -- a line whose account is in the book; it may be changed once
-abbrev pub with_existing : Existing → Tally → ℕ → Entry → Tally
+abbrev pub with_existing : Existing → Tally → ℕ → LineAccount → Tally
 with_existing Refused t n e = with_bad t n (Book error.Exists)
 with_existing Kept t n e = with_kept t
 with_existing Updated t n e =
     if map.contains_key t.changed e.name then with_bad t n (Book error.Exists) else with_change t e
 
 -- the account of a line is new in the book and among the lines, or not
-abbrev pub with_entry : Existing → Accounts → Tally → ℕ → Entry → Tally
+abbrev pub with_entry : Existing → Accounts → Tally → ℕ → LineAccount → Tally
 with_entry how book t n e =
     if map.contains_key book e.name then with_existing how t n e
     else if map.contains_key t.accounts e.name then with_bad t n (Book error.Exists)
@@ -227,22 +227,23 @@ Comes next now (Err _) = ⊥
 -- ---- what it comes to, in the words of who wrote the lines
 
 -- the account of a good line
-abbrev pub entry_with : Rules → Result Said LineFault → Option Entry
+abbrev pub entry_with : Rules → Result Said LineFault → Option LineAccount
 entry_with rules (Ok Nothing) = None
 entry_with rules (Ok (Account e)) = if is_costly rules.most e.stored then None else Some e
 entry_with rules (Err why) = None
 
-abbrev pub entry_of : Rules → List ℕ → Option Entry
+abbrev pub entry_of : Rules → List ℕ → Option LineAccount
 entry_of rules line = entry_with rules (said_of rules.locked line)
 
 -- none of the good lines is of this name
 abbrev pub HasNone : Rules → List ℕ → List (List ℕ) → Type 0
 HasNone rules name [] = ⊤
 HasNone rules name (line ∷ lines) =
-    ((e : Entry) → entry_of rules line ≡ Some e → name ≡ e.name → ⊥) × HasNone rules name lines
+    ((e : LineAccount) → entry_of rules line ≡ Some e → name ≡ e.name → ⊥)
+    × HasNone rules name lines
 
 -- a good line of a text, the first one of its name
-pub record IsFirst (rules : Rules) (text : List ℕ) (e : Entry) : Type 0 where
+pub record IsFirst (rules : Rules) (text : List ℕ) (e : LineAccount) : Type 0 where
   pub front : List (List ℕ)
   pub line : List ℕ
   pub rest : List (List ℕ)

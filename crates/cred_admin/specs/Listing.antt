@@ -5,8 +5,8 @@ use Rattle.cred_phc.specs.{Values.RecordValue, Text.record_text, Text.scheme_tex
 use Rattle.cred_file.specs.{Cells.mark_text, declared.mark.Mark.Mark}
 use Rattle.cred_admin.specs.Marked.{MarkedBook}
 use Rattle.cred_book.specs.declared.reply.Reply.TheVariants as reply
-use Rattle.cred_admin.specs.declared.listing.Line.{Line}
-use Rattle.cred_admin.specs.declared.listing.Line.TheVariants as line
+use Rattle.cred_admin.specs.declared.listing.LineForm.{LineForm}
+use Rattle.cred_admin.specs.declared.listing.LineForm.TheVariants as line
 use Rattle.cred_admin.specs.{declared.detail.Detail.Detail, declared.detail.Detail.TheVariants.Costs, declared.detail.Detail.TheVariants.Record, declared.fault.Fault.Fault}
 use Rattle.cred_admin.specs.declared.fault.Fault.TheVariants as fault
 use Rattle.cred_admin.specs.{declared.status.Status.Status, declared.status.Status.TheVariants.Done, declared.status.Status.TheVariants.No, Statuses.status_of}
@@ -61,12 +61,12 @@ json_line detail m e = codes "{\"name\":\"" ++ e.0 ++ codes "\",\"" ++ detail_wo
 -- ---- all of them
 
 -- what a list writes of each, with its mark
-abbrev pub line_text : Line → Mark → Entry → List ℕ
+abbrev pub line_text : LineForm → Mark → Entry → List ℕ
 line_text line.Name m e = name_line e
 line_text (line.Passwd detail) m e = detail_line detail m e
 line_text (line.Json detail) m e = json_line detail m e
 
-abbrev pub marked_line : Line → MarkedBook → Entry → List ℕ
+abbrev pub marked_line : LineForm → MarkedBook → Entry → List ℕ
 marked_line line book e = line_text line (book.marks e.0) e
 
 -- ---- one account

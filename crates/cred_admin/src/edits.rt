@@ -11,7 +11,7 @@ use crate::detail::Detail;
 use crate::edit_reply::{EditReply, edit_line, edit_status};
 use crate::fault::Fault;
 use crate::host::Host;
-use crate::listing::{Line, line_of};
+use crate::listing::{LineForm, line_of};
 use crate::printing::{tell, write_whole};
 use crate::status::Status;
 use cred_book::{BookError, Name};
@@ -229,7 +229,7 @@ pub fn disable_shown<K: Host, W: Write>(
     };
     let line = line_of(
         alloc,
-        Line::Passwd(Detail::Record),
+        LineForm::Passwd(Detail::Record),
         name,
         keeper.mark_of(name),
         Some(stored),

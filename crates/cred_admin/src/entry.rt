@@ -65,12 +65,12 @@ pub(crate) enum Said {
     /// Nothing: the line is empty, or a remark.
     Nothing,
     /// An account.
-    Account(Entry),
+    Account(LineAccount),
 }
 
 /// An account of a line, with its record or none, and its mark.
 #[derive(Clone, Copy, Debug, PartialEq, Eq)]
-pub(crate) struct Entry {
+pub(crate) struct LineAccount {
     pub(crate) name: Name,
     pub(crate) stored: Option<Record>,
     pub(crate) mark: Mark,
@@ -120,7 +120,7 @@ fn said_locked(
     ensures { result ≡ said_locked locked name barred text.now }
 {
     match locked {
-        LockedRecords::Disabled => Ok(Said::Account(Entry {
+        LockedRecords::Disabled => Ok(Said::Account(LineAccount {
             name,
             stored: None,
             mark: Mark::none(),
@@ -137,7 +137,7 @@ fn said_with(name: Name, mark: Mark, text: &[u8]) -> Result<Said, LineFault>
     ensures { result ≡ said_with name mark (stored_at text.now) }
 {
     let stored = stored_at(text)?;
-    Ok(Said::Account(Entry { name, stored, mark }))
+    Ok(Said::Account(LineAccount { name, stored, mark }))
 }
 
 /// The mark that stands before a record, and the text behind it.

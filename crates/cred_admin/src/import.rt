@@ -7,7 +7,7 @@ ghost use Rattle.cred_cli.specs.Watched.{Basis, failed_of, left_on};
 ghost use Rattle.cred_admin.specs.Import.{Comes, GatherFails, is_costly, nothing_yet, said_of, tally, tally_of, with_bad, with_entry, with_existing, with_line, with_mark};
 ghost use Rattle.cred_admin.specs.{Seen.FitsSince, declared.import.ImportFault.TheVariants.Memory as OutOfMemory};
 
-use crate::entry::{Entry, LineFault, Said, said_of};
+use crate::entry::{LineAccount, LineFault, Said, said_of};
 use cred_book::{BookError, Register};
 use cred_cli::{CostBounds, Watched, exceeds};
 use cred_file::Marks;
@@ -216,7 +216,7 @@ impl Gathered {
         book: &Register,
         how: Existing,
         number: u64,
-        entry: Entry,
+        entry: LineAccount,
     ) -> Result<(), ImportFault>
         requires { self.old.kept < number }
         ensures { Comes (with_entry how book.now (tally_of self.old) number entry)
@@ -234,7 +234,12 @@ impl Gathered {
     }
 
     /// Adds a line whose account exists already, as `how` says.
-    fn take_existing(&mut self, how: Existing, number: u64, entry: Entry) -> Result<(), ImportFault>
+    fn take_existing(
+        &mut self,
+        how: Existing,
+        number: u64,
+        entry: LineAccount,
+    ) -> Result<(), ImportFault>
         requires { self.old.kept < number }
         ensures { Comes (with_existing how (tally_of self.old) number entry)
             (tally_of self.new) result }
@@ -254,7 +259,7 @@ impl Gathered {
     }
 
     /// Adds the mark of an account.
-    fn mark(&mut self, entry: Entry) -> Result<(), ImportFault>
+    fn mark(&mut self, entry: LineAccount) -> Result<(), ImportFault>
         ensures { Comes (with_mark (tally_of self.old) entry) (tally_of self.new) result }
     {
         match self.marks.put(&entry.name, entry.mark) {

@@ -5,19 +5,19 @@ ghost use Rattle.std.specs.FinMap as map;
 ghost use Rattle.cred_book.specs.Accounts.{Accounts};
 ghost use Rattle.cred_file.specs.Cells.{unmarked};
 ghost use Rattle.cred_admin.specs.Import.{HasNone, IsFirst, import_lines, tally};
-ghost use Rattle.cred_admin.specs.{declared.entry.Entry.Entry, declared.import.Existing.TheVariants.Updated, declared.import.Rules.Rules};
+ghost use Rattle.cred_admin.specs.{declared.entry.LineAccount.LineAccount, declared.import.Existing.TheVariants.Updated, declared.import.Rules.Rules};
 
 /// The law that a name gets the record and the mark of its first good line: among the new accounts,
 /// if the name isn't in the book; among the changed ones, if it is, and such accounts are updated.
 /// No other name is new, changed or marked.
 pub fn imports_are_of_their_lines()
-    ensures added { (rules : Rules) (book : Accounts) (text : List ℕ) (e : Entry)
+    ensures added { (rules : Rules) (book : Accounts) (text : List ℕ) (e : LineAccount)
         → IsFirst rules text e → map.contains_key book e.name ≡ false
         → map.get (tally rules book text).accounts e.name ≡ Some e.stored }
-    ensures changed { (rules : Rules) (book : Accounts) (text : List ℕ) (e : Entry)
+    ensures changed { (rules : Rules) (book : Accounts) (text : List ℕ) (e : LineAccount)
         → IsFirst rules text e → map.contains_key book e.name ≡ true → rules.existing ≡ Updated
         → map.get (tally rules book text).changed e.name ≡ Some e.stored }
-    ensures marks { (rules : Rules) (book : Accounts) (text : List ℕ) (e : Entry)
+    ensures marks { (rules : Rules) (book : Accounts) (text : List ℕ) (e : LineAccount)
         → IsFirst rules text e
         → (map.contains_key book e.name ≡ false) ⊎ (rules.existing ≡ Updated)
         → (tally rules book text).marks e.name ≡ e.mark }

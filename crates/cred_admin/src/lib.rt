@@ -31,7 +31,7 @@ pub use fault::Fault;
 pub use host::Host;
 pub use import::{BadLine, Existing, Gathered, ImportFault, LockedRecords, Rules, gather};
 pub use laws::imports_are_of_their_lines;
-pub use listing::{Line, a_piece_has_64_kib, line_of, list};
+pub use listing::{LineForm, a_piece_has_64_kib, line_of, list};
 pub use operation::{Operation, put_in_place};
 pub use password::{EmptyPassword, NewPassword, Passwords};
 pub use printing::tell;

@@ -30,7 +30,7 @@ pub fn a_piece_has_64_kib()
 
 /// The form of an account's line.
 #[derive(Clone, Copy, Debug, PartialEq, Eq)]
-pub enum Line {
+pub enum LineForm {
     /// The account's name.
     Name,
     /// A line of a passwd-file: `NAME:` and this detail of its record, if it has one. Before the
@@ -42,13 +42,13 @@ pub enum Line {
 }
 
 /// Writes a line of each account, in the order of their names, with about 64 KiB in memory at a
-/// time, however many there are. `import` reads those of `Line::Passwd(Detail::Record)`.
+/// time, however many there are. `import` reads those of `LineForm::Passwd(Detail::Record)`.
 ///
 /// Errors: `Memory`, and some first lines are written, perhaps none and never all; `Write`.
 pub fn list<K: Host, W: Write>(
     alloc: Global,
     keeper: &K,
-    line: Line,
+    line: LineForm,
     writer: &mut Watched<W>,
 ) -> Result<Status, Fault>
     ensures { (basis : Basis) → Prints (marked_line line (K.book keeper.now))
@@ -91,7 +91,7 @@ fn write_piece<W: Write>(writer: &mut Watched<W>, text: &mut Vec<u8>) -> Result<
 /// The line of one account.
 pub fn line_of(
     alloc: Global,
-    line: Line,
+    line: LineForm,
     name: &Name,
     mark: Mark,
     stored: Option<Record>,
@@ -106,7 +106,7 @@ pub fn line_of(
 fn push_line(
     alloc: Global,
     text: &mut Vec<u8>,
-    line: Line,
+    line: LineForm,
     name: &Name,
     mark: Mark,
     stored: Option<Record>,
@@ -115,12 +115,12 @@ fn push_line(
         (text.new.items ≡ text.old.items ++ line_text line mark (name.now, stored)) }
 {
     match line {
-        Line::Name => {
+        LineForm::Name => {
             text.extend_from_slice(name.bytes())?;
             text.push(b'\n')?;
             Ok(())
         }
-        Line::Passwd(detail) => {
+        LineForm::Passwd(detail) => {
             text.extend_from_slice(name.bytes())?;
             text.push(b':')?;
             text.extend_from_slice(mark_text(mark))?;
@@ -131,7 +131,7 @@ fn push_line(
             text.push(b'\n')?;
             Ok(())
         }
-        Line::Json(detail) => {
+        LineForm::Json(detail) => {
             text.extend_from_slice(b"{\"name\":\"")?;
             text.extend_from_slice(name.bytes())?;
             text.extend_from_slice(b"\",\"")?;

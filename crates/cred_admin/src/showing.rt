@@ -8,7 +8,7 @@ ghost use Rattle.cred_admin.specs.Listing.{Tells, json_at, shown_at};
 use crate::detail::{Detail, detail_text};
 use crate::fault::Fault;
 use crate::host::Host;
-use crate::listing::{Line, line_of, mark_text};
+use crate::listing::{LineForm, line_of, mark_text};
 use crate::printing::tell;
 use crate::status::Status;
 use cred_book::{Name, Reply};
@@ -64,13 +64,19 @@ pub fn show_json<K: Host, W: Write>(
     match keeper.accounts().show(name) {
         Err(_) => tell(b"null\n", Status::No(None), writer),
         Ok(None) => {
-            let text = line_of(alloc, Line::Json(detail), name, keeper.mark_of(name), None)?;
+            let text = line_of(
+                alloc,
+                LineForm::Json(detail),
+                name,
+                keeper.mark_of(name),
+                None,
+            )?;
             tell(&text, Status::No(None), writer)
         }
         Ok(Some(stored)) => {
             let text = line_of(
                 alloc,
-                Line::Json(detail),
+                LineForm::Json(detail),
                 name,
                 keeper.mark_of(name),
                 Some(stored),

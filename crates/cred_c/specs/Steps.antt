@@ -8,14 +8,14 @@ use Rattle.cred_book.specs.{Works.makes_change, declared.reply.Reply.Reply}
 use Rattle.cred_book.specs.declared.reply.Reply.TheVariants as reply
 use Rattle.cred_book.specs.declared.request.Request.{Request}
 use Rattle.cred_book.specs.declared.request.Request.TheVariants as request
-use Rattle.cred_c.specs.{Answers.IsWritten, Answers.Output, declared.operation.Operation.Operation}
-use Rattle.cred_c.specs.declared.operation.Operation.TheVariants.{Enrol, Verify, Change, Upgrade, Remove}
+use Rattle.cred_c.specs.{Answers.IsWritten, Answers.Output, declared.operation.RecordOperation.RecordOperation}
+use Rattle.cred_c.specs.declared.operation.RecordOperation.TheVariants.{Enrol, Verify, Change, Upgrade, Remove}
 use Rattle.cred_c.specs.{declared.operation.StepFault.StepFault, declared.operation.StepInputs.StepInputs}
 use Rattle.cred_c.specs.declared.operation.StepFault.TheVariants.{Copy, Long, Setting}
 
 -- ---- what is asked
 
-abbrev pub operation_number : Operation → ℕ
+abbrev pub operation_number : RecordOperation → ℕ
 operation_number Enrol = 1
 operation_number Verify = 2
 operation_number Change = 3
@@ -27,7 +27,7 @@ IsOperation number =
     (number ≡ 1) ⊎ (number ≡ 2) ⊎ (number ≡ 3) ⊎ (number ≡ 4) ⊎ (number ≡ 5)
 
 -- the request that an operation and a step's inputs ask for; its name may be any
-abbrev pub AsksFor : Operation → StepInputs → Request → Type 0
+abbrev pub AsksFor : RecordOperation → StepInputs → Request → Type 0
 AsksFor operation i (request.Enrol name pw setting) =
     (operation ≡ Enrol) × (pw ≡ i.pw.now)
     × IsSetting setting × IsSettingText i.setting.now setting
@@ -66,7 +66,7 @@ abbrev pub new_setting_fault : List ℕ → Option StepFault
 new_setting_fault text = option_map Setting (setting_fault text)
 
 -- only what the operation reads is judged
-abbrev pub request_fault : Operation → StepInputs → Option StepFault
+abbrev pub request_fault : RecordOperation → StepInputs → Option StepFault
 request_fault Enrol i = first (password_fault i.pw.now) (new_setting_fault i.setting.now)
 request_fault Verify i = password_fault i.pw.now
 request_fault Change i =
@@ -75,7 +75,7 @@ request_fault Change i =
 request_fault Upgrade i = first (password_fault i.pw.now) (new_setting_fault i.setting.now)
 request_fault Remove i = password_fault i.pw.now
 
-abbrev pub step_fault : Operation → StepInputs → Option StepFault
+abbrev pub step_fault : RecordOperation → StepInputs → Option StepFault
 step_fault operation i = first (copy_fault i.copy.now) (request_fault operation i)
 
 -- ---- what is answered

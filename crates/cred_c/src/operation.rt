@@ -8,7 +8,7 @@ use cred_phc::{Password, PhcError, Record, Setting, parse_record, parse_setting}
 
 /// An operation on the record of one account.
 #[derive(Clone, Copy, PartialEq, Eq)]
-pub enum Operation {
+pub enum RecordOperation {
     Enrol,
     Verify,
     Change,
@@ -56,17 +56,17 @@ impl StepFault {
 }
 
 /// The operation of a number: 1 to 5.
-pub(crate) fn operation_of(number: u32) -> Option<Operation>
-    ensures found { (o : Operation) → number ≡ operation_number o → result ≡ Some o }
+pub(crate) fn operation_of(number: u32) -> Option<RecordOperation>
+    ensures found { (o : RecordOperation) → number ≡ operation_number o → result ≡ Some o }
     ensures only { IfSome result (λ o. number ≡ operation_number o) }
     ensures none { (result ≡ None) ↔ (IsOperation number → ⊥) }
 {
     match number {
-        1 => Some(Operation::Enrol),
-        2 => Some(Operation::Verify),
-        3 => Some(Operation::Change),
-        4 => Some(Operation::Upgrade),
-        5 => Some(Operation::Remove),
+        1 => Some(RecordOperation::Enrol),
+        2 => Some(RecordOperation::Verify),
+        3 => Some(RecordOperation::Change),
+        4 => Some(RecordOperation::Upgrade),
+        5 => Some(RecordOperation::Remove),
         _ => None,
     }
 }
@@ -88,7 +88,7 @@ pub(crate) fn copy_of(text: &[u8]) -> Result<Option<Record>, StepFault>
 
 /// The request of a step, of an account whose name plays no part.
 pub(crate) fn request_of(
-    operation: Operation,
+    operation: RecordOperation,
     inputs: &StepInputs<'_>,
 ) -> Result<Request, StepFault>
     ensures asked { IfOk result (AsksFor operation inputs.now) }
@@ -98,17 +98,17 @@ pub(crate) fn request_of(
     let name = any_name();
     let pw = password_of(inputs.pw)?;
     match operation {
-        Operation::Verify => Ok(Request::Verify { name, pw }),
-        Operation::Remove => Ok(Request::Remove { name, pw }),
-        Operation::Enrol => {
+        RecordOperation::Verify => Ok(Request::Verify { name, pw }),
+        RecordOperation::Remove => Ok(Request::Remove { name, pw }),
+        RecordOperation::Enrol => {
             let setting = setting_of(inputs.setting)?;
             Ok(Request::Enrol { name, pw, setting })
         }
-        Operation::Upgrade => {
+        RecordOperation::Upgrade => {
             let setting = setting_of(inputs.setting)?;
             Ok(Request::Upgrade { name, pw, setting })
         }
-        Operation::Change => {
+        RecordOperation::Change => {
             let new_pw = password_of(inputs.new_pw)?;
             let setting = setting_of(inputs.setting)?;
             Ok(Request::Change {

@@ -4,11 +4,11 @@ ghost use Rattle.std.specs.Prelude.{◌≡◌, ◌↔◌, IfErr, IfOk, None, OnO
 ghost use Rattle.cred_book.specs.{Updates.outcome_at, declared.request.Request.Request};
 ghost use Rattle.cred_c.specs.Answers.{IsWritten, output};
 ghost use Rattle.cred_c.specs.Steps.{AsksFor, IsCopy, IsOperation, IsStep, fault_number, operation_number, reply_number, step_fault, text_after};
-ghost use Rattle.cred_c.specs.{declared.operation.Operation.Operation, declared.operation.StepFault.StepFault};
+ghost use Rattle.cred_c.specs.{declared.operation.RecordOperation.RecordOperation, declared.operation.StepFault.StepFault};
 ghost use Rattle.cred_phc.specs.Values.{RecordValue};
 
 use crate::numbers::{DONE, NO_OPERATION};
-use crate::operation::{Operation, StepFault, StepInputs, copy_of, operation_of, request_of};
+use crate::operation::{RecordOperation, StepFault, StepInputs, copy_of, operation_of, request_of};
 use crate::texts::put_record;
 use cred_book::{Reply, Ticket, Worked};
 use cred_phc::{PhcError, Record, Scratch};
@@ -32,9 +32,10 @@ pub extern "C" fn cred_step(
     len: &mut usize,
 ) -> u8
     ensures operation { (result ≡ 23) ↔ (IsOperation inputs.now.operation → ⊥) }
-    ensures fault { (o : Operation) (e : StepFault) → inputs.now.operation ≡ operation_number o
+    ensures fault { (o : RecordOperation) (e : StepFault)
+        → inputs.now.operation ≡ operation_number o
         → step_fault o inputs.now ≡ Some e → result ≡ fault_number e }
-    ensures step { (o : Operation) → inputs.now.operation ≡ operation_number o
+    ensures step { (o : RecordOperation) → inputs.now.operation ≡ operation_number o
         → step_fault o inputs.now ≡ None
         → (request : Request) × (stored : Option RecordValue)
         × AsksFor o inputs.now request × IsCopy inputs.now.copy.now stored
@@ -58,7 +59,7 @@ pub extern "C" fn cred_step(
 }
 
 /// The request of a step, with the copy.
-fn begun(operation: Operation, inputs: &StepInputs<'_>) -> Result<Ticket, StepFault>
+fn begun(operation: RecordOperation, inputs: &StepInputs<'_>) -> Result<Ticket, StepFault>
     ensures asked { IfOk result (λ task. AsksFor operation inputs.now task.0) }
     ensures copy { IfOk result (λ task. IsCopy inputs.now.copy.now task.1) }
     ensures fault { IfErr result (λ fault. step_fault operation inputs.now ≡ Some fault) }

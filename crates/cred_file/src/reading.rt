@@ -21,7 +21,7 @@ use std::alloc::Global;
 
 /// The content of a row of the table.
 #[derive(Clone, Copy)]
-struct Entry {
+struct RowContent {
     id: i64,
     name: Name,
     stored: Option<Record>,
@@ -91,7 +91,7 @@ fn is_past(last: Option<i64>, id: i64) -> bool
     }
 }
 
-fn read_entry(row: &Row) -> Result<Entry, OpenFault>
+fn read_entry(row: &Row) -> Result<RowContent, OpenFault>
     ensures says { IfOk result (λ e. Says row.now
         (record { id = e.id; name = e.name; stored = cell e.stored e.mark })) }
     ensures unread { (book : Cells) (last : Option ℤ)
@@ -104,7 +104,7 @@ fn read_entry(row: &Row) -> Result<Entry, OpenFault>
         return Err(OpenFault::NoName(id));
     };
     match read_stored(value_at(row, 2)) {
-        Ok((stored, mark)) => Ok(Entry {
+        Ok((stored, mark)) => Ok(RowContent {
             id,
             name,
             stored,

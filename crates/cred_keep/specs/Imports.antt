@@ -7,8 +7,8 @@ use Rattle.cred_admin.specs.declared.import.ImportFault.TheVariants as fault
 use Rattle.cred_cli.specs.Watched.{Reading}
 use Rattle.cred_file.specs.{Cells.AllMarks, Cells.renewed_with, Edits.taken_in, Transactions.marks_with}
 use Rattle.cred_admin.specs.Marked.{MarkedBook, marked_book}
-use Rattle.cred_keep.specs.{declared.import.BadLines.TheVariants.Refused, declared.import.Counts.Counts}
-use Rattle.cred_keep.specs.declared.import.Counts.TheVariants.{Hidden, Plain, Json}
+use Rattle.cred_keep.specs.{declared.import.BadLines.TheVariants.Refused, declared.import.CountsForm.CountsForm}
+use Rattle.cred_keep.specs.declared.import.CountsForm.TheVariants.{Hidden, Plain, Json}
 use Rattle.cred_keep.specs.{declared.import.Effect.Effect, declared.import.Effect.TheVariants.Made, declared.import.Effect.TheVariants.Foretold}
 use Rattle.cred_keep.specs.{declared.import.Imported.Imported, declared.import.Importing.Importing}
 
@@ -39,7 +39,7 @@ Takes effect old new added changed given (Err (fault.Lines bad)) = ⊥
 
 -- how many accounts are new, how many have another record, and how many lines name one that is
 -- there and stays, or aren't good
-abbrev pub counts_text : Counts → ℕ → ℕ → ℕ → ℕ → List ℕ
+abbrev pub counts_text : CountsForm → ℕ → ℕ → ℕ → ℕ → List ℕ
 counts_text Hidden added changed kept bad = []
 counts_text Plain added changed kept bad = decimal added ++ codes " added, " ++ decimal changed
     ++ codes " updated, " ++ decimal kept ++ codes " there already, " ++ decimal bad

@@ -12,38 +12,38 @@ use Rattle.sqlite.specs.{Held.Held, Held.state, State.HasCleanDisk, State.Surviv
 use Rattle.sqlite.specs.declared.error.ErrorCode.{ErrorCode}
 use Rattle.cred_keep.specs.{Imports.Imports, declared.import.Imported.Imported, declared.order.Order.Order}
 use Rattle.cred_keep.specs.declared.order.Order.TheVariants.{Account, Edit, DisableShown, Show, ShowJson, List as Lines, Import}
-use Rattle.cred_keep.specs.{declared.outcome.Ending.Ending, declared.outcome.Failure.Failure}
+use Rattle.cred_keep.specs.{declared.outcome.OrderResult.OrderResult, declared.outcome.Failure.Failure}
 use Rattle.std.specs.FinMap as map
 use Rattle.cred_admin.specs.declared.fault.Fault.TheVariants as fault
 use Rattle.cred_admin.specs.declared.import.ImportFault.TheVariants as import
 use Rattle.cred_file.specs.declared.fault.OpenFault.TheVariants as open_fault
 use Rattle.sqlite.specs.declared.error.Error.TheVariants as sqlite
 use Rattle.sqlite.specs.declared.error.ErrorCode.TheVariants as code
-use Rattle.cred_keep.specs.declared.outcome.Ending.TheVariants as ending
+use Rattle.cred_keep.specs.declared.outcome.OrderResult.TheVariants as order_result
 use Rattle.cred_keep.specs.declared.outcome.Failure.TheVariants as failure
 
 -- ---- how it ends
 
-abbrev pub command_end : Result Status Fault → Result Ending Failure
-command_end (Ok status) = Ok (ending.Answered status)
+abbrev pub command_end : Result Status Fault → Result OrderResult Failure
+command_end (Ok status) = Ok (order_result.Answered status)
 command_end (Err e) = Err (failure.Command e)
 
 -- the counts of an import are written; one that failed writes nothing
-abbrev pub EndsImport : Result Imported ImportFault → Writing → Result Ending Failure → Type 0
+abbrev pub EndsImport : Result Imported ImportFault → Writing → Result OrderResult Failure → Type 0
 EndsImport (Ok made) w (Ok e) =
-    Appends w.before w.now made.text.items × (e ≡ ending.Imported made)
+    Appends w.before w.now made.text.items × (e ≡ order_result.Imported made)
 EndsImport (Ok made) w (Err e) = (w.failed ≡ true)
     × FrontWritten w.before w.now made.text.items × (e ≡ failure.Command fault.Write)
 EndsImport (Err why) w ended = Keeps w.before w.now × (ended ≡ Err (failure.Import why))
 
 -- once a change is lost, it is the database that failed
-abbrev pub unless_lost : Option Lost → Result Ending Failure → Result Ending Failure
+abbrev pub unless_lost : Option Lost → Result OrderResult Failure → Result OrderResult Failure
 unless_lost None ended = ended
 unless_lost (Some l) ended = Err failure.Database
 
-abbrev pub status_of_ending : Ending → Status
-status_of_ending (ending.Answered status) = status
-status_of_ending (ending.Imported made) = Done
+abbrev pub status_of_order_result : OrderResult → Status
+status_of_order_result (order_result.Answered status) = status
+status_of_order_result (order_result.Imported made) = Done
 
 abbrev pub status_of_import : ImportFault → Status
 status_of_import import.Read = Io
@@ -57,8 +57,8 @@ status_of_failure (failure.Import e) = status_of_import e
 status_of_failure failure.Database = Database
 
 -- the exit status
-abbrev pub status_of_end : Result Ending Failure → Status
-status_of_end (Ok e) = status_of_ending e
+abbrev pub status_of_end : Result OrderResult Failure → Status
+status_of_end (Ok e) = status_of_order_result e
 status_of_end (Err e) = status_of_failure e
 
 abbrev pub status_of_code : ErrorCode → Status
@@ -78,10 +78,10 @@ status_of_open _ = Database
 -- ---- what it does
 
 -- a command, of which this holds at its end, ends so
-abbrev pub Commands : (Result Status Fault → Type 0) → Result Ending Failure → Type 0
+abbrev pub Commands : (Result Status Fault → Type 0) → Result OrderResult Failure → Type 0
 Commands Holds ended = (r : Result Status Fault) × Holds r × (ended ≡ command_end r)
 
-abbrev pub Performs : Order → Seen → Result Ending Failure → Type 0
+abbrev pub Performs : Order → Seen → Result OrderResult Failure → Type 0
 Performs (Account name operation) s ended =
     Commands (Obeys register_capacity name operation s) ended
 Performs (Edit edit) s ended =
@@ -101,14 +101,14 @@ Performs (Import how) s ended = (r : Result Imported ImportFault)
     × Imports how s.reading s.old s.new r × EndsImport r s.writing ended
 
 -- as it ends for the shell: Ok means that no change is lost
-abbrev pub Ends : Order → Seen → Option Lost → Result Ending Failure → Type 0
+abbrev pub Ends : Order → Seen → Option Lost → Result OrderResult Failure → Type 0
 Ends order s lost ended =
-    (r : Result Ending Failure) × Performs order s r × (ended ≡ unless_lost lost r)
+    (r : Result OrderResult Failure) × Performs order s r × (ended ≡ unless_lost lost r)
 
 -- how an order leaves the book that it is done on: it ends so, and the table stands for the book
 -- until a change is lost
 pub record Leaves {S : Type 0} (g : Ghosts S) (order : Order) (s : Seen) (kept : Kept S)
-    (ended : Result Ending Failure) : Type 0 where
+    (ended : Result OrderResult Failure) : Type 0 where
   pub ends : Ends order s kept.lost ended
   pub keeps : IsKept g kept.conn (cells kept) kept.lost
 
@@ -120,7 +120,7 @@ pub record IsServed {S : Type 0} (g : Ghosts S) (order : Order) (r : Reading) (w
   pub found : HasCleanDisk (state g opened.conn)
       → IsFound (state g old) (state g opened.conn) (cells opened)
   pub kept : Kept S
-  pub ended : Result Ending Failure
+  pub ended : Result OrderResult Failure
   pub leaves : Leaves g order (seen r w (kept_book opened) (kept_book kept)) kept ended
   pub closed : new ≡ kept.conn
   pub told : status ≡ status_of_end ended

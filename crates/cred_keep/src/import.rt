@@ -33,7 +33,7 @@ pub enum Effect {
 
 /// The form of an import's counts.
 #[derive(Clone, Copy, Debug, PartialEq, Eq)]
-pub enum Counts {
+pub enum CountsForm {
     Hidden,
     /// In words, in a line.
     Plain,
@@ -47,7 +47,7 @@ pub struct Importing {
     pub rules: Rules,
     pub bad: BadLines,
     pub effect: Effect,
-    pub counts: Counts,
+    pub counts: CountsForm,
 }
 
 /// The changes that an import made, or would make.
@@ -106,14 +106,20 @@ pub(crate) fn import<S: Alter, R: Read>(
     Ok(made)
 }
 
-fn counts_text(alloc: Global, counts: Counts, made: &Imported) -> Result<String, AllocError>
+fn counts_text(alloc: Global, counts: CountsForm, made: &Imported) -> Result<String, AllocError>
     ensures { IfOk result (λ text. string_bytes text ≡ counts_text counts made.now.added
         made.now.changed made.now.kept (length made.now.bad.items)) }
 {
     match counts {
-        Counts::Hidden => Ok(String::new(alloc)),
-        Counts::Plain => plain_counts(alloc, made.added, made.changed, made.kept, made.bad.len()),
-        Counts::Json => json_counts(alloc, made.added, made.changed, made.kept, made.bad.len()),
+        CountsForm::Hidden => Ok(String::new(alloc)),
+        CountsForm::Plain => plain_counts(
+            alloc,
+            made.added,
+            made.changed,
+            made.kept,
+            made.bad.len(),
+        ),
+        CountsForm::Json => json_counts(alloc, made.added, made.changed, made.kept, made.bad.len()),
     }
 }
 
@@ -125,7 +131,7 @@ fn plain_counts(
     bad: usize,
 ) -> Result<String, AllocError>
     ensures { IfOk result (λ text.
-        string_bytes text ≡ counts_text Counts.Plain added changed kept bad) }
+        string_bytes text ≡ counts_text CountsForm.Plain added changed kept bad) }
 {
     format!(in alloc; "{added} added, {changed} updated, {kept} there already, {bad} bad\n")
 }
@@ -138,7 +144,7 @@ fn json_counts(
     bad: usize,
 ) -> Result<String, AllocError>
     ensures { IfOk result (λ text.
-        string_bytes text ≡ counts_text Counts.Json added changed kept bad) }
+        string_bytes text ≡ counts_text CountsForm.Json added changed kept bad) }
 {
     format!(in alloc;
         "{{\"added\":{added},\"updated\":{changed},\"there\":{kept},\"bad\":{bad}}}\n"

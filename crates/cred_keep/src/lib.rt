@@ -10,7 +10,7 @@ mod outcome;
 mod report;
 
 pub use copy::{CopyFault, copy_book, copy_into, count_accounts};
-pub use import::{BadLines, Counts, Effect, Imported, Importing};
+pub use import::{BadLines, CountsForm, Effect, Imported, Importing};
 pub use order::{Order, serve_in};
-pub use outcome::{Ending, Failure};
+pub use outcome::{Failure, OrderResult};
 pub use report::{NAME_RULE, explain, refuse};

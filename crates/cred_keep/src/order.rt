@@ -6,10 +6,10 @@ ghost use Rattle.cred_admin.specs.{Marked.kept_book, Seen.FitsSince, Seen.seen};
 ghost use Rattle.cred_keep.specs.Orders.{IsRefused, IsServed, Performs, is_unread};
 
 use crate::import::{Importing, import};
-use crate::outcome::{Ending, Failure, command_end, import_end};
+use crate::outcome::{Failure, OrderResult, command_end, import_end};
 use crate::report::{refuse, tell_end};
 use cred_admin::{
-    Detail, Edit, Line, Operation, Status, disable_shown, edit_account, list, show, show_json,
+    Detail, Edit, LineForm, Operation, Status, disable_shown, edit_account, list, show, show_json,
 };
 use cred_book::Name;
 use cred_cli::{Tools, Watched};
@@ -32,7 +32,7 @@ pub enum Order {
     /// Writes the account with this detail of its record in JSON.
     ShowJson { name: Name, detail: Detail },
     /// Writes a line of each account.
-    List { line: Line },
+    List { line: LineForm },
     /// Imports a passwd-file.
     Import { how: Importing },
 }
@@ -84,7 +84,7 @@ fn perform<T: Threads + Sync, S: Alter, R: Read, W: Write>(
     order: &Order,
     reader: &mut Watched<R>,
     writer: &mut Watched<W>,
-) -> Result<Ending, Failure>
+) -> Result<OrderResult, Failure>
     requires new_reader { IsNew reader.old }
     requires new_writer { IsNew writer.old }
     ensures done { (basis : Basis) → FitsSince basis reader.old reader.new

@@ -2,7 +2,7 @@
 
 ghost use Rattle.std.specs.Prelude.{◌≡◌};
 ghost use Rattle.cred_cli.specs.Watched.{Basis, writing_on};
-ghost use Rattle.cred_keep.specs.Orders.{EndsImport, command_end, status_of_ending, status_of_failure};
+ghost use Rattle.cred_keep.specs.Orders.{EndsImport, command_end, status_of_order_result, status_of_failure};
 
 use crate::import::Imported;
 use cred_admin::{Fault, ImportFault, Status, tell};
@@ -11,21 +11,21 @@ use std::io::Write;
 
 /// The result of an order.
 #[derive(Debug, Drop)]
-pub enum Ending {
+pub enum OrderResult {
     /// A command or a list ended with this status.
     Answered(Status),
     /// An import made these changes, or would make them.
     Imported(Imported),
 }
 
-impl Ending {
+impl OrderResult {
     /// The exit status of the result.
     pub fn status(&self) -> Status
-        ensures { result ≡ status_of_ending self.now }
+        ensures { result ≡ status_of_order_result self.now }
     {
         match self {
-            Ending::Answered(status) => *status,
-            Ending::Imported(_) => Status::Done,
+            OrderResult::Answered(status) => *status,
+            OrderResult::Imported(_) => Status::Done,
         }
     }
 }
@@ -57,11 +57,11 @@ impl Failure {
 }
 
 /// Turns the end of a command into that of an order.
-pub(crate) fn command_end(ended: Result<Status, Fault>) -> Result<Ending, Failure>
+pub(crate) fn command_end(ended: Result<Status, Fault>) -> Result<OrderResult, Failure>
     ensures { result ≡ command_end ended }
 {
     match ended {
-        Ok(status) => Ok(Ending::Answered(status)),
+        Ok(status) => Ok(OrderResult::Answered(status)),
         Err(fault) => Err(Failure::Command(fault)),
     }
 }
@@ -70,13 +70,13 @@ pub(crate) fn command_end(ended: Result<Status, Fault>) -> Result<Ending, Failur
 pub(crate) fn import_end<W: Write>(
     ended: Result<Imported, ImportFault>,
     writer: &mut Watched<W>,
-) -> Result<Ending, Failure>
+) -> Result<OrderResult, Failure>
     ensures { (basis : Basis) → EndsImport ended
         (writing_on basis W.contents writer.old writer.new) result }
 {
     match ended {
         Ok(made) => match tell(&made.text, Status::Done, writer) {
-            Ok(_) => Ok(Ending::Imported(made)),
+            Ok(_) => Ok(OrderResult::Imported(made)),
             Err(fault) => Err(Failure::Command(fault)),
         },
         Err(fault) => Err(Failure::Import(fault)),

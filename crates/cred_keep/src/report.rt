@@ -4,7 +4,7 @@ ghost use Rattle.std.specs.Prelude.{◌≡◌, option_map};
 ghost use Rattle.cred_keep.specs.Orders.{status_of_end, status_of_open, unless_lost};
 
 use crate::import::{Effect, Imported};
-use crate::outcome::{Ending, Failure};
+use crate::outcome::{Failure, OrderResult};
 use cred_admin::{BadLine, Fault, Hint, ImportFault, LineFault, Status};
 use cred_book::{BookError, Register};
 use cred_file::{Attempt, Lost, OpenFault};
@@ -23,7 +23,7 @@ pub const NAME_RULE: &str = "a name has 1 to 32 of a-z, 0-9, '.', '_', '-'";
 /// A failure of `faults` changes nothing.
 pub(crate) fn tell_end<F: Write>(
     faults: &mut F,
-    ended: Result<Ending, Failure>,
+    ended: Result<OrderResult, Failure>,
     lost: Option<&Lost>,
 ) -> Status
     ensures { result ≡ status_of_end (unless_lost (option_map (λ l. l.now) lost.entry) ended) }
@@ -33,9 +33,9 @@ pub(crate) fn tell_end<F: Write>(
             explain(faults, &Failure::Database, lost);
             Failure::Database.status()
         }
-        (None, Ok(ending)) => {
-            advise(faults, &ending);
-            ending.status()
+        (None, Ok(order_result)) => {
+            advise(faults, &order_result);
+            order_result.status()
         }
         (None, Err(failure)) => {
             explain(faults, &failure, lost);
@@ -44,17 +44,17 @@ pub(crate) fn tell_end<F: Write>(
     }
 }
 
-/// Writes the remarks on an ending: why a password may be wrong, if the book says no to
-/// it, and the lines that an import left out. A failure of `faults` changes nothing.
-fn advise<F: Write>(faults: &mut F, ending: &Ending) {
-    let _ = match ending {
-        Ending::Answered(Status::No(Some(Hint::CarriageReturn))) => writeln!(
+/// Writes the remarks on the result of an order: why a password may be wrong, if the book says no
+/// to it, and the lines that an import left out. A failure of `faults` changes nothing.
+fn advise<F: Write>(faults: &mut F, order_result: &OrderResult) {
+    let _ = match order_result {
+        OrderResult::Answered(Status::No(Some(Hint::CarriageReturn))) => writeln!(
             faults,
             "credkeep: hint: the password that was read ends in a carriage return, which counts: \
              tr -d '\\r' removes it"
         ),
-        Ending::Answered(_) => Ok(()),
-        Ending::Imported(made) => tell_imported(faults, made),
+        OrderResult::Answered(_) => Ok(()),
+        OrderResult::Imported(made) => tell_imported(faults, made),
     };
 }
 

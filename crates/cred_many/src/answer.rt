@@ -9,7 +9,7 @@ ghost use Rattle.std.specs.FinMap as map;
 
 use crate::ask::QuickAsk;
 use crate::listing::{marks_line, names_line, push_mark_text};
-use cred_admin::{Detail, Edit, EditReply, Host, Line, edit_line, line_of};
+use cred_admin::{Detail, Edit, EditReply, Host, LineForm, edit_line, line_of};
 use cred_book::{BookError, Name};
 use cred_cli::{AnswerLine, Refusal};
 use cred_file::Mark;
@@ -114,7 +114,7 @@ fn disable_with_line<K: Host>(
     let mark = keeper.mark_of(&name);
     let line = line_of(
         alloc,
-        Line::Passwd(Detail::Record),
+        LineForm::Passwd(Detail::Record),
         &name,
         mark,
         Some(stored),

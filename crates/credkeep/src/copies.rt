@@ -3,7 +3,7 @@
 
 ghost use Rattle.std.specs.Prelude.{◌≡◌, false};
 
-use crate::draft::{Draft, OldLog};
+use crate::draft::{DraftFile, OldLog};
 use crate::fault::{BookFault, accept, refuse_file};
 use crate::files::{
     DamagedLog, PAUSE, fold, is_busy, look, look_at, look_at_old, open_database, open_file,
@@ -14,8 +14,8 @@ use crate::sidecar::{len_of, look_at_its_log, real_path, sidecar};
 use crate::snapshot::take_snapshot;
 use cred_admin::Status;
 use cred_file::OpenFault;
-use cred_keep::{CopyFault, Counts, copy_book, count_accounts};
-use credkeep_words::{CommandLine, FileFault, Progress, Remarks, say};
+use cred_keep::{CopyFault, CountsForm, copy_book, count_accounts};
+use credkeep_words::{CommandLine, FileFault, ProgressLine, Remarks, say};
 use sqlite::{Alter, Connection, Error, ErrorCode};
 use std::alloc::Global;
 use std::io;
@@ -37,25 +37,25 @@ pub(crate) struct Contents {
 }
 
 impl Contents {
-    pub(crate) fn tell(self, host: &HostRuntime, counts: Counts) -> Status {
+    pub(crate) fn tell(self, host: &HostRuntime, counts: CountsForm) -> Status {
         match self.write(&mut host.stdout(), counts) {
             Ok(()) => Status::Done,
             Err(_) => say(host, "writing failed", Status::Io),
         }
     }
 
-    fn write<W: Write>(self, out: &mut W, counts: Counts) -> io::Result<()> {
+    fn write<W: Write>(self, out: &mut W, counts: CountsForm) -> io::Result<()> {
         let (accounts, changes) = (self.accounts, self.log.commits);
         match counts {
-            Counts::Hidden => Ok(()),
-            Counts::Plain => {
+            CountsForm::Hidden => Ok(()),
+            CountsForm::Plain => {
                 let (these, those) = (plural_of(accounts as u64), plural_of(changes));
                 writeln!(
                     out,
                     "{accounts} account{these}, {changes} change{those} in the log"
                 )
             }
-            Counts::Json => writeln!(out, "{{\"accounts\":{accounts},\"changes\":{changes}}}"),
+            CountsForm::Json => writeln!(out, "{{\"accounts\":{accounts},\"changes\":{changes}}}"),
         }
     }
 }
@@ -139,9 +139,9 @@ pub(crate) fn verify(host: &HostRuntime, line: &CommandLine<'_>) -> Result<Statu
 
 /// Creates a draft beside a place. A fault names the draft, as the place itself may be readable;
 /// but if the folder is missing the fault names the place.
-fn make_draft<'a>(host: &'a HostRuntime, place: &str, end: &str) -> Result<Draft<'a>, Status> {
+fn make_draft<'a>(host: &'a HostRuntime, place: &str, end: &str) -> Result<DraftFile<'a>, Status> {
     let path = accept(host, place, sidecar(host, place, end))?;
-    match Draft::make(host, place, end) {
+    match DraftFile::make(host, place, end) {
         Err(FileFault::NoFolder) => Err(refuse_file(host, place, FileFault::NoFolder)),
         made => accept(host, path.as_str(), made),
     }
@@ -151,11 +151,11 @@ fn make_draft<'a>(host: &'a HostRuntime, place: &str, end: &str) -> Result<Draft
 fn read_book(
     host: &HostRuntime,
     file: &str,
-    read: &Draft<'_>,
+    read: &DraftFile<'_>,
     remarks: Remarks,
 ) -> Result<LogLook, Status> {
     let source = accept(host, file, real_path(host, file))?;
-    let mut progress = Progress::new(host, remarks);
+    let mut progress = ProgressLine::new(host, remarks);
     let taken = take_snapshot(host, source.as_str(), read, &mut progress);
     if let Err(FileFault::System(error)) = taken {
         return Err(refuse_file(host, read.path(), error));
@@ -168,8 +168,8 @@ fn read_book(
 fn copy(
     host: &HostRuntime,
     file: &str,
-    read: &Draft<'_>,
-    new: &Draft<'_>,
+    read: &DraftFile<'_>,
+    new: &DraftFile<'_>,
 ) -> Result<usize, Status> {
     let target = open_database(host, new.path(), new.path(), 0, DamagedLog::Refused)?;
     let (target, copied) = copy_into(host, file, read, new, target);
@@ -184,8 +184,8 @@ fn copy(
 fn copy_into<D: Alter>(
     host: &HostRuntime,
     file: &str,
-    read: &Draft<'_>,
-    new: &Draft<'_>,
+    read: &DraftFile<'_>,
+    new: &DraftFile<'_>,
     target: Connection<D>,
 ) -> (Connection<D>, Result<usize, Status>)
     requires autocommit { target.in_transaction ≡ false }
@@ -226,7 +226,12 @@ fn count_in<S: Alter>(
 }
 
 /// Puts the new file in the book's place, and tries for so many seconds if another process has it.
-fn put_back(host: &HostRuntime, new: &Draft<'_>, place: &str, wait: u16) -> Result<(), BookFault> {
+fn put_back(
+    host: &HostRuntime,
+    new: &DraftFile<'_>,
+    place: &str,
+    wait: u16,
+) -> Result<(), BookFault> {
     for _ in 0..tries_in(wait) {
         match put_back_once(host, new, place) {
             Err(why) if why.is_busy() => sleep(host, Duration::from_millis(PAUSE)),
@@ -236,7 +241,7 @@ fn put_back(host: &HostRuntime, new: &Draft<'_>, place: &str, wait: u16) -> Resu
     put_back_once(host, new, place)
 }
 
-fn put_back_once(host: &HostRuntime, new: &Draft<'_>, place: &str) -> Result<(), BookFault> {
+fn put_back_once(host: &HostRuntime, new: &DraftFile<'_>, place: &str) -> Result<(), BookFault> {
     let old_log = fold_log(host, place)?;
     new.dress_as(place)?;
     Ok(new.put_at(place, old_log)?)

@@ -18,7 +18,7 @@ const LINGER: u64 = 100;
 
 /// A file that is written beside its place. It is removed with this value unless it is put
 /// there. Nobody else may read or write it.
-pub(crate) struct Draft<'a> {
+pub(crate) struct DraftFile<'a> {
     rt: &'a HostRuntime,
     path: String,
     file: File,
@@ -33,10 +33,10 @@ pub(crate) enum OldLog {
     Removed,
 }
 
-impl Drop for Draft<'_> {
+impl Drop for DraftFile<'_> {
     /// If the removal fails nothing is lost: the next run uses the file.
     fn drop(self) {
-        let Draft { rt, path, file } = self;
+        let DraftFile { rt, path, file } = self;
         if let Ok(true) = is_at(rt, &file, path.as_str()) {
             let _ = remove_logs(rt, path.as_str());
             let _ = fs::remove_file(rt, path.as_str());
@@ -44,7 +44,7 @@ impl Drop for Draft<'_> {
     }
 }
 
-impl<'a> Draft<'a> {
+impl<'a> DraftFile<'a> {
     /// Creates an empty file, named as the place with this end. A file that a stopped run left
     /// there is used again.
     ///
@@ -59,7 +59,7 @@ impl<'a> Draft<'a> {
         file.set_permissions(Permissions::from_mode(OWNER_ALONE))?;
         file.set_len(0)?;
         remove_logs(rt, path.as_str())?;
-        Ok(Draft { rt, path, file })
+        Ok(DraftFile { rt, path, file })
     }
 
     pub(crate) fn path(&self) -> &str {

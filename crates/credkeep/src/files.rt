@@ -8,7 +8,7 @@ use crate::sidecar::{
     EMPTY_LOG, JOURNAL, LOG, has_changes_in_log, hold, if_there, len_of, len_of_log,
     look_at_its_log, real_path, sidecar,
 };
-use cred_admin::{Detail, Line, Status};
+use cred_admin::{Detail, LineForm, Status};
 use cred_keep::Order;
 use credkeep_words::{FileFault, Remarks};
 use sqlite::{Connection, Error, ErrorCode, FileFrom, FileStore, Start, Wary};
@@ -41,7 +41,7 @@ pub(crate) const PAUSE: u64 = 50;
 
 /// The place where a book is begun.
 #[derive(Clone, Copy, PartialEq, Eq)]
-pub(crate) enum Beginning {
+pub(crate) enum BookPlace {
     /// A new file, which is put at the place once it is whole.
     NewFile,
     /// An existing database.
@@ -58,19 +58,19 @@ fn look_at_name(path: &str) -> Result<(), FileFault> {
 
 /// Checks that a book may begin at this path. An existing file must belong to this user alone, and
 /// be empty or a database.
-pub(crate) fn look_before_init(rt: &HostRuntime, path: &str) -> Result<Beginning, FileFault> {
+pub(crate) fn look_before_init(rt: &HostRuntime, path: &str) -> Result<BookPlace, FileFault> {
     look_at_name(path)?;
-    let beginning = match if_there(fs::symlink_metadata(rt, path))? {
+    let place = match if_there(fs::symlink_metadata(rt, path))? {
         Some(found) => look_at_place(rt, path, &found)?,
-        None => Beginning::NewFile,
+        None => BookPlace::NewFile,
     };
-    if beginning == Beginning::NewFile && has_changes_in_log(rt, path)? {
+    if place == BookPlace::NewFile && has_changes_in_log(rt, path)? {
         return Err(FileFault::OldLog);
     }
-    Ok(beginning)
+    Ok(place)
 }
 
-fn look_at_place(rt: &HostRuntime, path: &str, found: &Metadata) -> Result<Beginning, FileFault> {
+fn look_at_place(rt: &HostRuntime, path: &str, found: &Metadata) -> Result<BookPlace, FileFault> {
     if !found.is_file() {
         return Err(FileFault::Irregular);
     }
@@ -82,10 +82,10 @@ fn look_at_place(rt: &HostRuntime, path: &str, found: &Metadata) -> Result<Begin
     }
     see_single(found)?;
     if found.len() == 0 {
-        return Ok(Beginning::NewFile);
+        return Ok(BookPlace::NewFile);
     }
     look_inside(rt, path)?;
-    Ok(Beginning::Database)
+    Ok(BookPlace::Database)
 }
 
 /// The users who can read and write a file.
@@ -135,7 +135,7 @@ pub(crate) fn look_before_export(
 ) -> Result<(), Status> {
     match order {
         Order::List {
-            line: Line::Passwd(Detail::Record),
+            line: LineForm::Passwd(Detail::Record),
         } => accept(host, file, look_at_locks(host, file)),
         _ => Ok(()),
     }

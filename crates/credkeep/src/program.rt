@@ -3,10 +3,10 @@
 ghost use Rattle.std.specs.Prelude.{◌≡◌, false};
 
 use crate::copies::{NEW, back_up, restore, verify};
-use crate::draft::{Draft, OldLog};
+use crate::draft::{DraftFile, OldLog};
 use crate::fault::accept;
 use crate::files::{
-    Beginning, DamagedLog, close, fold, look, look_before_export, look_before_init, open_database,
+    BookPlace, DamagedLog, close, fold, look, look_before_export, look_before_init, open_database,
 };
 use crate::tagged::{Tagged, serve_tagged};
 use cred_admin::Status;
@@ -14,7 +14,7 @@ use cred_cli::{Tools, Watched};
 use cred_file::{FileBook, OpenFault};
 use cred_keep::{Order, refuse, serve_in};
 use credkeep_words::{
-    Command, CommandLine, Counted, Progress, Remarks, advise, read_passwords, read_words, say,
+    Command, CommandLine, Counted, ProgressLine, Remarks, advise, read_passwords, read_words, say,
 };
 use sqlite::{Alter, Connection};
 use std::alloc::Global;
@@ -85,8 +85,8 @@ fn answer<T: Threads + Wait + Clock + Sync + Copy + Send + 'static>(
 fn init(host: &HostRuntime, line: &CommandLine<'_>) -> Result<Status, Status> {
     let file = line.file;
     match accept(host, file, look_before_init(host, file))? {
-        Beginning::NewFile => begin_beside(host, file),
-        Beginning::Database => {
+        BookPlace::NewFile => begin_beside(host, file),
+        BookPlace::Database => {
             let conn = open_database(host, file, file, line.wait, DamagedLog::Refused)?;
             let (conn, status) = begin_in(host.alloc(), conn, host.stderr());
             Ok(close(host, conn, status))
@@ -95,7 +95,7 @@ fn init(host: &HostRuntime, line: &CommandLine<'_>) -> Result<Status, Status> {
 }
 
 fn begin_beside(host: &HostRuntime, file: &str) -> Result<Status, Status> {
-    let new = accept(host, file, Draft::make(host, file, NEW))?;
+    let new = accept(host, file, DraftFile::make(host, file, NEW))?;
     let conn = open_database(host, file, new.path(), 0, DamagedLog::Refused)?;
     let (conn, status) = begin_in(host.alloc(), conn, host.stderr());
     // The file goes to its place without its log: if the log can't be copied, no book was begun.
@@ -130,7 +130,7 @@ fn on_file<T: Threads + Sync>(
         Order::Import { .. } => line.remarks,
         _ => Remarks::Hidden,
     };
-    let counted = Counted::new(input, Progress::new(host, remarks));
+    let counted = Counted::new(input, ProgressLine::new(host, remarks));
     let (conn, status) = obey(tools, conn, order, counted, host.stdout(), host.stderr());
     if status == Status::Done {
         advise(host, order, lines);

@@ -5,11 +5,11 @@
 //! after it the log from its start to its end, is the database at one moment, unless the log began
 //! again meanwhile.
 
-use crate::draft::Draft;
+use crate::draft::DraftFile;
 use crate::files::OWNER_ALONE;
 use crate::log::{LOG_HEADER, fills};
 use crate::sidecar::{LOG, if_there, sidecar};
-use credkeep_words::{FileFault, Progress};
+use credkeep_words::{FileFault, ProgressLine};
 use std::fs::{File, OpenOptions};
 use std::io::{Read, Write};
 use std::os::unix::fs::{MetadataExt, OpenOptionsExt};
@@ -45,8 +45,8 @@ struct Stamp {
 pub(crate) fn take_snapshot(
     rt: &HostRuntime,
     path: &str,
-    draft: &Draft<'_>,
-    progress: &mut Progress<'_>,
+    draft: &DraftFile<'_>,
+    progress: &mut ProgressLine<'_>,
 ) -> Result<(), FileFault> {
     for _ in 0..TRIES {
         let before = stamp_of(rt, path)?;
@@ -79,8 +79,8 @@ fn stamp_of(rt: &HostRuntime, path: &str) -> io::Result<Stamp> {
 fn copy_both(
     rt: &HostRuntime,
     path: &str,
-    draft: &Draft<'_>,
-    progress: &mut Progress<'_>,
+    draft: &DraftFile<'_>,
+    progress: &mut ProgressLine<'_>,
 ) -> io::Result<()> {
     draft.file().set_len(0)?;
     let mut to = OpenOptions::new().write(true).open(rt, draft.path())?;
@@ -102,7 +102,7 @@ fn copy_both(
 }
 
 /// Copies the rest of a file, and returns its number of MiB.
-fn copy_all(from: &mut File, to: &mut File, progress: &mut Progress<'_>) -> io::Result<u64> {
+fn copy_all(from: &mut File, to: &mut File, progress: &mut ProgressLine<'_>) -> io::Result<u64> {
     let mut chunk = [0; CHUNK];
     let mut copied: u64 = 0;
     for _ in 0..u64::MAX {

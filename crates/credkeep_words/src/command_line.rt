@@ -4,11 +4,11 @@ use crate::arguments::credkeep;
 use crate::commands::command_named;
 use crate::options::{counts_in, either, number_in, text_in};
 use crate::orders::read_command;
-use crate::refusal::Refusal;
+use crate::refusal::WordsRefusal;
 use clap::{ArgMatches, Error};
 use cred_admin::{NewSetting, Status};
 use cred_cli::CostBounds;
-use cred_keep::{Counts, Order};
+use cred_keep::{CountsForm, Order};
 use cred_tries::TryLimit;
 use std::alloc::Global;
 use std::random::RandomSource;
@@ -20,7 +20,7 @@ pub struct CommandLine<'a> {
     /// The number of seconds for which a busy file is tried.
     pub wait: u16,
     pub remarks: Remarks,
-    pub counts: Counts,
+    pub counts: CountsForm,
     pub command: Command<'a>,
 }
 
@@ -82,16 +82,16 @@ pub fn read_words<'a>(host: &HostRuntime, words: &'a [String]) -> Result<Command
 fn line_of<'a, R: RandomSource + AllocGlobal>(
     rt: &R,
     words: &'a [String],
-) -> Result<CommandLine<'a>, Refusal<'a>> {
+) -> Result<CommandLine<'a>, WordsRefusal<'a>> {
     let matches = match parse(rt.alloc(), words) {
         Ok(matches) => matches,
-        Err(error) => return Err(Refusal::of_words(rt.alloc(), words, error)),
+        Err(error) => return Err(WordsRefusal::of_words(rt.alloc(), words, error)),
     };
     let Some((word, values)) = matches.subcommand() else {
-        return Err(Refusal::NoCommand);
+        return Err(WordsRefusal::NoCommand);
     };
     let Some(text) = command_named(word) else {
-        return Err(Refusal::NoCommand);
+        return Err(WordsRefusal::NoCommand);
     };
     Ok(CommandLine {
         file: text_in(&matches, "file"),

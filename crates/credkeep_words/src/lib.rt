@@ -18,5 +18,5 @@ mod slip;
 pub use command_line::{Command, CommandLine, Echo, Remarks, Service, read_words};
 pub use fault::FileFault;
 pub use passwords::{advise, read_passwords};
-pub use progress::{Counted, Progress};
+pub use progress::{Counted, ProgressLine};
 pub use refusal::say;

@@ -1,11 +1,11 @@
 //! The values of the words and the options.
 
-use crate::refusal::Refusal;
+use crate::refusal::WordsRefusal;
 use clap::ArgMatches;
-use cred_admin::{Detail, Existing, Line, LockedRecords, Rules};
+use cred_admin::{Detail, Existing, LineForm, LockedRecords, Rules};
 use cred_book::Name;
 use cred_cli::CostBounds;
-use cred_keep::{BadLines, Counts, Effect, Importing};
+use cred_keep::{BadLines, CountsForm, Effect, Importing};
 use cred_tries::{MOST_TRIES, TryLimit};
 
 /// The first value if the flag is given, and otherwise the second.
@@ -18,16 +18,16 @@ pub(crate) fn text_in<'a>(values: &ArgMatches<'a>, word: &str) -> &'a str {
     values.get_str(word).unwrap_or("")
 }
 
-pub(crate) fn name_in<'a>(values: &ArgMatches<'a>, word: &str) -> Result<Name, Refusal<'a>> {
+pub(crate) fn name_in<'a>(values: &ArgMatches<'a>, word: &str) -> Result<Name, WordsRefusal<'a>> {
     let text = text_in(values, word);
     match Name::new(text.as_bytes()) {
         Ok(name) => Ok(name),
-        Err(why) => Err(Refusal::Name { text, why }),
+        Err(why) => Err(WordsRefusal::Name { text, why }),
     }
 }
 
 /// The bounds on settings and records.
-pub(crate) fn most_in<'a>(values: &ArgMatches<'a>) -> Result<CostBounds, Refusal<'a>> {
+pub(crate) fn most_in<'a>(values: &ArgMatches<'a>) -> Result<CostBounds, WordsRefusal<'a>> {
     Ok(CostBounds {
         memory: size_in(values, "most-memory")?,
         work: size_in(values, "most-work")?,
@@ -38,13 +38,13 @@ pub(crate) fn most_in<'a>(values: &ArgMatches<'a>) -> Result<CostBounds, Refusal
 pub(crate) fn size_in<'a>(
     values: &ArgMatches<'a>,
     option: &'static str,
-) -> Result<Option<u64>, Refusal<'a>> {
+) -> Result<Option<u64>, WordsRefusal<'a>> {
     let Some(text) = values.get_str(option) else {
         return Ok(None);
     };
     match kib_of(text) {
         Some(kib) => Ok(Some(kib)),
-        None => Err(Refusal::Size(option)),
+        None => Err(WordsRefusal::Size(option)),
     }
 }
 
@@ -68,13 +68,13 @@ pub(crate) fn number_in<'a>(
     option: &'static str,
     low: u16,
     high: u16,
-) -> Result<Option<u16>, Refusal<'a>> {
+) -> Result<Option<u16>, WordsRefusal<'a>> {
     let Some(text) = values.get_str(option) else {
         return Ok(None);
     };
     match text.parse::<u16>() {
         Ok(number) if (low..=high).contains(&number) => Ok(Some(number)),
-        _ => Err(Refusal::Number(option, low, high)),
+        _ => Err(WordsRefusal::Number(option, low, high)),
     }
 }
 
@@ -83,13 +83,13 @@ pub(crate) fn threads_in<'a>(
     values: &ArgMatches<'a>,
     option: &'static str,
     most: u8,
-) -> Result<Option<u8>, Refusal<'a>> {
+) -> Result<Option<u8>, WordsRefusal<'a>> {
     let number = number_in(values, option, 1, u16::from(most))?;
     Ok(number.map(|number| u8::try_from(number).unwrap_or(most)))
 }
 
 /// The limit of failed tries, if it is given.
-pub(crate) fn tries_in<'a>(values: &ArgMatches<'a>) -> Result<Option<TryLimit>, Refusal<'a>> {
+pub(crate) fn tries_in<'a>(values: &ArgMatches<'a>) -> Result<Option<TryLimit>, WordsRefusal<'a>> {
     let most = u16::try_from(MOST_TRIES).unwrap_or(u16::MAX);
     match number_in(values, "tries", 1, most)? {
         Some(number) => Ok(TryLimit::new(u64::from(number))),
@@ -98,21 +98,26 @@ pub(crate) fn tries_in<'a>(values: &ArgMatches<'a>) -> Result<Option<TryLimit>, 
 }
 
 /// The form of counts.
-pub(crate) fn counts_in(values: &ArgMatches<'_>) -> Counts {
-    let plain = either(values, "quiet", Counts::Hidden, Counts::Plain);
-    either(values, "json", Counts::Json, plain)
+pub(crate) fn counts_in(values: &ArgMatches<'_>) -> CountsForm {
+    let plain = either(values, "quiet", CountsForm::Hidden, CountsForm::Plain);
+    either(values, "json", CountsForm::Json, plain)
 }
 
 /// The form of the list of accounts.
-pub(crate) fn line_in(values: &ArgMatches<'_>) -> Line {
-    let plain = either(values, "costs", Line::Passwd(Detail::Costs), Line::Name);
-    either(values, "json", Line::Json(Detail::Costs), plain)
+pub(crate) fn line_in(values: &ArgMatches<'_>) -> LineForm {
+    let plain = either(
+        values,
+        "costs",
+        LineForm::Passwd(Detail::Costs),
+        LineForm::Name,
+    );
+    either(values, "json", LineForm::Json(Detail::Costs), plain)
 }
 
 /// The options of an import.
-pub(crate) fn importing_in<'a>(values: &ArgMatches<'a>) -> Result<Importing, Refusal<'a>> {
+pub(crate) fn importing_in<'a>(values: &ArgMatches<'a>) -> Result<Importing, WordsRefusal<'a>> {
     let existing = match (values.get_flag("skip-existing"), values.get_flag("update")) {
-        (true, true) => return Err(Refusal::Existing),
+        (true, true) => return Err(WordsRefusal::Existing),
         (true, false) => Existing::Kept,
         (false, true) => Existing::Updated,
         (false, false) => Existing::Refused,
@@ -121,7 +126,7 @@ pub(crate) fn importing_in<'a>(values: &ArgMatches<'a>) -> Result<Importing, Ref
         values.get_flag("disable-locked"),
         values.get_flag("keep-locked"),
     ) {
-        (true, true) => return Err(Refusal::Locked),
+        (true, true) => return Err(WordsRefusal::Locked),
         (true, false) => LockedRecords::Disabled,
         (false, true) => LockedRecords::Kept,
         (false, false) => LockedRecords::Refused,

@@ -5,10 +5,10 @@ use crate::commands::CommandName;
 use crate::options::{
     either, importing_in, line_in, most_in, name_in, size_in, text_in, threads_in, tries_in,
 };
-use crate::refusal::Refusal;
+use crate::refusal::WordsRefusal;
 use clap::ArgMatches;
 use cred_admin::{
-    Detail, Edit, EmptyPassword, Line, NewPassword, NewSetting, Operation, setting_of,
+    Detail, Edit, EmptyPassword, LineForm, NewPassword, NewSetting, Operation, setting_of,
 };
 use cred_book::Name;
 use cred_cli::{exceeds, memory_alone};
@@ -30,7 +30,7 @@ pub(crate) fn read_command<'a, R: RandomSource + AllocGlobal>(
     rt: &R,
     name: CommandName,
     values: &ArgMatches<'a>,
-) -> Result<Command<'a>, Refusal<'a>> {
+) -> Result<Command<'a>, WordsRefusal<'a>> {
     match name {
         CommandName::Init => Ok(Command::Init),
         CommandName::Backup => Ok(Command::Backup(text_in(values, "to"))),
@@ -39,9 +39,9 @@ pub(crate) fn read_command<'a, R: RandomSource + AllocGlobal>(
         CommandName::Serve if values.get_flag("tagged") => Ok(Command::Tagged(service_in(
             rt, values,
         )?)),
-        CommandName::Serve => Err(Refusal::Untagged),
+        CommandName::Serve => Err(WordsRefusal::Untagged),
         CommandName::List => list(values, line_in(values)),
-        CommandName::Export => list(values, Line::Passwd(Detail::Record)),
+        CommandName::Export => list(values, LineForm::Passwd(Detail::Record)),
         CommandName::Import => {
             let how = importing_in(values)?;
             perform(values, Order::Import { how })
@@ -62,27 +62,30 @@ pub(crate) fn read_command<'a, R: RandomSource + AllocGlobal>(
     }
 }
 
-fn perform<'a>(values: &ArgMatches<'a>, order: Order) -> Result<Command<'a>, Refusal<'a>> {
+fn perform<'a>(values: &ArgMatches<'a>, order: Order) -> Result<Command<'a>, WordsRefusal<'a>> {
     Ok(Command::Perform {
         order,
         echo: either(values, "echo", Echo::Taken, Echo::Refused),
     })
 }
 
-fn list<'a>(values: &ArgMatches<'a>, line: Line) -> Result<Command<'a>, Refusal<'a>> {
+fn list<'a>(values: &ArgMatches<'a>, line: LineForm) -> Result<Command<'a>, WordsRefusal<'a>> {
     perform(values, Order::List { line })
 }
 
-fn edit<'a>(values: &ArgMatches<'a>, edit: Edit) -> Result<Command<'a>, Refusal<'a>> {
+fn edit<'a>(values: &ArgMatches<'a>, edit: Edit) -> Result<Command<'a>, WordsRefusal<'a>> {
     perform(values, Order::Edit { edit })
 }
 
-fn account<'a>(values: &ArgMatches<'a>, operation: Operation) -> Result<Command<'a>, Refusal<'a>> {
+fn account<'a>(
+    values: &ArgMatches<'a>,
+    operation: Operation,
+) -> Result<Command<'a>, WordsRefusal<'a>> {
     let name = name_in(values, "name")?;
     perform(values, Order::Account { name, operation })
 }
 
-fn show<'a>(values: &ArgMatches<'a>, name: Name) -> Result<Command<'a>, Refusal<'a>> {
+fn show<'a>(values: &ArgMatches<'a>, name: Name) -> Result<Command<'a>, WordsRefusal<'a>> {
     let detail = either(values, "record", Detail::Record, Detail::Costs);
     if values.get_flag("json") {
         perform(values, Order::ShowJson { name, detail })
@@ -91,7 +94,7 @@ fn show<'a>(values: &ArgMatches<'a>, name: Name) -> Result<Command<'a>, Refusal<
     }
 }
 
-fn disable<'a>(values: &ArgMatches<'a>, name: Name) -> Result<Command<'a>, Refusal<'a>> {
+fn disable<'a>(values: &ArgMatches<'a>, name: Name) -> Result<Command<'a>, WordsRefusal<'a>> {
     if values.get_flag("show") {
         perform(values, Order::DisableShown { name })
     } else {
@@ -99,7 +102,7 @@ fn disable<'a>(values: &ArgMatches<'a>, name: Name) -> Result<Command<'a>, Refus
     }
 }
 
-fn rename<'a>(values: &ArgMatches<'a>, name: Name) -> Result<Command<'a>, Refusal<'a>> {
+fn rename<'a>(values: &ArgMatches<'a>, name: Name) -> Result<Command<'a>, WordsRefusal<'a>> {
     edit(values, Edit::Rename(name, name_in(values, "new")?))
 }
 
@@ -107,16 +110,16 @@ fn rename<'a>(values: &ArgMatches<'a>, name: Name) -> Result<Command<'a>, Refusa
 fn service_in<'a, R: RandomSource + AllocGlobal>(
     rt: &R,
     values: &ArgMatches<'a>,
-) -> Result<Service, Refusal<'a>> {
+) -> Result<Service, WordsRefusal<'a>> {
     let memory = size_in(values, "memory")?.unwrap_or(DEFAULT_MEMORY);
     let most = most_in(values)?;
     let setting = setting_in(rt, values)?;
     if exceeds(&most, &setting.setting()) {
-        return Err(Refusal::Costly);
+        return Err(WordsRefusal::Costly);
     }
     let least = memory_alone(&setting.setting());
     if memory < least {
-        return Err(Refusal::Crowded(least));
+        return Err(WordsRefusal::Crowded(least));
     }
     Ok(Service {
         at_once: threads_in(values, "at-once", 255)?,
@@ -130,7 +133,7 @@ fn service_in<'a, R: RandomSource + AllocGlobal>(
 fn new_password_in<'a, R: RandomSource + AllocGlobal>(
     rt: &R,
     values: &ArgMatches<'a>,
-) -> Result<NewPassword, Refusal<'a>> {
+) -> Result<NewPassword, WordsRefusal<'a>> {
     Ok(NewPassword {
         setting: setting_in(rt, values)?,
         empty: either(
@@ -146,15 +149,15 @@ fn new_password_in<'a, R: RandomSource + AllocGlobal>(
 fn setting_in<'a, R: RandomSource + AllocGlobal>(
     rt: &R,
     values: &ArgMatches<'a>,
-) -> Result<NewSetting, Refusal<'a>> {
+) -> Result<NewSetting, WordsRefusal<'a>> {
     let text = values.get_str("setting").unwrap_or(DEFAULT_SETTING);
     let Ok(mut source) = make_rng::<StdRng, R>(rt) else {
-        return Err(Refusal::Salt);
+        return Err(WordsRefusal::Salt);
     };
     match salted(rt.alloc(), text, &mut source) {
         Ok(setting) => Ok(setting),
-        Err(PhcError::Memory) => Err(Refusal::Memory),
-        Err(why) => Err(Refusal::Setting { text, why }),
+        Err(PhcError::Memory) => Err(WordsRefusal::Memory),
+        Err(why) => Err(WordsRefusal::Setting { text, why }),
     }
 }
 

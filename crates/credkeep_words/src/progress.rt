@@ -17,20 +17,20 @@ const LINES: &str = "lines read, which are stored together";
 
 /// A line on standard error that is overwritten as an order goes on.
 #[derive(Drop)]
-pub struct Progress<'a> {
+pub struct ProgressLine<'a> {
     host: &'a HostRuntime,
     /// The time of the last line, or of the order's begin; `None` without a terminal.
     last: Option<Instant>,
     shown: bool,
 }
 
-impl<'a> Progress<'a> {
-    pub fn new(host: &'a HostRuntime, remarks: Remarks) -> Progress<'a> {
+impl<'a> ProgressLine<'a> {
+    pub fn new(host: &'a HostRuntime, remarks: Remarks) -> ProgressLine<'a> {
         let mut last = None;
         if remarks == Remarks::Told && host.stderr().is_terminal() {
             last = Instant::now(host).ok();
         }
-        Progress {
+        ProgressLine {
             host,
             last,
             shown: false,
@@ -72,11 +72,11 @@ impl<'a> Progress<'a> {
 pub struct Counted<'a, R> {
     inner: R,
     lines: u64,
-    progress: Progress<'a>,
+    progress: ProgressLine<'a>,
 }
 
 impl<'a, R> Counted<'a, R> {
-    pub fn new(inner: R, progress: Progress<'a>) -> Counted<'a, R> {
+    pub fn new(inner: R, progress: ProgressLine<'a>) -> Counted<'a, R> {
         Counted {
             inner,
             lines: 0,

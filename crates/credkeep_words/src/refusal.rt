@@ -16,7 +16,7 @@ use std::io::Write;
 
 /// The reason why the words of the command line are refused.
 #[derive(Drop)]
-pub(crate) enum Refusal<'a> {
+pub(crate) enum WordsRefusal<'a> {
     /// The words don't parse, or ask for help or the version.
     Words(Error),
     /// No word is a command.
@@ -47,25 +47,25 @@ pub(crate) enum Refusal<'a> {
     Memory,
 }
 
-impl<'a> Refusal<'a> {
+impl<'a> WordsRefusal<'a> {
     /// The reason why the words don't parse. A word too many isn't repeated: it may be a password.
-    pub(crate) fn of_words(alloc: Global, words: &[String], error: Error) -> Refusal<'a> {
+    pub(crate) fn of_words(alloc: Global, words: &[String], error: Error) -> WordsRefusal<'a> {
         match error.kind() {
             ErrorKind::UnknownArgument | ErrorKind::InvalidSubcommand => match command_in(words) {
-                Some(command) => Refusal::Unknown(command, slip_in(alloc, words, command)),
-                None => Refusal::NoCommand,
+                Some(command) => WordsRefusal::Unknown(command, slip_in(alloc, words, command)),
+                None => WordsRefusal::NoCommand,
             },
-            ErrorKind::OutOfMemory => Refusal::Memory,
-            _ => Refusal::Words(error),
+            ErrorKind::OutOfMemory => WordsRefusal::Memory,
+            _ => WordsRefusal::Words(error),
         }
     }
 
     /// Writes the reason on standard error. Help and the version are written on standard output.
     pub(crate) fn tell(&self, host: &HostRuntime) -> Status {
         match self {
-            Refusal::Words(error) => return tell_words(host, error),
-            Refusal::Memory => return say(host, "out of memory", Status::Memory),
-            Refusal::Salt => return say(host, "the system has no random bytes", Status::Io),
+            WordsRefusal::Words(error) => return tell_words(host, error),
+            WordsRefusal::Memory => return say(host, "out of memory", Status::Memory),
+            WordsRefusal::Salt => return say(host, "the system has no random bytes", Status::Io),
             _ => {}
         }
         let _ = self.write(&mut host.stderr());
@@ -74,42 +74,42 @@ impl<'a> Refusal<'a> {
 
     fn write<W: Write>(&self, out: &mut W) -> io::Result<()> {
         match self {
-            Refusal::NoCommand => write_no_command(out),
-            Refusal::Untagged => writeln!(
+            WordsRefusal::NoCommand => write_no_command(out),
+            WordsRefusal::Untagged => writeln!(
                 out,
                 "credkeep: serve: it answers tagged lines alone: write serve --tagged"
             ),
-            Refusal::Unknown(command, slip) => write_unknown(out, command, *slip),
-            Refusal::Name { text, why } => write_name(out, text, *why),
-            Refusal::Setting { text, why } => write_setting(out, text, *why),
-            Refusal::Size(option) => writeln!(
+            WordsRefusal::Unknown(command, slip) => write_unknown(out, command, *slip),
+            WordsRefusal::Name { text, why } => write_name(out, text, *why),
+            WordsRefusal::Setting { text, why } => write_setting(out, text, *why),
+            WordsRefusal::Size(option) => writeln!(
                 out,
                 "credkeep: --{option}: a size is a number of KiB, or one with K, M or G behind it"
             ),
-            Refusal::Number(option, low, high) => writeln!(
+            WordsRefusal::Number(option, low, high) => writeln!(
                 out,
                 "credkeep: --{option}: give a number from {low} to {high}"
             ),
-            Refusal::Costly => writeln!(
+            WordsRefusal::Costly => writeln!(
                 out,
                 "credkeep: --setting: its hash needs more than --most-memory or --most-work \
                  allows (18 costly)"
             ),
-            Refusal::Crowded(kib) => writeln!(
+            WordsRefusal::Crowded(kib) => writeln!(
                 out,
                 "credkeep: --memory: a hash under --setting needs more: {kib} KiB (4 memory)"
             ),
-            Refusal::Existing => writeln!(
+            WordsRefusal::Existing => writeln!(
                 out,
                 "credkeep: --skip-existing and --update exclude each other: an existing account is \
                  left, or updated"
             ),
-            Refusal::Locked => writeln!(
+            WordsRefusal::Locked => writeln!(
                 out,
                 "credkeep: --disable-locked and --keep-locked exclude each other: a locked record \
                  is dropped, or kept"
             ),
-            Refusal::Words(_) | Refusal::Salt | Refusal::Memory => Ok(()),
+            WordsRefusal::Words(_) | WordsRefusal::Salt | WordsRefusal::Memory => Ok(()),
         }
     }
 }
