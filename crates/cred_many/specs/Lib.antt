@@ -1,4 +1,5 @@
 -- The definitions that the contracts of a service cite.
+pub mod Adds
 pub mod Answered
 pub mod Asks
 pub mod Costs

@@ -1,6 +1,6 @@
 -- What stands behind it in a scribe: what each open line has seen, lines that are answered, and
 -- those whose changes are made together. Of it public clauses cite `moment`, `numbers`, `unseen`,
--- `IsPending`, `HasTurn` and `IsAnswered`, and of what a call adds `AddsOne`, `AddsSome`,
+-- `IsPending`, `HasTurn` and `IsAnswered`, and by specs/Adds.antt `AddsOne`, `AddsSome`,
 -- `answered_by`, `IsCountedAt` and `IsNotSentAway`.
 use Rattle.std.specs.{List.range_with_len, List.remove, List.Sorted.IsPermutation, Option.option_or, Str.bytes_eq}
 use Rattle.std.specs.Prelude.{◌≡◌, ◌⊎◌, ℕ, ◌<◌, ◌≤◌, ◌+◌, List, [], ◌∷◌, ◌++◌, Bool, ◌&&◌, true, false, All, if◌then◌else◌, IfSome, Option, Some, None, is_none, length, map, set, slice_get}

@@ -4,8 +4,7 @@ ghost use Rattle.std.specs.{FinMap.contains_key, List.remove};
 ghost use Rattle.std.specs.Prelude.{◌≡◌, ◌↔◌, ℕ, ◌+◌, ◌++◌, [], ◌∷◌, Bool, false, IfSome, IsTrue, is_some, length, None, option_map, Some, true, unwrap_or};
 ghost use Rattle.cred_cli.specs.Script.{lines_of};
 ghost use Rattle.cred_book.specs.Works.{is_for_current, name_of};
-ghost use Rattle.cred_many.specs.Scribe.{AddsNone, AddsOne, IsCountedAt, IsQuick, answered_by, passed_of};
-ghost use Rattle.cred_many.specs.{Asks.hashed_for, Asks.is_reset, Scribe.History, Scribe.IsAnswered, Scribe.IsLooked, Scribe.IsReady, Scribe.moment, Scribe.numbers, Scribe.unseen, declared.ask.Ask.TheVariants.Forgive, declared.ask.Ask.TheVariants.Quick};
+ghost use Rattle.cred_many.specs.{Asks.hashed_for, Asks.is_reset, Scribe.History, Scribe.IsAnswered, Scribe.IsLooked, Scribe.IsReady, Scribe.moment, Scribe.numbers, Scribe.passed_of, Scribe.unseen, declared.ask.Ask.TheVariants.Forgive, declared.ask.Ask.TheVariants.Quick};
 ghost use Rattle.cred_tries.specs.Answers.{IsReadBy};
 ghost use Rattle.cred_many.specs.{Served.HasCause, Served.Stands, Served.StandsAtEnd, Served.left_of, Served.record_at, Transcript.written_of, Turns.KeepsTurns};
 
@@ -63,6 +62,8 @@ pub struct Scribe<J: ServiceId, K: Host, W: Write> {
 }
 
 impl<J: ServiceId, K: Host, W: Write> Scribe<J, K, W> {
+    ghost use Rattle.cred_many.specs.Adds.{AddsCounted, AddsNoLine, AddsQuick, answered};
+
     /// The scribe before the first line.
     pub fn new(
         alloc: Global,
@@ -73,8 +74,7 @@ impl<J: ServiceId, K: Host, W: Write> Scribe<J, K, W> {
         requires opening { K.book keeper ≡ J.service.opening }
         requires before { written_of W.contents writer ≡ J.service.before }
         requires limit { limit ≡ J.service.tries }
-        ensures none { answered_by K.capacity J.service K.book W.contents result.keeper
-            result.output result.came result.tries [] [] }
+        ensures none { answered result [] [] }
         ensures came { result.came ≡ 0 }
     {
         let tries = Tries::new(alloc, limit);
@@ -209,13 +209,7 @@ impl<J: ServiceId, K: Host, W: Write> Scribe<J, K, W> {
         ensures line { IfSome result (λ job. job.0 ≡ line) }
         ensures going { self.new.output.fault ≡ None → self.old.output.fault ≡ None }
         ensures clock { IsReadBy now self.old.tries self.new.tries }
-        ensures adds { AddsOne
-            (IsCountedAt now self.old.tries self.new.tries (K.book self.old.keeper))
-            (passed_of self.new.tries)
-            (answered_by K.capacity J.service K.book W.contents self.old.keeper
-            self.old.output self.old.came self.old.tries)
-            (answered_by K.capacity J.service K.book W.contents self.new.keeper
-            self.new.output self.new.came self.new.tries) }
+        ensures adds { AddsCounted now self.old self.new }
     {
         if self.output.fault.is_some() {
             return None;
@@ -259,11 +253,7 @@ impl<J: ServiceId, K: Host, W: Write> Scribe<J, K, W> {
             → is_some self.new.output.fault ≡ true }
         ensures same_tries { self.new.tries ≡ self.old.tries }
         ensures book { K.book self.new.keeper ≡ K.book self.old.keeper }
-        ensures adds { AddsNone
-            (answered_by K.capacity J.service K.book W.contents self.old.keeper
-            self.old.output self.old.came self.old.tries)
-            (answered_by K.capacity J.service K.book W.contents self.new.keeper
-            self.new.output self.new.came self.new.tries) }
+        ensures adds { AddsNoLine self.old self.new }
     {
         let number = line.number();
         let place = self.output.pending.len();
@@ -297,11 +287,7 @@ impl<J: ServiceId, K: Host, W: Write> Scribe<J, K, W> {
         ensures line { IfSome result (λ job. job.0 ≡ line) }
         ensures same_came { self.new.came ≡ self.old.came }
         ensures same_tries { self.new.tries ≡ self.old.tries }
-        ensures adds { AddsOne IsQuick (passed_of self.new.tries)
-            (answered_by K.capacity J.service K.book W.contents self.old.keeper
-            self.old.output self.old.came self.old.tries)
-            (answered_by K.capacity J.service K.book W.contents self.new.keeper
-            self.new.output self.new.came self.new.tries) }
+        ensures adds { AddsQuick self.old self.new }
     {
         let ticket = ticket_of(&self.keeper, request);
         let changes = self
@@ -323,11 +309,7 @@ impl<J: ServiceId, K: Host, W: Write> Scribe<J, K, W> {
             → self.new.output.pending ≡ remove self.old.output.pending place }
         ensures same_came { self.new.came ≡ self.old.came }
         ensures same_tries { self.new.tries ≡ self.old.tries }
-        ensures adds { AddsOne IsQuick (passed_of self.new.tries)
-            (answered_by K.capacity J.service K.book W.contents self.old.keeper
-            self.old.output self.old.came self.old.tries)
-            (answered_by K.capacity J.service K.book W.contents self.new.keeper
-            self.new.output self.new.came self.new.tries) }
+        ensures adds { AddsQuick self.old self.new }
     {
         match do_ask(alloc, &mut self.keeper, ask) {
             Ok(text) => self.output.answer(place, &line, text.bytes()),
@@ -343,13 +325,7 @@ impl<J: ServiceId, K: Host, W: Write> Scribe<J, K, W> {
         ensures closed { self.new.output.pending ≡ remove self.old.output.pending place }
         ensures same_came { self.new.came ≡ self.old.came }
         ensures clock { (now : ℕ) → IsReadBy now self.old.tries self.new.tries }
-        ensures adds { (now : ℕ) → AddsOne
-            (IsCountedAt now self.old.tries self.new.tries (K.book self.old.keeper))
-            (passed_of self.new.tries)
-            (answered_by K.capacity J.service K.book W.contents self.old.keeper
-            self.old.output self.old.came self.old.tries)
-            (answered_by K.capacity J.service K.book W.contents self.new.keeper
-            self.new.output self.new.came self.new.tries) }
+        ensures adds { (now : ℕ) → AddsCounted now self.old self.new }
     {
         if self.has_account(name) {
             self.tries.forgive(name);

@@ -3,8 +3,7 @@
 ghost use Rattle.std.specs.List.{remove};
 ghost use Rattle.std.specs.Prelude.{◌≡◌, ℕ, IfSome, None, true, false};
 ghost use Rattle.cred_book.specs.Works.{name_of};
-ghost use Rattle.cred_many.specs.Scribe.{AddsOne, IsCountedAt, answered_by, passed_of};
-ghost use Rattle.cred_many.specs.{Asks.IsJobOf, Asks.hashed_for, Asks.is_reset, Scribe.HasSeen, Scribe.HasTurn, Scribe.IsReady, Served.told_reply, Served.told_verdict, Turns.HasMoved, Turns.UsesTurn};
+ghost use Rattle.cred_many.specs.{Adds.AddsCounted, Asks.IsJobOf, Asks.hashed_for, Asks.is_reset, Scribe.HasSeen, Scribe.HasTurn, Scribe.IsReady, Served.told_reply, Served.told_verdict, Turns.HasMoved, Turns.UsesTurn};
 ghost use Rattle.cred_tries.specs.Answers.{IsReadBy};
 ghost use Rattle.cred_many.specs.Tries.{effect_by, is_try, reply_effect};
 
@@ -33,13 +32,7 @@ impl<J: ServiceId, K: Host, W: Write> Scribe<J, K, W> {
         ensures clock { IsReadBy now self.old.tries self.new.tries }
         ensures going { self.new.output.fault ≡ None → self.old.output.fault ≡ None }
         ensures came { self.new.came ≡ self.old.came }
-        ensures adds { AddsOne
-            (IsCountedAt now self.old.tries self.new.tries (K.book self.old.keeper))
-            (passed_of self.new.tries)
-            (answered_by K.capacity J.service K.book W.contents self.old.keeper
-            self.old.output self.old.came self.old.tries)
-            (answered_by K.capacity J.service K.book W.contents self.new.keeper
-            self.new.output self.new.came self.new.tries) }
+        ensures adds { AddsCounted now self.old self.new }
     {
         if self.output.fault.is_some() {
             return None;
@@ -77,13 +70,7 @@ impl<J: ServiceId, K: Host, W: Write> Scribe<J, K, W> {
             self.new.output.pending) }
         ensures clock { IsReadBy now self.old.tries self.new.tries }
         ensures same_came { self.new.came ≡ self.old.came }
-        ensures adds { AddsOne
-            (IsCountedAt now self.old.tries self.new.tries (K.book self.old.keeper))
-            (passed_of self.new.tries)
-            (answered_by K.capacity J.service K.book W.contents self.old.keeper
-            self.old.output self.old.came self.old.tries)
-            (answered_by K.capacity J.service K.book W.contents self.new.keeper
-            self.new.output self.new.came self.new.tries) }
+        ensures adds { AddsCounted now self.old self.new }
     {
         let ask = line.ask();
         if let Some(seconds) = self.tries.send_away(&ask, now) {
@@ -120,13 +107,7 @@ impl<J: ServiceId, K: Host, W: Write> Scribe<J, K, W> {
             → self.new.output.pending ≡ remove self.old.output.pending place }
         ensures same_came { self.new.came ≡ self.old.came }
         ensures clock { (now : ℕ) → IsReadBy now self.old.tries self.new.tries }
-        ensures adds { (now : ℕ) → AddsOne
-            (IsCountedAt now self.old.tries self.new.tries (K.book self.old.keeper))
-            (passed_of self.new.tries)
-            (answered_by K.capacity J.service K.book W.contents self.old.keeper
-            self.old.output self.old.came self.old.tries)
-            (answered_by K.capacity J.service K.book W.contents self.new.keeper
-            self.new.output self.new.came self.new.tries) }
+        ensures adds { (now : ℕ) → AddsCounted now self.old self.new }
     {
         let Some(stored) = worked.after() else {
             unreachable!()

@@ -1,8 +1,7 @@
 //! Changes of different accounts that are made together, and answered at once.
 
 ghost use Rattle.std.specs.Prelude.{◌≡◌, ◌++◌, ◌∷◌, [], IfErr, None, OnErr, OnOk};
-ghost use Rattle.cred_many.specs.Scribe.{AddsSome, IsNotSentAway, answered_by, passed_of};
-ghost use Rattle.cred_many.specs.{Scribe.IsGroup, Scribe.entries_of, Turns.HaveTurns, Turns.UseTurns};
+ghost use Rattle.cred_many.specs.{Adds.AddsJudged, Scribe.IsGroup, Scribe.entries_of, Turns.HaveTurns, Turns.UseTurns};
 
 use super::commits::told_reply;
 use super::{Hashed, Scribe};
@@ -31,11 +30,7 @@ impl<J: ServiceId, K: Host, W: Write> Scribe<J, K, W> {
         ensures clock { self.new.tries ≡ self.old.tries }
         ensures going { self.new.output.fault ≡ None → self.old.output.fault ≡ None }
         ensures came { self.new.came ≡ self.old.came }
-        ensures adds { AddsSome IsNotSentAway (passed_of self.new.tries)
-            (answered_by K.capacity J.service K.book W.contents self.old.keeper
-            self.old.output self.old.came self.old.tries)
-            (answered_by K.capacity J.service K.book W.contents self.new.keeper
-            self.new.output self.new.came self.new.tries) }
+        ensures adds { AddsJudged self.old self.new }
     {
         let mut group = Group::new(alloc);
         let mut others = Vec::new(alloc);
@@ -97,11 +92,7 @@ impl<J: ServiceId, K: Host, W: Write> Scribe<J, K, W> {
             self.old.output.pending self.new.output.pending }
         ensures same_came { self.new.came ≡ self.old.came }
         ensures same_tries { self.new.tries ≡ self.old.tries }
-        ensures adds { AddsSome IsNotSentAway (passed_of self.new.tries)
-            (answered_by K.capacity J.service K.book W.contents self.old.keeper
-            self.old.output self.old.came self.old.tries)
-            (answered_by K.capacity J.service K.book W.contents self.new.keeper
-            self.new.output self.new.came self.new.tries) }
+        ensures adds { AddsJudged self.old self.new }
     {
         let Group {
             works,
@@ -128,11 +119,7 @@ impl<J: ServiceId, K: Host, W: Write> Scribe<J, K, W> {
             self.old.output.pending self.new.output.pending }
         ensures same_came { self.new.came ≡ self.old.came }
         ensures same_tries { self.new.tries ≡ self.old.tries }
-        ensures adds { AddsSome IsNotSentAway (passed_of self.new.tries)
-            (answered_by K.capacity J.service K.book W.contents self.old.keeper
-            self.old.output self.old.came self.old.tries)
-            (answered_by K.capacity J.service K.book W.contents self.new.keeper
-            self.new.output self.new.came self.new.tries) }
+        ensures adds { AddsJudged self.old self.new }
     {
         for hashed in works {
             let (line, _) = hashed.into_parts();

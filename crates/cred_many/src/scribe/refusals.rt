@@ -2,8 +2,7 @@
 
 ghost use Rattle.std.specs.List.{remove};
 ghost use Rattle.std.specs.Prelude.{◌≡◌, None};
-ghost use Rattle.cred_many.specs.Scribe.{AddsOne, AddsSome, HasTurn, IsBusy, IsNotSentAway, IsQuick, IsReady, answered_by, passed_of};
-ghost use Rattle.cred_many.specs.{Served.NeedsMemory, Turns.UsesTurn};
+ghost use Rattle.cred_many.specs.{Adds.AddsJudged, Adds.AddsQuick, Scribe.HasTurn, Scribe.IsBusy, Scribe.IsReady, Served.NeedsMemory, Turns.UsesTurn};
 
 use super::{Scribe, Starved};
 use crate::fault::ServiceFault;
@@ -23,11 +22,7 @@ impl<J: ServiceId, K: Host, W: Write> Scribe<J, K, W> {
         ensures clock { self.new.tries ≡ self.old.tries }
         ensures going { self.new.output.fault ≡ None → self.old.output.fault ≡ None }
         ensures came { self.new.came ≡ self.old.came }
-        ensures adds { AddsSome IsNotSentAway (passed_of self.new.tries)
-            (answered_by K.capacity J.service K.book W.contents self.old.keeper
-            self.old.output self.old.came self.old.tries)
-            (answered_by K.capacity J.service K.book W.contents self.new.keeper
-            self.new.output self.new.came self.new.tries) }
+        ensures adds { AddsJudged self.old self.new }
     {
         self.starve(starved.into_line());
     }
@@ -42,11 +37,7 @@ impl<J: ServiceId, K: Host, W: Write> Scribe<J, K, W> {
         ensures turns { self.new.output.fault ≡ None → UsesTurn line.number
             self.old.output.pending self.new.output.pending }
         ensures going { self.new.output.fault ≡ None → self.old.output.fault ≡ None }
-        ensures adds { AddsOne IsQuick (passed_of self.new.tries)
-            (answered_by K.capacity J.service K.book W.contents self.old.keeper
-            self.old.output self.old.came self.old.tries)
-            (answered_by K.capacity J.service K.book W.contents self.new.keeper
-            self.new.output self.new.came self.new.tries) }
+        ensures adds { AddsQuick self.old self.new }
     {
         if self.output.fault.is_some() {
             return;
@@ -65,11 +56,7 @@ impl<J: ServiceId, K: Host, W: Write> Scribe<J, K, W> {
         ensures closed { self.new.output.fault ≡ None
             → self.new.output.pending ≡ remove self.old.output.pending place }
         ensures same_came { self.new.came ≡ self.old.came }
-        ensures adds { AddsOne IsQuick (passed_of self.new.tries)
-            (answered_by K.capacity J.service K.book W.contents self.old.keeper
-            self.old.output self.old.came self.old.tries)
-            (answered_by K.capacity J.service K.book W.contents self.new.keeper
-            self.new.output self.new.came self.new.tries) }
+        ensures adds { AddsQuick self.old self.new }
     {
         if self.keeper.has_failed() {
             self.output.fault = Some(ServiceFault::Keeper);
@@ -86,11 +73,7 @@ impl<J: ServiceId, K: Host, W: Write> Scribe<J, K, W> {
         ensures closed { self.new.output.pending ≡ remove self.old.output.pending place }
         ensures same_came { self.new.came ≡ self.old.came }
         ensures same_tries { self.new.tries ≡ self.old.tries }
-        ensures adds { AddsOne IsQuick (passed_of self.new.tries)
-            (answered_by K.capacity J.service K.book W.contents self.old.keeper
-            self.old.output self.old.came self.old.tries)
-            (answered_by K.capacity J.service K.book W.contents self.new.keeper
-            self.new.output self.new.came self.new.tries) }
+        ensures adds { AddsQuick self.old self.new }
     {
         self.output.answer(place, &line, Refusal::Busy.line());
     }
