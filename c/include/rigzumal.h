@@ -262,6 +262,9 @@ enum rigzumal_reply {
  * before 3.39 IS. With = alone an ENROL would never find its copy. Compare bytes, whatever the
  * column's collation.
  *
+ * Without a copy a step computes no hash, except an ENROL. Make a record then, and discard it, so
+ * that the answer takes as long.
+ *
  * If the store updates a row only if it still has the copy, and compares and writes in one step,
  * its replies are those of one history, in which each operation was done whole at its update. This
  * holds beside any other changes that compare and write so: a reset, a record of another scheme, or
