@@ -1,12 +1,12 @@
 #!/usr/bin/env python3
-"""Lists the compiled code of others in our packages, with its licences, for `make dist`, the wheel
-and Debian's packages.
+"""Lists other projects' compiled code in our packages, with its licences, for `make dist`, the
+wheel and Debian's packages.
 
-    python3 components.py copyright PACKED       a package's file copyright, with their notices
-    python3 components.py spdx PACKED [FILE..]   an SPDX document, which lists these files too
+        python3 components.py copyright PACKED       prints a package's file copyright, with notices
+    python3 components.py spdx PACKED [FILE..]   prints an SPDX document, which lists these files
 
-PACKED is one of those in PARTS. components.json names the crates of the toolchain of which each
-part has compiled code.
+PACKED is a key of PARTS. components.json names the crates of the toolchain whose compiled code is
+in each part.
 """
 
 from __future__ import annotations
@@ -46,17 +46,17 @@ OURS = {
 
 
 def crates_in(packed: str) -> list[dict[str, Any]]:
-    """The crates of the toolchain whose compiled code is packed."""
+    """Returns the crates of the toolchain whose compiled code is in a package."""
     wanted = {*PARTS[packed]}
     return [it for it in KNOWN["crates"] if wanted & {*it["in"]}]
 
 
 def notices(packed: str) -> str:
-    """The copyright of each crate whose licence wants it named, and that licence."""
+    """Returns the licence, and the copyright of each crate whose licence requires a notice."""
     named = [it for it in crates_in(packed) if it["licence"] != NOBODY]
     if not named:
         return ""
-    parts = ["Compiled code of these crates is in it, under the licence MIT, which is below."]
+    parts = ["This package contains compiled code of these crates, under the MIT licence below."]
     for crate in named:
         lines = [f"{crate['name']}, after {crate['after']} ({crate['licence']})"]
         parts.append("\n".join([*lines, *(f"Copyright {it}" for it in crate["copyright"])]))
@@ -64,7 +64,7 @@ def notices(packed: str) -> str:
 
 
 def copyright_of(packed: str) -> str:
-    """A Debian package's file copyright: the notices are its comment."""
+    """Returns a Debian package's file copyright, with the notices as its comment."""
     head, _, rest = (HERE / "copyright").read_text().partition("\n\n")
     lines = [f" {it or '.'}" for it in notices(packed).splitlines()]
     comment = "\n".join(["", "Comment:", *lines] if lines else [])
@@ -72,7 +72,7 @@ def copyright_of(packed: str) -> str:
 
 
 def described(crate: dict[str, Any]) -> dict[str, Any]:
-    """An SPDX package of a crate."""
+    """Returns the SPDX package of a crate."""
     found = {
         "SPDXID": f"SPDXRef-crate-{crate['name'].replace('_', '-')}",
         "name": crate["name"],
@@ -81,18 +81,18 @@ def described(crate: dict[str, Any]) -> dict[str, Any]:
         "copyrightText": "; ".join(crate["copyright"]) or NOBODY,
     }
     if crate["licence"] == NOBODY:
-        return {**found, "comment": "of the Rattle toolchain, whose pages name no licence of it"}
+        return {**found, "comment": "of the Rattle toolchain, whose pages name no licence"}
     return {**found, "comment": f"of the Rattle toolchain, after {crate['after']}"}
 
 
 def package(about: dict[str, Any]) -> dict[str, Any]:
-    """An SPDX package with the fields that all of ours share."""
+    """Returns an SPDX package with the fields that all our packages share."""
     unknown = {"downloadLocation": NOBODY, "filesAnalyzed": False, "licenseConcluded": NOBODY}
     return {**about, **unknown}
 
 
 def file_of(number: int, name: str, data: bytes) -> dict[str, Any]:
-    """An SPDX file."""
+    """Returns the entry of a file in an SPDX document."""
     sums = {"SHA1": hashlib.sha1(data), "SHA256": hashlib.sha256(data)}
     return {
         "SPDXID": f"SPDXRef-file-{number}",
@@ -110,13 +110,13 @@ def related(one: str, how: str, other: str) -> dict[str, str]:
 
 
 def source_date() -> int:
-    """The time that packed files bear."""
+    """Returns the time of the files in a package."""
     done = subprocess.run([HERE / "source-date"], stdout=subprocess.PIPE, check=True)
     return int(done.stdout)
 
 
 def spdx(packed: str, files: dict[str, bytes]) -> bytes:
-    """An SPDX 2.3 document of a package, with these of its files."""
+    """Returns an SPDX 2.3 document of a package, with these of the package's files."""
     name = f"{packed}-{VERSION}"
     listed = [file_of(at, *it) for at, it in enumerate(sorted(files.items()))]
     crates = [described(it) for it in crates_in(packed)]

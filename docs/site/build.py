@@ -3,9 +3,9 @@
 
     /usr/bin/python3 docs/site/build.py [FOLDER]                 (FOLDER: out)
 
-FOLDER/site receives the input of Sphinx: the pages in their folders, with README.md as index.md; a
-page for each manual; and the references for C, from its header, and for Python, from docstrings.
-The last line of output is the path of the first page. A warning is an error.
+The tool writes the input of Sphinx to FOLDER/site: the pages in their folders, with README.md as
+index.md; a page for each manual; and the references for C, from its header, and for Python, from
+docstrings. The last line of output is the path of the first page. A warning is an error.
 """
 
 import pathlib
@@ -24,7 +24,7 @@ import promises  # noqa: E402
 
 PAGES = [*pages.PAGES, *(TOP / it / "README.md" for it in ("c", "python", "rust"))]
 HEADER, MANUALS = TOP / "c/include/rigzumal.h", sorted(TOP.glob("man/*"))
-# A page's own place on the site, or None for another file of the tree.
+# The places of these pages on the site.
 PLACES = {TOP / "README.md": "index.md", HEADER: "c/include/rigzumal.rst"}
 PLACES |= {it: f"man/{it.name}.rst" for it in MANUALS}
 CODE = re.compile(r"(^ *```.*?^ *```$|`[^`\n]+`)", re.S | re.M)
@@ -32,12 +32,12 @@ LINK = re.compile(r"(\]\()([^)\s#:]+)((?:#[^)\s]*)?\))")
 
 
 def place(path):
-    """A file's place on the site, or None if it isn't a page."""
+    """Returns a file's place on the site, or None if the file isn't a page."""
     return PLACES.get(path) or (str(path.relative_to(TOP)) if path in PAGES else None)
 
 
 def link(page, target):
-    """A page's link in the form of the site: to another page, a picture, or a source file."""
+    """Returns a page's link, to another page, a picture or a source, in the form of the site."""
     path = (page.parent / target).resolve()
     path = path / "README.md" if path.is_dir() else path
     if path.suffix in (".svg", ".png"):
@@ -49,7 +49,7 @@ def link(page, target):
 
 
 def staged(page):
-    """The text of a page, with links in the form of the site."""
+    """Returns the text of a page, with links in the form of the site."""
     text = page.read_text()
     if page == promises.PAGE:
         text = clauses.linked(text)
@@ -60,7 +60,7 @@ def staged(page):
 
 
 def index(title, names):
-    """A page that lists other pages."""
+    """Returns a page that lists other pages."""
     lines = [title, "=" * len(title), "", ".. toctree::", "   :maxdepth: 1", ""]
     return "\n".join([*lines, *(f"   {it}" for it in names), ""])
 
@@ -72,7 +72,7 @@ def manual(file):
 
 
 def all_pages():
-    """The text of each page, by its place."""
+    """Returns the text of each page, by the page's place."""
     found = {place(it): staged(it) for it in PAGES}
     found["index.md"] += "\n" + (HERE / "index.md").read_text()
     found["docs/site/python.rst"] = (HERE / "python.rst").read_text()

@@ -11,18 +11,18 @@ project = html_title = "Rigzumal"
 version = release = (TOP / "VERSION").read_text().strip()
 html_theme, html_theme_path = "theme", [str(HERE)]
 html_show_copyright = html_show_sphinx = html_copy_source = False
-# The search works without a server too, where a page can't fetch others.
+# The search also works without a server, when a page can't fetch other pages.
 html_show_search_summary = False
-# Two hyphens begin an option, and stay.
+# The pages keep the two hyphens that begin an option.
 smartquotes = False
 extensions = ["myst_parser", "sphinx.ext.autodoc", "sphinx.ext.napoleon"]
 extensions += ["docstrings", "manuals", "sources"]
 source_suffix = {".md": "markdown", ".rst": "restructuredtext"}
 
-# Anchors as forges make them, and links to a line of a source.
+# Anchors in the form of forges, and links to a line of a source.
 myst_heading_anchors = 4
 myst_url_schemes = ("http", "https", "source")
-# No lexer knows lines of a console, or the two dots of a sample.
+# No lexer accepts the lines of a console, or the two dots of a sample.
 suppress_warnings = ["misc.highlighting_failure"]
 
 # In docstrings `this` is code.

@@ -5,8 +5,7 @@ from docutils import nodes
 
 
 def samples(_, kind, name, thing, options, lines):
-    """Writes `::` before each sample; samples follow an empty line, and the parts of `Args:`
-    don't."""
+    """Writes `::` before each sample. Samples follow an empty line; the parts of `Args:` don't."""
     found, is_before = [], True
     for line, last in zip(lines, ["", *lines]):
         is_set_in = line.startswith("    ")
@@ -19,7 +18,7 @@ def samples(_, kind, name, thing, options, lines):
 
 
 def colons(app, doctree):
-    """Sphinx writes two hyphens between a name and its text."""
+    """Replaces the two hyphens that Sphinx writes between a name and its text by a colon."""
     for text in [*doctree.findall(nodes.Text)]:
         if text == " -- ":
             text.parent.replace(text, nodes.Text(": "))
