@@ -50,17 +50,13 @@ impl<R: Threads + Sync, G: Gate + Sync> Hashing<'_, R, G> {
     /// setting, with the length of the record's tag, is the record's tag.
     ///
     /// Errors: `Memory` if there is not enough for the setting.
+    #[tactic(auto, unfolding(crate::specs::Works::right))]
     pub fn is_right(&self, stored: &Record, pw: &Password) -> Result<bool, TagError>
         ensures { IfOk result (λ answer. answer ≡ right stored.now pw.now) }
     {
-        let tag = |setting: &Setting, len: u8, pw: &Password|
-            requires { IsSync R.row × IsSync G.row × (4 ≤ len) × (len ≤ 64) }
-            ensures { IfOk result (λ found. found ≡ tag setting.entry.now len pw.entry.now) }
-        { self.tag(setting, len, pw) };
-        Operations {
-            maker: TagFn { tag },
-        }
-        .is_right(stored, pw)
+        let tag = stored.tag();
+        let found = self.tag(&stored.setting(), tag.bytes().len() as u8, pw)?;
+        Ok(found == tag)
     }
 
     /// The record of this password under this setting, with a tag of 32 bytes.
@@ -69,14 +65,8 @@ impl<R: Threads + Sync, G: Gate + Sync> Hashing<'_, R, G> {
     pub fn made(&self, setting: &Setting, pw: &Password) -> Result<Record, TagError>
         ensures { IfOk result (λ stored. stored ≡ new_record setting.now pw.now) }
     {
-        let tag = |setting: &Setting, len: u8, pw: &Password|
-            requires { IsSync R.row × IsSync G.row × (4 ≤ len) × (len ≤ 64) }
-            ensures { IfOk result (λ found. found ≡ tag setting.entry.now len pw.entry.now) }
-        { self.tag(setting, len, pw) };
-        Operations {
-            maker: TagFn { tag },
-        }
-        .made(setting, pw)
+        let tag = self.tag(setting, NEW_TAG, pw)?;
+        Ok(Record::with_tag(*setting, tag))
     }
 
     fn tag(&self, setting: &Setting, len: u8, pw: &Password) -> Result<Tag, TagError>
