@@ -55,7 +55,7 @@ pub fn crash_amid<M: Alter + Drop, R, N: FnOnce(M) -> R>(
     }
 }
 
-/// The first of these runs. The store comes back as the run left it.
+/// Does the first of these runs. The store comes back as the run left it.
 pub fn run<M: Alter + Drop>(alloc: Global, store: M, changes: Vec<Attempt>) -> Ended<M>
     requires fresh { IsClean (M.Store.view store) → IsFresh (M.Store.view store) }
     ensures asked { IfOk result.told (λ answers.

@@ -122,7 +122,7 @@ fn change_of<R: Abort>(rt: &R, alloc: Global, text: &str) -> Attempt {
     }
 }
 
-/// A store that keeps the accounts of `BEFORE`.
+/// Creates a store that keeps the accounts of `BEFORE`.
 fn store<R: Abort>(rt: &R, alloc: Global) -> MemStore
     ensures { IsFresh (memory_view result) }
 {
@@ -210,7 +210,7 @@ fn each_call_of_each_change(rt: HostRuntime) {
     }
 }
 
-/// The accounts after so many changes of the long run.
+/// Returns the accounts after so many changes of the long run.
 fn after<R: Abort>(rt: &R, count: usize) -> &'static str {
     if count == 0 {
         return BEFORE;

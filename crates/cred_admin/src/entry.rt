@@ -32,7 +32,7 @@ pub enum LineFault {
 }
 
 impl LineFault {
-    /// The number of the fault, as in the answers to a script: from 1 to 9, 11, 17 or 18.
+    /// Returns the number of the fault, as in the answers to a script: from 1 to 9, 11, 17 or 18.
     pub fn number(self) -> u8
         ensures { result ≡ line_number self }
     {
@@ -45,7 +45,7 @@ impl LineFault {
         }
     }
 
-    /// The name of the fault in lower case.
+    /// Returns the name of the fault in lower case.
     pub fn word(self) -> &'static str
         ensures { result.now ≡ line_word self }
     {
@@ -110,7 +110,7 @@ fn said_as(locked: LockedRecords, name: &[u8], barred: bool, text: &[u8]) -> Res
     said_with(name, Mark::none(), text)
 }
 
-/// The account of a line whose record is locked, or whose user a field bars.
+/// Returns the account of a line whose record is locked, or whose user a field bars.
 fn said_locked(
     locked: LockedRecords,
     name: Name,
@@ -140,7 +140,7 @@ fn said_with(name: Name, mark: Mark, text: &[u8]) -> Result<Said, LineFault>
     Ok(Said::Account(LineAccount { name, stored, mark }))
 }
 
-/// The mark that stands before a record, and the text behind it.
+/// Returns the mark that stands before a record, and the text behind it.
 fn cut_mark(text: &[u8]) -> (Mark, &[u8])
     ensures mark { result.0 ≡ mark_of text.now }
     ensures rest { result.1.now ≡ rest_of text.now }
@@ -225,7 +225,7 @@ fn stored_at(text: &[u8]) -> Result<Option<Record>, LineFault>
     }
 }
 
-/// A line without the carriage return before its end.
+/// Returns a line without the carriage return before its end.
 fn without_return(line: &[u8]) -> &[u8]
     ensures { result.now ≡ without_return line.now }
 {
@@ -237,14 +237,14 @@ fn without_return(line: &[u8]) -> &[u8]
     }
 }
 
-/// The text of the record in a second field.
+/// Returns the text of the record in a second field.
 fn record_part(text: &[u8]) -> &[u8]
     ensures { result.now ≡ record_part text.now }
 {
     behind_word(behind_braces(text))
 }
 
-/// The text after a scheme in braces, if it begins with one.
+/// Returns the text after a scheme in braces, if it begins with one.
 fn behind_braces(text: &[u8]) -> &[u8]
     ensures { result.now ≡ behind_braces (pieces 125 text.now) text.now }
 {
@@ -255,7 +255,7 @@ fn behind_braces(text: &[u8]) -> &[u8]
     }
 }
 
-/// The text after Django's word, if it begins with that.
+/// Returns the text after Django's word, if it begins with that.
 fn behind_word(text: &[u8]) -> &[u8]
     ensures { result.now ≡ behind_word text.now }
 {

@@ -31,7 +31,7 @@ pub enum Fault {
 }
 
 impl Fault {
-    /// The exit status of the fault.
+    /// Returns the exit status of the fault.
     pub fn status(&self) -> Status
         ensures { result ≡ status_of_fault self.now }
     {

@@ -27,11 +27,11 @@ pub trait Host {
     /// may be kept or not.
     ghost failed: { Self → Bool };
 
-    /// The accounts.
+    /// Returns the accounts.
     fn accounts(&self) -> &Register
         ensures { result.now ≡ (book self.now).accounts };
 
-    /// The mark of an account.
+    /// Returns the mark of an account.
     fn mark_of(&self, name: &Name) -> Mark
         ensures { result ≡ (book self.now).marks name.now };
 

@@ -105,7 +105,8 @@ pub struct Gathered {
     pub bad: Vec<BadLine>,
 }
 
-/// The accounts in the lines of the reader, `NAME:RECORD` or `NAME:` each, beside this book.
+/// Gathers the accounts in the lines of the reader, `NAME:RECORD` or `NAME:` each, beside this
+/// book.
 ///
 /// Errors: `Read`; `Memory`; `Full` for over 2^24 accounts.
 pub fn gather<R: Read>(

@@ -88,7 +88,7 @@ fn write_piece<W: Write>(writer: &mut Watched<W>, text: &mut Vec<u8>) -> Result<
     Ok(())
 }
 
-/// The line of one account.
+/// Writes the line of one account.
 pub fn line_of(
     alloc: Global,
     line: LineForm,
@@ -145,8 +145,8 @@ fn push_line(
     }
 }
 
-/// The mark as the book's file has it before a record: `!` of a lock, and `~` of a password that
-/// must be changed.
+/// Returns the mark as the book's file has it before a record: `!` of a lock, and `~` of a password
+/// that must be changed.
 pub(crate) fn mark_text(mark: Mark) -> &'static [u8]
     ensures { result.now ≡ mark_text mark }
 {
@@ -158,7 +158,7 @@ pub(crate) fn mark_text(mark: Mark) -> &'static [u8]
     }
 }
 
-/// The marks that an account has, as members of its object.
+/// Returns the marks that an account has, as members of its object.
 fn json_marks(mark: Mark) -> &'static [u8]
     ensures { result.now ≡ json_marks mark }
 {
@@ -179,7 +179,7 @@ fn detail_word(detail: Detail) -> &'static [u8]
     }
 }
 
-/// A record's detail as a string, or null.
+/// Adds a record's detail as a string, or null.
 fn push_json_detail(
     alloc: Global,
     text: &mut Vec<u8>,

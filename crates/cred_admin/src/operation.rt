@@ -44,7 +44,7 @@ pub enum Operation {
 }
 
 impl Operation {
-    /// The passwords that the operation reads.
+    /// Returns the passwords that the operation reads.
     pub fn passwords(&self) -> Passwords
         ensures { result ≡ passwords_of self.now }
     {

@@ -138,7 +138,7 @@ fn read_password<R: Read>(alloc: Global, reader: &mut Watched<R>) -> Result<Pass
     Err(Fault::Password)
 }
 
-/// The next byte, or none at the end.
+/// Reads the next byte, or none at the end.
 fn next_byte<R: Read>(reader: &mut Watched<R>) -> Result<Option<u8>, Fault>
     ensures byte { (basis : Basis) → FitsSince basis reader.old reader.new
         → IfOk result (λ byte. IfSome (left_on basis R.remaining reader.old)
@@ -156,7 +156,7 @@ fn next_byte<R: Read>(reader: &mut Watched<R>) -> Result<Option<u8>, Fault>
     }
 }
 
-/// The password of these bytes.
+/// Builds the password of these bytes.
 fn password(bytes: &[u8]) -> Result<Password, Fault>
     ensures value { IfOk result (λ pw. pw ≡ bytes.now) }
     ensures long { IfErr result (λ e.

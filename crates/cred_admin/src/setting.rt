@@ -31,7 +31,7 @@ impl Model for NewSetting {
 }
 
 impl NewSetting {
-    /// The setting.
+    /// Returns the setting.
     pub fn setting(&self) -> Setting
         ensures value { result ≡ self.now }
         ensures current { is_current self.now.scheme ≡ true }
@@ -40,7 +40,7 @@ impl NewSetting {
     }
 }
 
-/// The setting of a text. A text that ends before its salt, such as
+/// Reads the setting of a text. A text that ends before its salt, such as
 /// `$argon2id$v=19$m=65536,t=3,p=4`, gets this salt.
 ///
 /// Errors: those of `parse_setting`; `Memory`.

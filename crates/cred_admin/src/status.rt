@@ -14,7 +14,7 @@ pub enum Hint {
     CarriageReturn,
 }
 
-/// The hint for this password, if any.
+/// Returns the hint for this password, if any.
 pub(crate) fn hint_of(pw: &Password) -> Option<Hint>
     ensures { result ≡ hint_of pw.now }
 {
@@ -46,7 +46,7 @@ pub enum Status {
 }
 
 impl Status {
-    /// The number of the exit status.
+    /// Returns the number of the exit status.
     pub fn number(self) -> u8
         ensures { result ≡ number_of self }
     {
@@ -62,7 +62,7 @@ impl Status {
     }
 }
 
-/// The exit status of a reply, with the hint for the password.
+/// Returns the exit status of a reply, with the hint for the password.
 pub(crate) fn status_of(reply: &Reply, hint: Option<Hint>) -> Status
     ensures { result ≡ status_of reply.now hint }
 {

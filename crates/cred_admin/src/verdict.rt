@@ -31,7 +31,7 @@ impl Verdict {
     }
 }
 
-/// The verdict's word with the line end.
+/// Returns the verdict's word with the line end.
 pub fn verdict_line(verdict: &Verdict) -> &'static [u8]
     ensures { result.now ≡ verdict_line verdict.now }
 {
@@ -42,7 +42,7 @@ pub fn verdict_line(verdict: &Verdict) -> &'static [u8]
     }
 }
 
-/// The exit status for the verdict, with the hint for the password.
+/// Returns the exit status for the verdict, with the hint for the password.
 pub(crate) fn verdict_status(verdict: &Verdict, hint: Option<Hint>) -> Status
     ensures { result ≡ verdict_status verdict.now hint }
 {
@@ -77,7 +77,7 @@ pub fn commit_try<K: Host>(keeper: &mut K, worked: Worked) -> Result<Verdict, (W
     }
 }
 
-/// The answer in place of this reply, at an account with this mark and this record.
+/// Returns the answer that replaces this reply at an account with this mark and this record.
 fn barred(mark: Mark, request: &Request, now: &Option<Record>, reply: Reply) -> Option<Verdict>
     ensures { result ≡ barred_by mark request.now now.now reply }
 {
@@ -90,7 +90,8 @@ fn barred(mark: Mark, request: &Request, now: &Option<Record>, reply: Reply) -> 
     None
 }
 
-/// The reply that a wrong password has at this record. A first record isn't made either.
+/// Returns the reply that a wrong password has at this record. Such an account gets no first record
+/// either.
 fn shut(request: &Request, stored: &Option<Record>) -> Reply
     ensures { result ≡ shut request.now stored.now }
 {
@@ -102,7 +103,7 @@ fn shut(request: &Request, stored: &Option<Record>) -> Reply
     }
 }
 
-/// The answer in place of this reply, where the password must be changed.
+/// Returns the answer that replaces this reply if the password must be changed.
 fn due(request: &Request, reply: Reply) -> Option<Verdict>
     ensures { result ≡ due request.now reply }
 {

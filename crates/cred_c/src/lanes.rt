@@ -60,7 +60,7 @@ pub extern "C" fn cred_argon2_begin(
     }
 }
 
-/// The same by parameters.
+/// Does the same by parameters.
 pub(crate) fn begin(params: &Params, inputs: &Inputs<'_>, first: &mut [Block]) -> u8
     ensures { IsBegun params.now (tag_inputs inputs.now) result first.old first.new }
 {

@@ -43,7 +43,7 @@ pub enum StepFault {
 }
 
 impl StepFault {
-    /// The number of the fault: 24, 25, or that of the setting's.
+    /// Returns the number of the fault: 24, 25, or that of the setting's.
     pub(crate) fn number(self) -> u8
         ensures { result ≡ fault_number self }
     {
@@ -55,7 +55,7 @@ impl StepFault {
     }
 }
 
-/// The operation of a number: 1 to 5.
+/// Returns the operation of a number: 1 to 5.
 pub(crate) fn operation_of(number: u32) -> Option<RecordOperation>
     ensures found { (o : RecordOperation) → number ≡ operation_number o → result ≡ Some o }
     ensures only { IfSome result (λ o. number ≡ operation_number o) }
@@ -71,7 +71,7 @@ pub(crate) fn operation_of(number: u32) -> Option<RecordOperation>
     }
 }
 
-/// The record of a copy's text, if it isn't empty.
+/// Reads the record of a copy's text, if the text isn't empty.
 pub(crate) fn copy_of(text: &[u8]) -> Result<Option<Record>, StepFault>
     ensures copy { IfOk result (λ copy. IsCopy text.now copy) }
     ensures fault { IfErr result (λ fault. copy_fault text.now ≡ Some fault) }
@@ -86,7 +86,7 @@ pub(crate) fn copy_of(text: &[u8]) -> Result<Option<Record>, StepFault>
     }
 }
 
-/// The request of a step, of an account whose name plays no part.
+/// Returns the request of a step, of an account whose name plays no part.
 pub(crate) fn request_of(
     operation: RecordOperation,
     inputs: &StepInputs<'_>,

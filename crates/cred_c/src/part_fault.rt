@@ -22,7 +22,7 @@ pub enum PartFault {
 }
 
 impl PartFault {
-    /// The number of the fault.
+    /// Returns the number of the fault.
     pub(crate) fn number(self) -> u8
         ensures { result ≡ part_fault_number self }
     {

@@ -25,7 +25,7 @@ pub struct Parts {
     pub tag_len: u32,
 }
 
-/// The number of the first fault of a setting's text, or 0 if it stands for one.
+/// Returns the number of the first fault of a setting's text, or 0 if it stands for one.
 #[unsafe(no_mangle)]
 pub extern "C" fn cred_setting_fault(text: &[u8]) -> u8
     ensures fault { (e : PhcError) → setting_fault text.now ≡ Some e → result ≡ error_number e }
@@ -37,7 +37,7 @@ pub extern "C" fn cred_setting_fault(text: &[u8]) -> u8
     }
 }
 
-/// The number of the first fault of a record's text, or 0 if it stands for one.
+/// Returns the number of the first fault of a record's text, or 0 if it stands for one.
 #[unsafe(no_mangle)]
 pub extern "C" fn cred_record_fault(text: &[u8]) -> u8
     ensures fault { (e : PhcError) → record_fault text.now ≡ Some e → result ≡ error_number e }
@@ -69,7 +69,7 @@ pub extern "C" fn cred_record_parts(text: &[u8], parts: &mut Parts) -> u8
     }
 }
 
-/// The parts of a record.
+/// Returns the parts of a record.
 fn parts_of(stored: &Record) -> Parts
     ensures value { result ≡ parts_of stored.now }
     ensures ranges { IsRecord stored.now }
@@ -105,7 +105,7 @@ fn parts_of(stored: &Record) -> Parts
     }
 }
 
-/// The number of a variant.
+/// Returns the number of a variant.
 fn variant_number(variant: Variant) -> u32
     ensures { result ≡ variant_number variant }
 {

@@ -59,7 +59,7 @@ impl SettingReading {
         }
     }
 
-    /// The setting that was read, if one was.
+    /// Returns the setting that was read, if one was.
     pub(crate) fn setting(&self) -> Option<Setting>
         ensures found { (s : SettingValue) → IsSetting s → IsReadSetting self.now s
             → result ≡ Some s }
@@ -92,7 +92,7 @@ impl RecordReading {
         answer
     }
 
-    /// The record that was read, if one was.
+    /// Returns the record that was read, if one was.
     pub(crate) fn record(&self) -> Option<Record>
         ensures found { (v : RecordValue) → IsRecord v → IsReadRecord self.now v
             → result ≡ Some v }
@@ -114,7 +114,7 @@ fn padded<const LEN: usize>(bytes: &[u8]) -> [u8; LEN]
     cells
 }
 
-/// The scheme of Argon2 that the numbers are of.
+/// Returns the scheme of Argon2 that the numbers are of.
 fn scheme_of(numbers: &TagNumbers) -> Option<Scheme>
     ensures found { (scheme : Scheme) → IsTrue (scheme_fits scheme)
         → tag_numbers scheme numbers.now.tag_len ≡ Some numbers.now → result ≡ Some scheme }

@@ -171,7 +171,7 @@ fn hash_end(
     }
 }
 
-/// The number of bytes of a record's tag: 4 to 64.
+/// Returns the number of bytes of a record's tag: 4 to 64.
 fn tag_len_of(stored: &Record) -> u8
     ensures value { result ≡ length stored.now.tag }
     ensures low { 4 ≤ result }
@@ -203,7 +203,7 @@ fn begin_under(setting: &Setting, tag_len: u8, pw: &[u8], first: &mut [Block]) -
     }
 }
 
-/// The tag of the last slice, worked under a setting of Argon2.
+/// Computes the tag of the last slice, worked under a setting of Argon2.
 fn tag_from(alloc: Global, setting: &Setting, tag_len: u8, last: &[Block]) -> Result<Tag, PartFault>
     requires low { 4 ≤ tag_len }
     requires high { tag_len ≤ 64 }

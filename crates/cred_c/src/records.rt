@@ -86,7 +86,7 @@ pub extern "C" fn cred_hash(
     }
 }
 
-/// The same under a setting.
+/// Writes such a record under a setting.
 fn hash(
     alloc: Global,
     setting: &Setting,

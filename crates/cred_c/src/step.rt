@@ -58,7 +58,7 @@ pub extern "C" fn cred_step(
     }
 }
 
-/// The request of a step, with the copy.
+/// Returns the request of a step, with the copy.
 fn begun(operation: RecordOperation, inputs: &StepInputs<'_>) -> Result<Ticket, StepFault>
     ensures asked { IfOk result (λ task. AsksFor operation inputs.now task.0) }
     ensures copy { IfOk result (λ task. IsCopy inputs.now.copy.now task.1) }
@@ -106,7 +106,7 @@ fn put_after(
     }
 }
 
-/// The number of a reply: 1 to 12, in their order.
+/// Returns the number of a reply: 1 to 12, in their order.
 fn reply_number(reply: Reply) -> u32
     ensures { result ≡ reply_number reply }
 {

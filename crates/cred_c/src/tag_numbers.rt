@@ -37,7 +37,7 @@ pub struct TagNumbers {
     pub tag_len: u32,
 }
 
-/// The parameters that the numbers stand for, or what is wrong with them.
+/// Returns the parameters that the numbers stand for, or what is wrong with them.
 pub(crate) fn params_of(numbers: &TagNumbers) -> Result<Params, PartFault>
     ensures ok { (a : Parameters) → (result ≡ Ok a) ↔ StandFor numbers.now a }
     ensures err { (f : PartFault) → (result ≡ Err f) ↔ IsNumbersFault numbers.now f }
@@ -61,7 +61,7 @@ pub(crate) fn params_of(numbers: &TagNumbers) -> Result<Params, PartFault>
     }
 }
 
-/// The numbers of parameters.
+/// Returns the numbers of parameters.
 pub(crate) fn numbers_of(params: &Params) -> TagNumbers
     requires { IsRaw params.now }
     ensures { StandFor result params.now }

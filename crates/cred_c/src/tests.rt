@@ -143,7 +143,7 @@ fn parts_ended(rt: HostRuntime) {
     assert_eq!(rt; (len, out.starts_with(SETTING)), (84, true));
 }
 
-/// The answer of a step and its reply, and whether it wrote this text.
+/// Returns the answer of a step, its reply, and whether the step wrote this text.
 fn step(alloc: Global, asked: &StepInputs<'_>, text: &[u8]) -> (u8, u32, bool) {
     let (mut out, mut len, mut reply) = ([b'.'; 96], 9, 77);
     let answer = cred_step(alloc, asked, &mut reply, &mut out, &mut len);

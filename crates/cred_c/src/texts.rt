@@ -59,7 +59,7 @@ pub extern "C" fn cred_write(
     }
 }
 
-/// The record of these parts.
+/// Builds the record of these parts.
 fn record_of_parts(scheme: Scheme, salt: &[u8], tag: &[u8]) -> Result<Record, PhcError>
     ensures { result ≡ record_of_parts scheme salt.now tag.now }
 {

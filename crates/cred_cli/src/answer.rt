@@ -32,14 +32,14 @@ pub enum AnswerLine {
 }
 
 impl AnswerLine {
-    /// The answer to a refused line.
+    /// Returns the answer to a refused line.
     pub fn bad(why: Refusal) -> AnswerLine
         ensures { line_bytes result ≡ line_of (Refused why) }
     {
         AnswerLine::Fixed(why.line())
     }
 
-    /// The text of a record.
+    /// Returns the text of a record.
     pub fn shown(alloc: Global, stored: &Record) -> Result<AnswerLine, AllocError>
         ensures { IfOk result (λ line. line_bytes line ≡ line_of (Shown (Some stored.now))) }
     {
@@ -144,8 +144,8 @@ fn commit<T: Threads + Wait + Sync, K: Keeper>(
     Ok(AnswerLine::Fixed(reply_line(&reply)))
 }
 
-/// The reply's word with the line end. The text is a constant, so that a change needs no memory for
-/// its answer.
+/// Returns the reply's word with the line end. The text is a constant, so that a change needs no
+/// memory for its answer.
 pub fn reply_line(reply: &Reply) -> &'static [u8]
     ensures { result.now ≡ reply_line reply.now }
 {
@@ -176,7 +176,7 @@ fn refused(refusal: BookError) -> Result<AnswerLine, AllocError>
     }
 }
 
-/// A record's text with its line end.
+/// Returns a record's text with its line end.
 pub(crate) fn record_line(alloc: Global, stored: &Record) -> Result<Vec<u8>, AllocError>
     ensures { IfOk result (λ line. line.items ≡ line_of (Shown (Some stored.now))) }
 {

@@ -30,7 +30,7 @@ pub(crate) enum Event {
 }
 
 impl Event {
-    /// The operation that the line asks for.
+    /// Returns the operation that the line asks for.
     #[tactic(auto, unfolding(crate::specs::Events::event_of))]
     pub(crate) fn of_line(line: &[u8]) -> Event
         ensures event { result ≡ event_of line.now }
@@ -111,8 +111,8 @@ fn begin_event(fields: &[&[u8]]) -> Result<Event, Refusal>
     }
 }
 
-/// The event that begins a request under this number. A line with another word or number of fields
-/// is refused before its number is read; otherwise the number is judged first.
+/// Returns the event that begins a request under this number. A line with another word or number of
+/// fields is refused before its number is read; otherwise the number is judged first.
 fn begun(key: &[u8], request: Result<Request, Refusal>) -> Result<Event, Refusal>
     requires { IfOk request (λ request. is_for_current request ≡ true) }
     ensures event { result ≡ begun key.now request }

@@ -19,7 +19,7 @@ pub(crate) enum ExitStatus {
 }
 
 impl ExitStatus {
-    /// The exit status: 0 to 4, in their order.
+    /// Returns the exit status: 0 to 4, in their order.
     pub(crate) fn number(self) -> u8
         ensures { result ≡ status_number self }
     {

@@ -32,7 +32,7 @@ impl From<AllocError> for ScriptFault {
 }
 
 impl ScriptFault {
-    /// The number of the error, from 1 to 4.
+    /// Returns the number of the error, from 1 to 4.
     pub fn number(self) -> u8
         ensures { result ≡ error_number self }
     {
@@ -44,7 +44,7 @@ impl ScriptFault {
         }
     }
 
-    /// The name of the error in lower case, as `toolong`.
+    /// Returns the name of the error in lower case, as `toolong`.
     pub fn word(self) -> &'static str
         ensures { result.now ≡ error_word self }
     {

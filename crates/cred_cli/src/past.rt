@@ -33,14 +33,14 @@ pub(crate) trait Note {
 }
 
 impl Past {
-    /// The past of no call, under some name.
+    /// Builds the past of no call, under some name.
     pub(crate) fn new() -> Past
         ensures { (result.given ≡ []) × (result.taken ≡ []) × (result.calls ≡ []) }
     {
         Past {}
     }
 
-    /// The past with this note.
+    /// Returns the past with this note.
     pub(crate) fn and<N: Note>(&self, note: &N) -> Past
         ensures { result ≡ N.noted note.now self.now }
     {

@@ -35,7 +35,7 @@ where
     exit_code(&ended)
 }
 
-/// The status of the command, if its words are UTF-8 and memory for them suffices.
+/// Returns the status of the command, if its words are UTF-8 and memory for them suffices.
 fn exit_code(ended: &io::Result<u8>) -> ExitCode
     ensures { MatchResult ended.now (λ status. exit_status result ≡ status)
         (λ _. (exit_status result ≡ status_number ExitStatus.Refused)

@@ -98,7 +98,7 @@ impl<X> Watched<X> {
         }
     }
 
-    /// The number of calls, which stays at `u64::MAX`.
+    /// Returns the number of calls, which stays at `u64::MAX`.
     pub fn calls(&self) -> u64
         ensures { result ≡ calls_of self.now }
     {
@@ -119,7 +119,7 @@ impl<X> Watched<X> {
         self.ended
     }
 
-    /// The reader or writer itself.
+    /// Returns the reader or writer itself.
     pub fn into_inner(self) -> X
         ensures { result ≡ inner_of self }
     {

@@ -94,7 +94,7 @@ impl Lost {
         Lost { error, attempt }
     }
 
-    /// The loss of one account's new record.
+    /// Returns the loss of one account's new record.
     pub(crate) fn put(error: Error, name: Name, stored: Option<Record>) -> Lost
         ensures { result ≡ record { error = error; attempt = Attempt.Put name stored } }
     {

@@ -125,21 +125,21 @@ impl<S: Alter> FileBook<S> {
         }
     }
 
-    /// The book, as the answers so far describe it.
+    /// Returns the book, as the answers so far describe it.
     pub fn book(&self) -> &Register
         ensures { result.now ≡ self.now.book }
     {
         &self.book
     }
 
-    /// The marks of its accounts.
+    /// Returns the marks of its accounts.
     pub fn marks(&self) -> &Marks
         ensures { result.now ≡ self.now.marks }
     {
         &self.marks
     }
 
-    /// The marks of a name; none if the book doesn't have it.
+    /// Returns the marks of a name, or no marks if the book doesn't have the name.
     pub fn mark_of(&self, name: &Name) -> Mark
         ensures { result ≡ mark_in (cells self.now) name.now }
     {
@@ -149,15 +149,15 @@ impl<S: Alter> FileBook<S> {
         self.marks.at(name)
     }
 
-    /// The change that was under way as the database failed, if it did.
+    /// Returns the change that was under way as the database failed, if it did.
     pub fn lost(&self) -> Option<&Lost>
         ensures { option_map (λ l. l.now) result ≡ self.now.lost }
     {
         self.lost.as_ref()
     }
 
-    /// A law: the table is the book's until a change is lost, and a crash leaves the book, or the
-    /// book with the lost change.
+    /// The law of a kept book: the table is the book's until a change is lost, and a crash leaves
+    /// the book, or the book with the lost change.
     pub fn keeps(&self)
         ensures { Keeps S.Store self.now.conn (cells self.now) self.now.lost }
     {

@@ -9,12 +9,12 @@ ghost use Rattle.cred_file.specs.Cells.{is_marked, renewed, renewed_with, unmark
 pub struct Mark {
     /// No password opens the account.
     pub locked: bool,
-    /// The password opens it, and is to be changed.
+    /// The password opens the account, and must be changed.
     pub must_change: bool,
 }
 
 impl Mark {
-    /// Neither of them.
+    /// Returns no marks.
     pub fn none() -> Mark
         ensures { result ≡ unmarked }
     {
@@ -24,14 +24,14 @@ impl Mark {
         }
     }
 
-    /// Whether it is any of them.
+    /// Whether the account has any mark.
     pub fn is_marked(self) -> bool
         ensures { result ≡ is_marked self }
     {
         self.locked || self.must_change
     }
 
-    /// The mark after the record is replaced: a lock stays.
+    /// Returns the mark after the record is replaced: a lock stays.
     pub fn renewed(self) -> Mark
         ensures { result ≡ renewed self }
     {
@@ -41,7 +41,7 @@ impl Mark {
         }
     }
 
-    /// The mark after the record is replaced by one that comes with a mark: a lock stays.
+    /// Returns the mark after the record is replaced by one that comes with a mark: a lock stays.
     pub fn renewed_with(self, given: Mark) -> Mark
         ensures { result ≡ renewed_with given self }
     {

@@ -34,7 +34,7 @@ impl Model for Marks {
 }
 
 impl Marks {
-    /// A map in which no name is marked.
+    /// Creates a map in which no name is marked.
     pub fn new(alloc: Global) -> Marks
         ensures { result ≡ map.empty }
     {
@@ -43,7 +43,7 @@ impl Marks {
         }
     }
 
-    /// The mark of a name.
+    /// Returns the mark of a name.
     pub fn at(&self, name: &Name) -> Mark
         ensures { result ≡ mark_at self.now name.now }
     {
@@ -53,7 +53,8 @@ impl Marks {
         }
     }
 
-    /// The names with their marks, in the order of the names. A name that is there may have none.
+    /// Returns the names with their marks, in the order of the names. A name that is there may have
+    /// none.
     pub fn iter(&self) -> btree_map::Iter<'_, Name, Mark>
         ensures { result ≡ map.entries self.now }
     {

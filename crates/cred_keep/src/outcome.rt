@@ -19,7 +19,7 @@ pub enum OrderResult {
 }
 
 impl OrderResult {
-    /// The exit status of the result.
+    /// Returns the exit status of the result.
     pub fn status(&self) -> Status
         ensures { result ≡ status_of_order_result self.now }
     {
@@ -42,7 +42,7 @@ pub enum Failure {
 }
 
 impl Failure {
-    /// The exit status of the fault.
+    /// Returns the exit status of the fault.
     pub fn status(&self) -> Status
         ensures { result ≡ status_of_failure self.now }
     {

@@ -157,8 +157,8 @@ fn tell_why<F: Write>(faults: &mut F, why: LineFault) -> io::Result<()> {
         LineFault::Book(refusal) => write!(faults, "{refusal}"),
         LineFault::Locked => write!(
             faults,
-            "its record is locked, by !, ~, * or a field as nologin: --disable-locked drops it, \
-             and --keep-locked keeps one behind ! or ~"
+            "its record is locked, by !, ~, * or a field such as nologin: --disable-locked drops \
+             it, and --keep-locked keeps one behind ! or ~"
         ),
         LineFault::Costly => write!(
             faults,
@@ -216,7 +216,7 @@ fn tell_database<F: Write>(faults: &mut F, error: Error) -> io::Result<()> {
         Error::SqliteFailure(ErrorCode::DatabaseCorrupt | ErrorCode::NotADatabase) => {
             writeln!(
                 faults,
-                "credkeep: the file is damaged, or no book's: {error}"
+                "credkeep: the file is damaged, or holds no book: {error}"
             )
         }
         Error::SqliteFailure(ErrorCode::CannotOpen) => {
