@@ -11,7 +11,7 @@ use std::marker::Model;
 /// A salt for a text that has none: 8 bytes of zero in base64.
 const ANY_SALT: &[u8] = b"$AAAAAAAAAAA";
 
-/// A setting for new records: its version isn't 0x10.
+/// A setting for new records, whose version isn't 0x10.
 #[derive(Clone, Copy, Debug, PartialEq, Eq)]
 pub struct NewSetting {
     setting: Setting,

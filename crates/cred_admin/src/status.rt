@@ -36,12 +36,12 @@ pub enum Status {
     Io,
     /// Memory ran out.
     Memory,
-    /// The book says no: another password (perhaps with a hint), no such account, no record, or one
-    /// already.
+    /// The book says no: another password (perhaps with a hint), no such account, no record, or an
+    /// existing one.
     No(Option<Hint>),
     /// The database failed, is busy, or holds no book.
     Database,
-    /// The input is wrong: a password, no password, a line, or one account too many.
+    /// The input is wrong: a bad password or none, a bad line, or one account too many.
     Data,
 }
 

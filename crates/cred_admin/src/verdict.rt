@@ -14,7 +14,7 @@ use cred_phc::Record;
 /// The answer to a try at an account.
 #[derive(Clone, Copy, Debug, PartialEq, Eq)]
 pub enum Verdict {
-    /// The reply to the operation. At a locked account it is the one that a wrong password has.
+    /// The reply to the operation. At a locked account this is the reply to a wrong password.
     Told(Reply),
     /// The password is right, and must be changed. Nothing was done.
     Expired,
@@ -23,7 +23,7 @@ pub enum Verdict {
 }
 
 impl Verdict {
-    /// Whether the commit found another record than the copy.
+    /// Whether the commit found a record that differs from the copy.
     pub fn is_outdated(&self) -> bool
         ensures { result ≡ is_outdated self.now }
     {
@@ -52,10 +52,10 @@ pub(crate) fn verdict_status(verdict: &Verdict, hint: Option<Hint>) -> Status
     }
 }
 
-/// Does a whole operation at the record that was copied, as far as the marks allow that its account
-/// has now. A mark that came after the copy counts.
+/// Does a whole operation at the copied record, as far as the present marks of its account allow. A
+/// mark that came after the copy counts too.
 ///
-/// Errors: `Memory`; the work comes back, and nothing is changed.
+/// Errors: `Memory`. The work comes back, and nothing changes.
 #[tactic(auto, using(crate::proofs::Heeding::heeding))]
 pub fn commit_try<K: Host>(keeper: &mut K, worked: Worked) -> Result<Verdict, (Worked, BookError)>
     ensures done { IfOk result
@@ -114,7 +114,7 @@ fn due(request: &Request, reply: Reply) -> Option<Verdict>
     }
 }
 
-/// Whether it is a change to the password that stands.
+/// Whether the request changes a password to the present one.
 fn keeps_password(request: &Request) -> bool
     ensures { result ≡ keeps_password request.now }
 {

@@ -1,4 +1,4 @@
-//! The numbers that the exports answer, and those that they are given.
+//! The numbers that the exports answer, and those that they receive.
 ghost use Rattle.std.specs.Prelude.{◌≡◌, ◌<◌, ◌≤◌, ◌↔◌, IfSome, None, Some};
 ghost use Rattle.cred_argon.specs.{Numbers.kind_number, Numbers.version_number, declared.kind.Kind.Kind, declared.kind.Version.Version};
 ghost use Rattle.cred_c.specs.{Answers.argon_number, Answers.scrypt_number, Inputs.IsVersion, Parts.variant_number};
@@ -8,7 +8,7 @@ use cred_argon::{ArgonError, Kind, Version};
 use cred_phc::Variant;
 use cred_scrypt::ScryptError;
 
-/// It was done.
+/// The call did its work.
 pub(crate) const DONE: u8 = 0;
 
 /// The record is of another password.

@@ -1,4 +1,4 @@
-//! The numbers of a tag: those of Argon2, and with its length if it is worked in parts.
+//! The numbers of a tag: those of Argon2, and also its length if the tag is worked in parts.
 ghost use Rattle.std.specs.Prelude.{◌≡◌, ◌↔◌, Ok, Err};
 ghost use Rattle.cred_argon.specs.Parameters.{Parameters, IsRaw};
 ghost use Rattle.cred_c.specs.{Lanes.IsNumbersFault, Lanes.StandFor, declared.part_fault.PartFault.PartFault};
@@ -37,7 +37,7 @@ pub struct TagNumbers {
     pub tag_len: u32,
 }
 
-/// Returns the parameters that the numbers stand for, or what is wrong with them.
+/// Returns the parameters that the numbers stand for, or the fault of the numbers.
 pub(crate) fn params_of(numbers: &TagNumbers) -> Result<Params, PartFault>
     ensures ok { (a : Parameters) → (result ≡ Ok a) ↔ StandFor numbers.now a }
     ensures err { (f : PartFault) → (result ≡ Err f) ↔ IsNumbersFault numbers.now f }

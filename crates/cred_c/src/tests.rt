@@ -1,7 +1,8 @@
-//! Tests that the exports which need memory get it, by the standards' vectors and the texts of
-//! other programs. c/tests has each fault, and the results of parts that are worked in their order.
+//! These tests show that the exports that need memory get it, with the standards' vectors and the
+//! texts of other programs. c/tests shows each fault, and the results of parts that are worked in
+//! their order.
 //!
-//! Of long tags and keys the tests compare the first bytes: a clause has the others.
+//! The tests compare only the first bytes of long tags and keys: a clause covers the others.
 
 use crate::lanes::cred_argon2_end;
 use crate::operation::StepInputs;
@@ -16,13 +17,13 @@ use crate::texts::cred_write;
 use cred_argon::{Block, Inputs};
 use std::alloc::Global;
 
-/// The record of `password` and `somesalt` by the reference program of Argon2.
+/// The setting and the record of `password` and `somesalt`, by the reference program of Argon2.
 const SETTING: &[u8] = b"$argon2id$v=19$m=256,t=2,p=1$c29tZXNhbHQ";
 
 const RECORD: &[u8] =
     b"$argon2id$v=19$m=256,t=2,p=1$c29tZXNhbHQ$nf65EOgLrQMR/uIPnA4rEsF5h7TKyQwu9U1bMCHGi/4";
 
-/// The same of argon2i.
+/// The same for argon2i.
 const RENEWED_SETTING: &[u8] = b"$argon2i$v=19$m=256,t=2,p=1$c29tZXNhbHQ";
 
 const RENEWED: &[u8] =
@@ -49,7 +50,7 @@ const INPUTS: Inputs<'static> = Inputs {
     assoc: &[4; 12],
 };
 
-/// Those of `RECORD`.
+/// The inputs of `RECORD`.
 const RECORD_INPUTS: Inputs<'static> = Inputs {
     pw: b"password",
     salt: b"somesalt",

@@ -23,8 +23,8 @@ use std::io::Write;
 use std::sync::Wait;
 use std::thread::Threads;
 
-/// The bytes of an answer with its line end. Only a record's text is allocated; the others are
-/// fixed, so that no change and no refused line can lack memory for its answer.
+/// The bytes of an answer with its line end. Only a record's text needs an allocation. The other
+/// answers are fixed, so no change and no refused line can lack memory for its answer.
 #[derive(Drop)]
 pub enum AnswerLine {
     Fixed(&'static [u8]),
@@ -73,7 +73,8 @@ impl AnswerLine {
     }
 }
 
-/// Applies the event to the keeper's book and the open tickets. Without memory the book stays.
+/// Applies the event to the keeper's book and the open tickets. If memory runs out, the book stays
+/// as it was.
 pub(crate) fn do_event<T: Threads + Wait + Sync, K: Keeper>(
     tools: &Tools<'_, T>,
     keeper: &mut K,

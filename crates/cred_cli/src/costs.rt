@@ -28,7 +28,7 @@ pub fn memory_alone(setting: &Setting) -> u64
     }
 }
 
-/// Returns the KiB of so many tables of scrypt's.
+/// Returns the KiB of so many of scrypt's tables.
 fn tables_kib(tables: u8, ln: u8, r: u8) -> u64
     requires cost { ln ≤ 24 }
     requires room { r * 2 ^ ln ≤ 2 ^ 24 }
@@ -38,8 +38,8 @@ fn tables_kib(tables: u8, ln: u8, r: u8) -> u64
     (u64::from(tables) * rows + 7) / 8
 }
 
-/// Returns the work of a hash of this setting in KiB, each counted at every pass over it: `m` `t`
-/// of Argon2, and twice the memory of scrypt's tables, which are filled and then mixed.
+/// Returns the work of a hash of this setting in KiB, with each KiB counted at every pass over it:
+/// `m` `t` of Argon2, and twice the memory of scrypt's tables, which are filled and then mixed.
 pub fn work_of(setting: &Setting) -> u64
     ensures { result ≡ work_of setting.now.scheme }
 {
@@ -70,7 +70,7 @@ impl CostBounds {
     }
 }
 
-/// Whether a hash of this setting needs more memory or more work than is allowed.
+/// Whether a hash of this setting needs more memory or more work than these bounds allow.
 pub fn exceeds(most: &CostBounds, setting: &Setting) -> bool
     ensures { result ≡ exceeds most.now setting.now.scheme }
 {
@@ -86,8 +86,8 @@ fn is_above(most: Option<u64>, cost: u64) -> bool
     }
 }
 
-/// Whether the record that the request would make has a setting that needs more than is
-/// allowed.
+/// Whether the record that the request would make has a setting that needs more than these bounds
+/// allow.
 pub fn request_exceeds(most: &CostBounds, request: &Request) -> bool
     ensures { result ≡ request_exceeds most.now request.now }
 {

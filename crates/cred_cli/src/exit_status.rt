@@ -6,15 +6,15 @@ ghost use Rattle.cred_cli.specs.Statuses.{status_number};
 /// The end of the program.
 #[derive(Clone, Copy)]
 pub(crate) enum ExitStatus {
-    /// Everything was done; a checked record is the password's.
+    /// The program did everything, or the checked record is the password's.
     Done,
     /// The words, or a setting, a record or a password among them, were refused.
     Refused,
     /// A read or a write failed, or a script was too long.
     Failed,
-    /// Memory was refused.
+    /// Memory ran out.
     OutOfMemory,
-    /// A checked record isn't the password's.
+    /// The checked record isn't the password's.
     No,
 }
 

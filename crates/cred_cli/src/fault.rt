@@ -15,7 +15,7 @@ pub enum ScriptFault {
     /// The writer failed, or took no byte.
     #[error("the writer failed, or took no byte")]
     Write,
-    /// No memory for the script.
+    /// Memory ran out.
     #[error("out of memory")]
     Memory,
     /// The script has over 1048576 bytes.

@@ -1,5 +1,5 @@
-//! The fields of a line. A function refuses more or fewer fields than it reads with `Line`, and
-//! otherwise with the fault of the first bad field from the left.
+//! The fields of a line. A function refuses more or fewer fields than it reads as `Line`. Otherwise
+//! it refuses them with the fault of the first bad field from the left.
 
 ghost use Rattle.std.specs.Prelude.{◌≡◌, ◌≤◌, IfOk, IfSome, map, true};
 ghost use Rattle.cred_phc.specs.Ranges.{is_current};
@@ -111,8 +111,8 @@ pub fn name_password_setting(
     Ok((account, pw, setting))
 }
 
-/// Returns the setting that a line gives after its other fields, or the drawn one. Too many fields
-/// refuse the line before any other is read.
+/// Returns the setting that a line gives after its other fields, or the drawn one. Refuses too many
+/// fields before it reads any.
 fn own_setting(own: &[&[u8]], drawn: Option<Setting>) -> Result<Result<Setting, Refusal>, Refusal>
     requires { IfSome drawn (λ s. is_current s.scheme ≡ true) }
     ensures read { result ≡ own_setting (map (λ s. s.now) own.now) drawn }

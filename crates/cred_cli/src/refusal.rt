@@ -26,7 +26,7 @@ pub enum Refusal {
     Costly,
     /// The text of a setting or a record has this fault.
     Text(PhcError),
-    /// The book refuses.
+    /// The book refuses the operation.
     Book(BookError),
 }
 

@@ -3,8 +3,8 @@
 ghost use Rattle.std.specs.Prelude.{◌≡◌};
 ghost use Rattle.cred_file.specs.Cells.{is_marked, renewed, renewed_with, unmarked};
 
-/// An administrator's mark on an account, beside its record. In a book's table the mark precedes
-/// the record's text, as `!` and `~`.
+/// An administrator's mark on an account, beside the account's record. In a book's table the mark
+/// precedes the record's text, as `!` and `~`.
 #[derive(Clone, Copy, Debug, PartialEq, Eq)]
 pub struct Mark {
     /// No password opens the account.
@@ -31,7 +31,7 @@ impl Mark {
         self.locked || self.must_change
     }
 
-    /// Returns the mark after the record is replaced: a lock stays.
+    /// Returns the mark after a new record replaces the old one: a lock stays.
     pub fn renewed(self) -> Mark
         ensures { result ≡ renewed self }
     {
@@ -41,7 +41,8 @@ impl Mark {
         }
     }
 
-    /// Returns the mark after the record is replaced by one that comes with a mark: a lock stays.
+    /// Returns the mark after a new record with a mark of its own replaces the old one: a lock
+    /// stays.
     pub fn renewed_with(self, given: Mark) -> Mark
         ensures { result ≡ renewed_with given self }
     {

@@ -140,8 +140,8 @@ fn read_name(value: ValueRef<'_>) -> Option<Name>
     }
 }
 
-/// NULL means no record and no mark, which is no fault. The fault is that of the text; another
-/// value has none.
+/// Reads NULL as no record and no mark, which is no fault. A fault is that of the text. A value of
+/// another type has no such fault.
 fn read_stored(value: ValueRef<'_>) -> Result<(Option<Record>, Mark), Option<PhcError>>
     ensures { MatchResult result (λ c. Tells (owned value.entry) (cell c.0 c.1))
         (λ why. is_no_record why (owned value.entry) ≡ true) }
@@ -184,7 +184,8 @@ fn begins(byte: u8, text: &[u8]) -> bool
     }
 }
 
-/// Returns the text after this byte if the text begins with the byte, and the whole text otherwise.
+/// Returns the text after this byte if the text begins with this byte, and otherwise the whole
+/// text.
 fn past(byte: u8, text: &[u8]) -> &[u8]
     ensures { result.now ≡ past byte text.now }
 {

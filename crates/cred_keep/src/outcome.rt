@@ -37,7 +37,7 @@ pub enum Failure {
     Command(Fault),
     /// An import met this fault.
     Import(ImportFault),
-    /// The database failed; the book's `lost` is the change that was under way.
+    /// The database failed. The book's `lost` is the change that was under way.
     Database,
 }
 

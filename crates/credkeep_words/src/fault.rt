@@ -10,7 +10,7 @@ use std::{fmt, io};
 pub enum FileFault {
     NoFile,
     Absent,
-    /// The folder in which it is to be made.
+    /// The folder of the new file doesn't exist.
     NoFolder,
     Irregular,
     Empty,
