@@ -98,7 +98,7 @@ fn records_checked(rt: HostRuntime) {
     assert_eq!(rt; answers, [0, 10, 1, 0, 0]);
 }
 
-/// A text that is made at once, and one of a tag.
+/// Writes one record with a single call, and another from a tag.
 #[test]
 fn records_made(rt: HostRuntime) {
     let (mut out, mut len) = ([b'.'; 86], 7);
@@ -127,7 +127,7 @@ const UNREAD: RecordReading = RecordReading {
     tag: [0; 64],
 };
 
-/// The results of the last calls, over a slice that nobody worked, and so of another tag.
+/// Checks the results of the last calls over a slice that nobody worked, which has another tag.
 #[test]
 fn parts_ended(rt: HostRuntime) {
     let (mut read, mut tag, mut out, mut len) = (UNREAD, [0; 32], [b'.'; 86], 7);
@@ -152,8 +152,8 @@ fn step(alloc: Global, asked: &StepInputs<'_>, text: &[u8]) -> (u8, u32, bool) {
     (answer, reply, is_written)
 }
 
-/// An operation by its number at a copy, with the password and the setting, and then the reply and
-/// the text: each operation that makes a change, and each that makes none.
+/// Takes a step for each operation that makes a change, and for each that makes none. A row has the
+/// operation's number, the copy, the password, the setting, the reply and the text.
 #[test]
 fn steps_taken(rt: HostRuntime) {
     let (right, wrong) = (b"password".as_slice(), b"Password".as_slice());

@@ -68,7 +68,7 @@ pub(crate) fn matches_of<'a>(alloc: Global, words: &'a [&'a str]) -> Result<ArgM
     credbook(alloc)?.try_get_matches_from(words)
 }
 
-/// Returns the text that was given for this argument.
+/// Returns the text of this argument.
 pub(crate) fn value<'a>(matches: &ArgMatches<'a>, id: &str) -> Option<&'a str>
     ensures { option_map (λ s. s.now) result ≡ first_of id.now (rows_of (found_of matches.now)) }
 {

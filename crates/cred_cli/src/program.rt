@@ -21,8 +21,8 @@ use std::io::{Read, Write};
 use std::sync::Wait;
 use std::thread::Threads;
 
-/// Runs the program on the words after its name, and returns its exit status. No call was made on
-/// the reader or the writer before.
+/// Runs the program on the words after its name, and returns its exit status. The caller has made
+/// no call on the reader or the writer.
 ///
 /// `run` runs a script on an empty book, with status 0 if it answers the whole script, and 2 after
 /// the faults `Read`, `Write` and `TooLong`. `hash` prints the record of a password, with status 0.

@@ -32,7 +32,7 @@ moved cells name other =
 abbrev pub joined_cells : Cells → Cells → Cells
 joined_cells cells more = fin.from_entries (fin.entries more ++ fin.entries cells)
 
--- added accounts have the marks that are given
+-- added accounts have their given marks
 abbrev pub with_added : Cells → Accounts → Marks → Cells
 with_added cells added given = joined_cells cells (cells_of added (mark_at given))
 

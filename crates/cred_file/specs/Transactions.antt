@@ -54,7 +54,7 @@ abbrev pub AgreeOn : Accounts → AllMarks → AllMarks → Type 0
 AgreeOn more marks other =
     (name : List ℕ) → fin.contains_key more name ≡ true → marks name ≡ other name
 
--- there is room for each mark that is given
+-- there is room for each given mark
 abbrev pub HasRoom : Marks → Marks → Type 0
 HasRoom marks given =
     (name : List ℕ) → fin.contains_key given name ≡ true → fin.contains_key marks name ≡ true

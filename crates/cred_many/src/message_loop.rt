@@ -25,7 +25,7 @@ pub(crate) struct MessageLoop<J: ServiceId> {
     stopwatch: Stopwatch,
     jobs: Sender<Job<J>>,
     room: Sender<()>,
-    /// Changes that wait, to be made together.
+    /// Changes that wait for a common commit.
     changes: Vec<Hashed<J>>,
 }
 
