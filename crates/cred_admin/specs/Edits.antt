@@ -117,7 +117,7 @@ abbrev pub lacks_room : ℕ → MarkedBook → Edit → Bool
 lacks_room room book edit =
     is_renamed (edited book edit).0 && not (nat_lt (map.len book.accounts) room)
 
--- what a keeper does; memory runs out only if the change could have been made
+-- the effect of a keeper's call; memory runs out only if the change could have been made
 abbrev pub EditsWithin : ℕ → MarkedBook → MarkedBook → Edit → Result EditReply BookError → Type 0
 EditsWithin room old new edit (Ok r) =
     (lacks_room room old edit ≡ false) × ((r, new) ≡ edited old edit)

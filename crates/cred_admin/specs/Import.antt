@@ -39,13 +39,13 @@ abbrev pub without_return : List ℕ → List ℕ
 without_return line =
     if ends_with nat_eq line (13 ∷ []) then take (length line - 1) line else line
 
--- what stands after a scheme in braces (bytes 123 and 125), as Dovecot writes one
+-- the text after a scheme in braces (bytes 123 and 125), as Dovecot writes one
 abbrev pub behind_braces : List (List ℕ) → List ℕ → List ℕ
 behind_braces (scheme ∷ text ∷ []) whole =
     if starts_with nat_eq scheme (123 ∷ []) then text else whole
 behind_braces _ whole = whole
 
--- what stands after Django's word for the scheme
+-- the text after Django's word for the scheme
 abbrev pub behind_word : List ℕ → List ℕ
 behind_word text = if starts_with nat_eq text (codes "argon2") then drop 6 text else text
 
@@ -235,7 +235,7 @@ entry_with rules (Err why) = None
 abbrev pub entry_of : Rules → List ℕ → Option LineAccount
 entry_of rules line = entry_with rules (said_of rules.locked line)
 
--- none of the good lines is of this name
+-- no good line has this name
 abbrev pub HasNone : Rules → List ℕ → List (List ℕ) → Type 0
 HasNone rules name [] = ⊤
 HasNone rules name (line ∷ lines) =

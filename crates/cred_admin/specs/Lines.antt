@@ -103,7 +103,7 @@ MissesLine r e = ((e ≡ fault.Read) × (r.failed ≡ true)) ⊎ (e ≡ fault.Me
 
 -- ---- the reader
 
--- after a byte a reader is at its end if it was before
+-- after a byte a reader is at its end exactly if it was there before
 abbrev pub IsOpen : Bool → Bool → Option ℕ → Type 0
 IsOpen old new (Some byte) = new ≡ old
 IsOpen old new None = ⊤

@@ -67,7 +67,7 @@ shut (Upgrade name pw setting) (Some stored) = reply.Wrong
 shut (Remove name pw) None = reply.Absent
 shut (Remove name pw) (Some stored) = reply.Wrong
 
--- a change to the password that stands
+-- the request changes a password to the present one
 abbrev pub keeps_password : Request → Bool
 keeps_password (Change name pw new setting) = bytes_eq pw new
 keeps_password _ = false

@@ -11,11 +11,11 @@ use cred_argon::Params;
 #[repr(C)]
 #[derive(Clone, Copy, Debug, PartialEq, Eq)]
 pub struct Argon2Numbers {
-    /// 0, 1 or 2 for d, i and id.
+    /// 0, 1 and 2 stand for argon2d, argon2i and argon2id.
     pub kind: u32,
-    /// 16 or 19.
+    /// The version, 16 or 19.
     pub version: u32,
-    /// In KiB.
+    /// The memory in KiB.
     pub memory: u32,
     pub passes: u32,
     pub lanes: u32,
@@ -25,15 +25,15 @@ pub struct Argon2Numbers {
 #[repr(C)]
 #[derive(Clone, Copy, Debug, PartialEq, Eq)]
 pub struct TagNumbers {
-    /// 0, 1 or 2 for d, i and id.
+    /// 0, 1 and 2 stand for argon2d, argon2i and argon2id.
     pub kind: u32,
-    /// 16 or 19.
+    /// The version, 16 or 19.
     pub version: u32,
-    /// In KiB.
+    /// The memory in KiB.
     pub memory: u32,
     pub passes: u32,
     pub lanes: u32,
-    /// In bytes.
+    /// The length of the tag in bytes.
     pub tag_len: u32,
 }
 

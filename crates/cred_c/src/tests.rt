@@ -42,7 +42,7 @@ const STANDARD: [[u8; 8]; 3] = [
 /// The first bytes of the second key of RFC 7914, section 12.
 const KEY: [u8; 8] = [0xfd, 0xba, 0xbe, 0x1c, 0x9d, 0x34, 0x72, 0x00];
 
-/// RFC 9106, section 5.
+/// The inputs of RFC 9106, section 5.
 const INPUTS: Inputs<'static> = Inputs {
     pw: &[1; 32],
     salt: &[2; 16],

@@ -129,7 +129,7 @@ IsJobOf ask task = (hashed_for ask ≡ Some task.0) × (is_reset ask ≡ true �
 
 -- ---- lines
 
--- a line by its number, its tag and what it asks for
+-- a line: its number, its tag, and what it asks for
 pub record Entry : Type 0 where
   pub number : ℕ
   pub tag : List ℕ

@@ -12,7 +12,7 @@ pub record IsForNew (scheme : Scheme) : Type 0 where
 
 -- ---- how many KiB one thread takes
 
--- KiB for making the record that a request may put
+-- the KiB of the hash for the record that a request may put
 abbrev pub made_memory : Request → ℕ
 made_memory (Enrol name pw setting) = memory_alone setting.scheme
 made_memory (Change name pw new setting) = memory_alone setting.scheme
@@ -20,13 +20,13 @@ made_memory (Upgrade name pw setting) = memory_alone setting.scheme
 made_memory (Verify name pw) = 0
 made_memory (Remove name pw) = 0
 
--- KiB for comparing a password with the copied record, or with the costs of a new record if none
--- was copied
+-- the KiB of comparing a password with the copied record, or of a hash with the costs of new
+-- records if none was copied
 abbrev pub compared_memory : Scheme → Option RecordValue → ℕ
 compared_memory costs (Some stored) = memory_alone stored.setting.scheme
 compared_memory costs None = memory_alone costs
 
--- KiB for both, one after the other
+-- the KiB of both hashes, one after the other
 abbrev pub job_memory : Scheme → Task → ℕ
 job_memory costs task = max (compared_memory costs task.1) (made_memory task.0)
 

@@ -35,7 +35,7 @@ service opening input before config salts = record {
   tries = config.tries;
 }
 
--- what is left of a source after so many salts of 16 bytes
+-- the rest of a source after so many salts of 16 bytes
 abbrev pub salts_after : Stream → ℕ → Stream
 salts_after first zero = first
 salts_after first (suc n) = (fill_bytes 16 (salts_after first n)).1
