@@ -136,7 +136,7 @@ Edits room old new edit w ended = ((r : EditReply) × EditsWithin room old new e
     × (ended ≡ Err (fault_of_book e)) × Keeps w.before w.now)
 
 -- The line of the account is written, and then its record is removed. A fault leaves the account as
--- it is. The answer also tells if there is no record.
+-- it is. Without a record the answer says so.
 abbrev pub DisablesShown : MarkedBook → MarkedBook → List ℕ → Option (Option RecordValue) → Writing
     → Result Status Fault → Type 0
 DisablesShown old new name None w r = (new ≡ old) × Tells (told reply.NoAccount) w r

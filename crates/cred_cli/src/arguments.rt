@@ -8,7 +8,7 @@ ghost use Rattle.cred_cli.specs.Arguments.{credbook, needed_rule, one_app, passw
 use clap::{Arg, ArgMatches, Command, Error};
 use std::alloc::{AllocError, Global};
 
-const ABOUT: &str = "Answers scripts on a book of password records, and hashes or checks a password";
+const ABOUT: &str = "Answers scripts on a book of password records, and hashes or checks passwords";
 
 const RUN_ABOUT: &str = "Answers a script from standard input, on an empty book";
 
