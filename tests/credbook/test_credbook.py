@@ -99,7 +99,7 @@ REFUSED = [
         "run --help",
         "Answers a script from standard input, on an empty book\n\n"
         "Usage: credbook run [OPTIONS]\n\nOptions:\n      "
-        "--workers <N>  How many threads may hash at once, from 1 to 64 [default: 1]\n  "
+        "--workers <N>  The maximum number of threads, from 1 to 64 [default: 1]\n  "
         "-h, --help         Print help\n",
     ),
     ("hash --help", "\nUsage: credbook hash [OPTIONS] <SETTING> [PASSWORD]\n"),

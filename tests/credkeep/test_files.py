@@ -28,7 +28,7 @@ def database(text: str) -> Callable[[pathlib.Path], None]:
 
 # Files that hold no book, with the message for each.
 NO_BOOKS = [
-    (lambda path: path.touch(), "it is empty; init begins a book in it"),
+    (lambda path: path.touch(), "it is empty; init creates a book in it"),
     (lambda path: path.write_text("ann:x\n" * 1000), "it is no database"),
     (lambda path: path.write_text("x"), "it is no database"),
     (lambda path: path.mkdir(), "it is a folder, a link or a device"),
@@ -90,7 +90,7 @@ class FormatTest(BookTest):
 
     def test_files_that_hold_no_book(self) -> None:
         """Each file that holds no book has its message, and nothing is written into it or beside
-        it. If the message names init, init begins a book there."""
+        it. If the message names init, init creates a book there."""
         for make, text in NO_BOOKS:
             for words in ORDERS[: -1 if "init" in text else None]:
                 shutil.rmtree(self.room)

@@ -18,7 +18,7 @@ FORMS = f"write it as '{ARGON2}' or '$scrypt$ln=17,r=8,p=1', in single quotes (1
 COMMANDS = "no word is a command\nThe commands: init serve add check change reset upgrade"
 TAGGED_ALONE = "serve: it answers tagged lines alone: write serve --tagged\n"
 MISSING = "the following required arguments were not provided:\n  "
-EMPTY = "it is empty; init begins a book in it"
+EMPTY = "it is empty; init creates a book in it"
 NO_FOLDER = "its folder doesn't exist; mkdir -p makes one"
 
 # The line typed in a folder with the book u.db, in which ada has "secret"; the status; the message.

@@ -1,4 +1,4 @@
--- Of a store that is sound.
+-- The answers of a sound store.
 use Rattle.std.proofs.Common.{◌≡◌, Bool, true, false, true≢false, sym, ◌∙◌, IsTrue, refl}
 use Rattle.sqlite_trees.specs.View.{View}
 

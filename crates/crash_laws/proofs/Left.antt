@@ -1,4 +1,5 @@
--- What a crash leaves of changes that follow one another, and what the next run finds.
+-- The result of a crash after changes that follow one another, and the book that the next run
+-- finds.
 use Rattle.std.proofs.Common.{◌≡◌, ◌≤◌, arith, List, None, Option, subst}
 use Rattle.std.specs.FinMap as fin
 use Rattle.sqlite.specs.{Held.Held, Held.state, State.HasCleanDisk, Store.Ghosts}

@@ -1,4 +1,4 @@
--- What a call did that was passed on.
+-- The effect of a call that was passed on.
 use Rattle.std.proofs.Common.{arith, ◌≡◌, Bool, false, [], sym, ap, ◌∙◌}
 use Rattle.std.proofs.Math.Path.{ap₂}
 use Rattle.std.specs.Prelude.{◌≢◌}

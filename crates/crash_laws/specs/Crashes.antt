@@ -1,4 +1,4 @@
--- What a run that changes a book comes to: the answers to its changes, and what a crash leaves.
+-- The result of a run that changes a book: the answers to its changes, and what a crash leaves.
 use Rattle.std.specs.Prelude.{◌≡◌, ◌≤◌, ◌⊎◌, Bool, false, if◌then◌else◌, List, [], ◌∷◌, ◌++◌, IfSome, None, is_ok, Result, Ok, Err, ⊤}
 use Rattle.std.specs.List.{list_any}
 use Rattle.std.specs.FinMap as fin
@@ -15,7 +15,7 @@ use Rattle.cred_file.specs.Failures.{LosesForMemory, Remembers, WasClean}
 abbrev pub Answer : Type 0
 Answer = Result (Unit {0}) BookError
 
--- a change that a book was asked for, and its answer
+-- a change that somebody asked of a book, and its answer
 pub record Asked : Type 0 where
   pub change : Attempt
   pub answer : Answer
@@ -30,33 +30,33 @@ asked_of (answer ∷ answers) [] = []
 asked_of (answer ∷ answers) (change ∷ changes) =
     record { change = change; answer = answer } ∷ asked_of answers changes
 
--- the book after one of them, which is made if it was answered Ok
+-- the book after one change, which is made if its answer is Ok
 abbrev pub after_one : Cells → Asked → Cells
 after_one book a = if is_done a then after_attempt book a.change else book
 
--- the book after all that were answered Ok, one after another
+-- the book after all changes with the answer Ok, one after another
 unfoldable pub after : Cells → List Asked → Cells
 after book [] = book
 after book (a ∷ asked) = after (after_one book a) asked
 
 -- ---- what a crash leaves
 
--- This change was answered Memory, and none after it was answered Ok.
+-- This change got the answer Memory, and no change after it got Ok.
 pub record IsUnderWay (asked : List Asked) (change : Attempt) : Type 0 where
   pub before : List Asked
   pub behind : List Asked
   pub all : asked ≡ before ++ record { change = change; answer = Err Memory } ∷ behind
   pub none_done : list_any is_done behind ≡ false
 
--- The book has each change that was answered Ok, in their order. It may have one more: one that was
--- answered Memory, and after which none was answered Ok. Nothing else differs.
+-- The book has each change with the answer Ok, in their order. It may have one change more, which
+-- got the answer Memory, and after which no change got Ok. Nothing else differs.
 abbrev pub IsLeft : Cells → List Asked → Cells → Type 0
 IsLeft book asked left = (left ≡ after book asked) ⊎ ((change : Attempt)
     × IsUnderWay asked change × (left ≡ after_attempt (after book asked) change))
 
 -- ---- calls that follow one another
 
--- what the clauses of a call say of the change that it was asked for
+-- the clauses of a call about its change
 pub record IsCall {S : Type 0} (g : Ghosts S) (old new : Kept S) (a : Asked) : Type 0 where
   pub remembers : Remembers a.change (λ _. ⊤) old new a.answer
   pub refusal : LosesForMemory old new a.answer
@@ -68,7 +68,7 @@ Follow g first [] last = last ≡ first
 Follow g first (a ∷ asked) last =
     (next : Kept _) × IsCall g first next a × Follow g next asked last
 
--- The answers tell what became of the book, and which change is lost, if one is.
+-- The answers tell the changes of the book, and which change is lost, if one is.
 pub record AreMade {S : Type 0} (g : Ghosts S) (old new : Kept S) (asked : List Asked)
     : Type 0 where
   pub book : cells new ≡ after (cells old) asked
@@ -77,14 +77,13 @@ pub record AreMade {S : Type 0} (g : Ghosts S) (old new : Kept S) (asked : List 
 
 -- ---- a run, from the store that it is begun on to that store as the run leaves it
 
--- the answers that it tells, of which there are none if no book was opened
+-- the answers of a run; none if it opened no book
 abbrev pub answers_in : {V : Type 0} → (V → List Answer) → Result V OpenFault → List Answer
 answers_in items (Ok answers) = items answers
 answers_in items (Err why) = []
 
--- If the disk has returned what was written: whatever a crash leaves of the store, it is the
--- database of a book that is left of the book that the store held; and it has no more accounts than
--- a book may have.
+-- If the disk has returned the written bytes, a crash leaves of the store the database of a book
+-- that is left (`IsLeft`) of the store's book. This book has no more accounts than a book may have.
 pub record IsRun {M : Type 0} (g : Ghosts M) (first last : M) (asked : List Asked) : Type 0 where
   pub clean : doubt (g.view first).is_clean ≤ doubt (g.view last).is_clean
   pub left : IsClean (g.view last) → (book : Cells) → HoldsBook (g.view first).committed book

@@ -17,7 +17,7 @@ use std::alloc::Global;
 /// The answers of a run, and the store as the run left it.
 #[derive(Drop)]
 pub struct Ended<M> {
-    /// The answers to the changes, in their order; or why no book was opened.
+    /// The answers to the changes, in their order, or the reason why no book was opened.
     pub told: Result<Vec<Result<(), BookError>>, OpenFault>,
     pub store: M,
 }
@@ -29,12 +29,12 @@ pub struct Restart<R> {
     pub next: R,
 }
 
-/// Two runs. The first opens the book that a store holds, asks it for each of the changes, in their
-/// order, and ends; from some call on the store may refuse each. The next run is handed the store
-/// as it is then, to crash its machine and open the book again.
+/// Does two runs. The first opens the book that a store holds, asks the book for each of the
+/// changes in their order, and ends. From some call on, the store may refuse each call. The next
+/// run gets the store as the first left it, to crash its machine and open the book again.
 ///
-/// It finds the book with each change that was answered `Ok`. One more may be there, which was
-/// answered `Memory`, and after which none was answered `Ok`.
+/// The next run finds the book with each change that got the answer `Ok`. The book may have one
+/// change more, which got the answer `Memory`, and after which no change got `Ok`.
 pub fn crash_amid<M: Alter + Drop, R, N: FnOnce(M) -> R>(
     alloc: Global,
     store: M,
@@ -55,7 +55,7 @@ pub fn crash_amid<M: Alter + Drop, R, N: FnOnce(M) -> R>(
     }
 }
 
-/// The first of these runs. The store comes back as the run left it.
+/// Does the first of these runs. The store comes back as the run left it.
 pub fn run<M: Alter + Drop>(alloc: Global, store: M, changes: Vec<Attempt>) -> Ended<M>
     requires fresh { IsClean (M.Store.view store) → IsFresh (M.Store.view store) }
     ensures asked { IfOk result.told (λ answers.

@@ -9,14 +9,14 @@ use sqlite_trees::store::{Alter, Direction, Shape, Store};
 use sqlite_value::row::Row;
 use std::alloc::{AllocError, Global};
 
-/// A fail-stop machine over a store: it passes so many calls on, and from the next one on it
-/// answers each with an error and changes nothing.
+/// A fail-stop machine over a store. It passes so many calls on to the store. From the next call on
+/// it answers each call with an error, and changes nothing.
 #[derive(Drop)]
 pub struct FailStop<S: Store> {
     store: S,
     calls_left: u64,
     has_stopped: bool,
-    // A failed open gives the store back, and doesn't say again that its trees have numbers.
+    // A failed open returns the store, but doesn't say again that its trees have numbers.
     ghost numbered: { IsClean (S.Store.view store) → IsTrue (S.Store.view store).is_numbered },
     ghost spent: { IsTrue has_stopped → calls_left ≡ 0 },
 }
@@ -38,7 +38,7 @@ impl<S: Store> FailStop<S> {
         }
     }
 
-    /// Whether it has stopped: all its calls are spent, and one more was asked for.
+    /// Whether the store has stopped: it has spent all its calls, and got one more.
     pub fn has_stopped(&self) -> bool
         ensures value { result ≡ self.now.has_stopped }
         ensures spent { IsTrue result → self.now.calls_left ≡ 0 }
@@ -54,7 +54,7 @@ impl<S: Store> FailStop<S> {
         self.store
     }
 
-    /// Passes one more call on, or stops.
+    /// Passes one more call on, or stops the store.
     fn spend(&mut self) -> Result<(), StoreError>
         ensures store { self.new.store ≡ self.old.store }
         ensures passed { OnOk result ((self.old.has_stopped ≡ false)

@@ -13,9 +13,9 @@ use crate::fail_stop::FailStop;
 use sqlite::Alter;
 use sqlite_trees::store::Store;
 
-/// Changes that a book is asked for, one after another: a crash leaves the database of the book as
-/// the answers tell it. It has each change that was answered `Ok`, and perhaps one more, which was
-/// answered `Memory` and after which none was answered `Ok`.
+/// If a book makes changes one after another, a crash leaves the database of the book as the
+/// answers tell it. The database has each change that got the answer `Ok`. It may have one change
+/// more, which got the answer `Memory`, and after which no change got `Ok`.
 ///
 /// The premises are clauses of `cred_file`: `whole` of the call that opened the book, `remembers`,
 /// `refusal` and `clean` of each change, and `keeps`.
@@ -42,7 +42,8 @@ pub fn the_next_open_finds_what_was_answered<S: Alter>()
         → MayRefuse S.Store last why → IsForWant why }
 {}
 
-/// The next run finds what a connection keeps: of whatever call, script or service left it so.
+/// The next run finds the book that a connection keeps, whatever call, script or service left the
+/// connection so.
 ///
 /// The premises are the clause `kept` of `FileBook::close`, `quiet` of `Connection::into_store`,
 /// and `found` of `cred_file::reopen`.
@@ -54,7 +55,7 @@ pub fn the_next_open_finds_what_is_kept<S: Alter>()
         → MayLeave S.Store left again → IsOrWith book lost again }
 {}
 
-/// A crash leaves of a store that stopped what it leaves of the store within it, which the next run
+/// A crash leaves the same of a store that stopped as of the store within it, which the next run
 /// opens.
 pub fn a_stop_leaves_what_is_within<S: Alter>()
     ensures found { (stopped : Stopped S S.Store) (again : Cells)

@@ -1,5 +1,6 @@
-//! Tests of facts that no clause states: a run gets as far as its changes, and stops at each of
-//! them; the next run has memory and a disk; and a crash leaves the book with a change and without.
+//! These tests show what no clause says: a run gets as far as its changes, and stops at each of
+//! them; the next run has memory and a disk; and a crash leaves the book with a change and without
+//! it.
 
 ghost use Rattle.sqlite.specs.Steps.{IsFresh};
 ghost use Rattle.sqlite_trees.specs.Memory.{memory_view};
@@ -20,8 +21,9 @@ const A: &str =
 const B: &str =
     "$argon2id$v=19$m=256,t=2,p=2$c29tZXNhbHQ$bQk8UB/VmZZF4Oo79iDXuL5/0ttZwg2f/5U52iv1cDc";
 
-/// The accounts a, b and c before a change: the record's letter, small under a lock, `-` for no
-/// record, `!` for a lock alone, and a space for no account.
+/// The accounts a, b and c before a change. A letter stands for the record, and is small under a
+/// lock. `-` is an account without a record, `!` is a lock without a record, and a space is no
+/// account.
 const BEFORE: &str = "A! ";
 
 /// Each change, and the accounts after it.
@@ -54,7 +56,7 @@ static RUN: [(&str, Result<(), BookError>, &str); 9] = [
 /// More calls than a run takes.
 const MANY: u64 = 1000;
 
-/// The answers to a run's changes, if it opened the book; whether its store stopped; and the
+/// The answers to a run's changes, if the run opened the book; whether its store stopped; and the
 /// accounts that the next run finds.
 #[derive(Drop)]
 struct Outcome {
@@ -122,7 +124,7 @@ fn change_of<R: Abort>(rt: &R, alloc: Global, text: &str) -> Attempt {
     }
 }
 
-/// A store that keeps the accounts of `BEFORE`.
+/// Creates a store that keeps the accounts of `BEFORE`.
 fn store<R: Abort>(rt: &R, alloc: Global) -> MemStore
     ensures { IsFresh (memory_view result) }
 {
@@ -166,8 +168,8 @@ fn crash<R: Abort>(rt: &R, alloc: Global, changes: Vec<Attempt>, calls: u64) -> 
     }
 }
 
-/// Crashes a run of one change, holds what is left against the accounts before it and after it, and
-/// returns its answer, if it was asked for.
+/// Crashes a run of one change, compares what is left with the accounts before and after the
+/// change, and returns the answer, if the run got as far.
 fn hold<R: Abort>(
     rt: &R,
     alloc: Global,
@@ -210,7 +212,7 @@ fn each_call_of_each_change(rt: HostRuntime) {
     }
 }
 
-/// The accounts after so many changes of the long run.
+/// Returns the accounts after so many changes of the long run.
 fn after<R: Abort>(rt: &R, count: usize) -> &'static str {
     if count == 0 {
         return BEFORE;
@@ -218,8 +220,8 @@ fn after<R: Abort>(rt: &R, count: usize) -> &'static str {
     RUN.get(count - 1).expect(rt, "a change").2
 }
 
-/// Crashes the long run, and holds its answers and what is left against those of `RUN`. Returns
-/// whether its store stopped, and how many changes were answered before, if it opened the book.
+/// Crashes the long run, and compares its answers and what is left with `RUN`. Returns whether its
+/// store stopped, and how many changes had answers before that, if the run opened the book.
 fn hold_run<R: Abort>(rt: &R, alloc: Global, calls: u64) -> (bool, Option<usize>) {
     let mut changes = Vec::new(alloc);
     for (change, _, _) in &RUN {

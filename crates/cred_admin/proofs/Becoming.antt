@@ -1,4 +1,4 @@
--- What a kept book is after a call.
+-- A kept book after a call.
 use Rattle.std.proofs.Common.{◌≡◌, ℕ, List, Option, Some, None, Result, Ok, Err, OnOk, OnErr, Bool, true, false, if◌then◌else◌, refl, sym, ap, ◌∙◌}
 use Rattle.cred_phc.specs.Values.{RecordValue}
 use Rattle.cred_book.specs.{Accounts.Accounts, Calls.AdmitsWithin, Calls.Loads, Commits.Commits, Commits.commit_outcome, Works.Task, declared.error.BookError.BookError, declared.reply.Reply.Reply}

@@ -1,4 +1,4 @@
--- What comes before a setting's last field.
+-- The text before a setting's last field.
 use Rattle.std.proofs.{Common.◌≡◌, Common.◌+◌, Common.◌-◌, Common.◌*◌, Common.◌/◌, Common.ℕ, Common.List, Common.[], Common.◌∷◌, Common.◌++◌, Common.length, Common.take, Common.refl, Common.sym, Common.ap, Common.◌∙◌, Common.arith, Math.Seq.take-append_seam, lemmas.List.length-append}
 use Rattle.cred_phc.specs.{Base64.base64, Text.scheme_text, Text.setting_text, Values.SettingValue}
 use Rattle.cred_phc.proofs.{Base64Laws.length-base64, WritingLaws.setting_written}

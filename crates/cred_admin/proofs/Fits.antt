@@ -1,4 +1,4 @@
--- What a transcript tells of a reader, cut in two.
+-- The facts about a reader from a transcript that is cut in two.
 use Rattle.std.proofs.Common.{◌≡◌, ℕ, List, [], ◌++◌, Option, Bool, false, true, not, ◌&&◌, refl, sym, ap, ◌∙◌, append_assoc, append-nil}
 use Rattle.cred_cli.specs.{Watched.Basis, Watched.Contract, Watched.Fits, Watched.Transcript, Watched.ended_of, Watched.given_of, declared.watched.Watched.Watched}
 use Rattle.cred_cli.proofs.Basis.{fits_before}

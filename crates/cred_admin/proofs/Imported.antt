@@ -1,4 +1,4 @@
--- What the lines of an import come to, a name at a time.
+-- The result of an import's lines, a name at a time.
 use Rattle.std.proofs.Common.{Bool, true, false, cond, if◌then◌else◌, is_some, ◌≡◌, ◌⊎◌, inl, inr, ℕ, ◌+◌, refl, List, [], ◌∷◌, ◌++◌, Option, None, Some, unwrap_or, Result, Ok, Err, sym, ap, ◌∙◌}
 use Rattle.std.specs.{Cmp.eq_by_cmp_equiv, Cmp.Lexicographic.nat_list_cmp_total, Ordering.eq_by_cmp}
 use Rattle.cred_phc.specs.Values.{RecordValue}

@@ -1,4 +1,4 @@
--- Lines that aren't the passwords that are wanted.
+-- Lines that aren't the wanted passwords.
 use Rattle.std.proofs.Common.{◌≡◌, ℕ, ◌<◌, List, [], length, true, Option, Some, None, IfSome, inl, inr, refl, sym, ◌∙◌}
 use Rattle.std.proofs.{lemmas.Bool.Decides.eqb_tells, lemmas.List.nil_from_length, lemmas.Option.IfSome_then}
 use Rattle.cred_admin.specs.{Lines.HasEmptyLine, Lines.HasLong, Lines.HasLongLine, Lines.IsMisread, Lines.MissesLine, Lines.ReadsLine, Lines.ReadsLines, Lines.behind_line, Lines.is_barred, declared.fault.Fault.Fault, declared.password.EmptyPassword.EmptyPassword, declared.password.Passwords.Passwords}

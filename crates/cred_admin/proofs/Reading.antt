@@ -1,4 +1,4 @@
--- What a read of one byte makes of a line.
+-- The effect of the read of one byte on a line.
 use Rattle.std.proofs.Common.{◌≡◌, ◌≢◌, ℕ, ◌<◌, List, [], ◌∷◌, ◌++◌, length, take, Option, Some, None, IfSome, IfOk, OnOk, ◌⊎◌, inl, inr, Result, Ok, Err, subst, false, ◌==◌, if◌then◌else◌, refl, sym, ap, ◌∙◌, arith, append_assoc, append-nil, slice_index_or}
 use Rattle.std.proofs.{lemmas.Bool.Decides.eqb_tells, lemmas.List.length-append}
 use Rattle.std.specs.Io.KnownBytes.{Consumes}

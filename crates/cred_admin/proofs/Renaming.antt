@@ -1,4 +1,4 @@
--- What a keeper answers that changes an account without its password.
+-- The answers of a keeper that changes an account without its password.
 use Rattle.std.proofs.{Common.◌≡◌, Common.ℕ, Common.◌<◌, Common.◌≤◌, Common.List, Common.true, Common.false, Common.Option, Common.Some, Common.None, Common.Ok, Common.Err, Common.is_some, Common.refl, Common.ap, Common.arith, Common.nat_lt, Common.◌∙◌, lemmas.Bool.Decides.nat_tests}
 use Rattle.std.specs.FinMap as fin
 use Rattle.cred_phc.specs.Values.{RecordValue}

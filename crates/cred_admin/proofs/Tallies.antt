@@ -1,4 +1,4 @@
--- What the lines of an import come to, a line at a time.
+-- The result of an import's lines, a line at a time.
 use Rattle.std.proofs.Common.{Bool, true, false, cond, ◌≡◌, ℕ, ◌+◌, ◌≤◌, ◌<◌, ◌⊎◌, inl, inr, refl, List, [], ◌∷◌, Result, Err, sym, ap, ◌∙◌, arith}
 use Rattle.std.specs.Cmp.Lexicographic.{nat_list_cmp_total}
 use Rattle.cred_book.specs.Accounts.{Accounts, register_capacity}

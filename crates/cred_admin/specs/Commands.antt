@@ -1,4 +1,4 @@
--- What the operations on one account do.
+-- The effect of the operations on one account.
 use Rattle.std.specs.Io.KnownBytes.{Keeps}
 use Rattle.std.specs.Prelude.{◌≡◌, ◌⊎◌, ℕ, List, Bool, not, Option, Some, None, Result, Ok, Err, IfErr, true, false}
 use Rattle.cred_phc.specs.Values.{RecordValue}
@@ -35,8 +35,8 @@ takes_first_at (Some (Some there)) is_locked = false
 abbrev pub takes_first : MarkedBook → List ℕ → Bool
 takes_first book name = takes_first_at (map.get book.accounts name) (book.marks name).locked
 
--- The record is put if there is none, at an account that is added if it isn't there. At a locked
--- one none is put.
+-- If the account has no record, it gets this one. A missing account is added first. A locked
+-- account gets none.
 abbrev pub enrolment_at : MarkedBook → List ℕ → RecordValue → Option (Option RecordValue) → Bool
     → Reply × MarkedBook
 enrolment_at book name stored None is_locked =
@@ -73,13 +73,13 @@ done book name (Reset new) t = as_told (reset_step book name (new_record new.set
 done book name (Upgrade setting) t = tried book (request.Upgrade name t.first setting)
 done book name Remove t = tried book (request.Remove name t.first)
 
--- it adds an account, for which there is no room
+-- the operation adds an account for which there is no room
 abbrev pub FindsNoRoom : ℕ → MarkedBook → List ℕ → Operation → Type 0
 FindsNoRoom capacity book name (Add new) = has_room_for capacity book.accounts name ≡ false
 FindsNoRoom capacity book name _ = ⊥
 
--- it comes to this answer and this book; or memory runs out, or there is no room, and the book is
--- as it was
+-- the operation ends with this answer and this book; or memory runs out, or there is no room, and
+-- the book is as it was
 abbrev pub ComesTo : Verdict × MarkedBook → Type 0 → MarkedBook → MarkedBook
     → Result Verdict Fault → Type 0
 ComesTo outcome NoRoom old new (Ok v) = (v, new) ≡ outcome
@@ -113,7 +113,7 @@ IsNotDone capacity name operation s e =
     ⊎ ((t : Typed) × Reads (passwords_of operation) s.reading t
     × Works capacity s.old s.new name operation t (Err e))
 
--- it is done, or it is not and nothing is written
+-- the operation is done, or it isn't and nothing is written
 abbrev pub Obeys : ℕ → List ℕ → Operation → Seen → Result Status Fault → Type 0
 Obeys capacity name operation s ended = IsDone capacity name operation s ended
     ⊎ ((e : Fault) × (ended ≡ Err e) × IsNotDone capacity name operation s e

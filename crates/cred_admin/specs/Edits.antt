@@ -1,4 +1,4 @@
--- What the orders do that change an account without its password.
+-- The effect of the orders that change an account without its password.
 use Rattle.std.specs.Io.KnownBytes.{Appends, Keeps}
 use Rattle.std.specs.Prelude.{◌≡◌, ◌⊎◌, ℕ, Bool, true, false, ◌&&◌, not, List, codes, nat_lt, Option, Some, None, Result, Ok, Err, IfErr}
 use Rattle.cred_phc.specs.Values.{RecordValue}
@@ -46,7 +46,7 @@ told r = (edit_line r, edit_status r)
 
 -- ---- what is done
 
--- the record is taken away, and the name stays
+-- the record is removed, and the name stays
 abbrev pub disabling_at : MarkedBook → List ℕ → Option (Option RecordValue) → EditReply × MarkedBook
 disabling_at book name None = (reply.NoAccount, book)
 disabling_at book name (Some None) = (reply.Absent, book)
@@ -55,7 +55,7 @@ disabling_at book name (Some (Some there)) = (reply.Disabled, with_record book n
 abbrev pub disabling : MarkedBook → List ℕ → EditReply × MarkedBook
 disabling book name = disabling_at book name (map.get book.accounts name)
 
--- the name is taken out, with its record and its mark
+-- the name is removed, with its record and its mark
 abbrev pub deletion_at : MarkedBook → List ℕ → Option (Option RecordValue) → EditReply × MarkedBook
 deletion_at book name None = (reply.NoAccount, book)
 deletion_at book name (Some stored) =
@@ -84,7 +84,7 @@ abbrev pub locking_at : MarkedBook → List ℕ → Option (Option RecordValue) 
 locking_at book name None = (reply.NoAccount, book)
 locking_at book name (Some stored) = (reply.Locked, with_mark book name (locked (book.marks name)))
 
--- and no longer
+-- the account's password is right again
 abbrev pub unlocking_at : MarkedBook → List ℕ → Option (Option RecordValue) → Bool
     → EditReply × MarkedBook
 unlocking_at book name None is_locked = (reply.NoAccount, book)
@@ -92,7 +92,7 @@ unlocking_at book name (Some stored) false = (reply.NotLocked, book)
 unlocking_at book name (Some stored) true =
     (reply.Unlocked, with_mark book name (unlocked (book.marks name)))
 
--- the password that stands must be changed
+-- the present password must be changed
 abbrev pub expiry_at : MarkedBook → List ℕ → Option (Option RecordValue) → EditReply × MarkedBook
 expiry_at book name None = (reply.NoAccount, book)
 expiry_at book name (Some None) = (reply.Absent, book)
@@ -112,12 +112,12 @@ abbrev pub is_renamed : EditReply → Bool
 is_renamed reply.Renamed = true
 is_renamed _ = false
 
--- an account would be renamed, and there is no room for one more name, which that takes
+-- a renaming needs room for one more name, which the book lacks
 abbrev pub lacks_room : ℕ → MarkedBook → Edit → Bool
 lacks_room room book edit =
     is_renamed (edited book edit).0 && not (nat_lt (map.len book.accounts) room)
 
--- what a keeper does; memory runs out only if the change could have been made
+-- the effect of a keeper's call; memory runs out only if the change could have been made
 abbrev pub EditsWithin : ℕ → MarkedBook → MarkedBook → Edit → Result EditReply BookError → Type 0
 EditsWithin room old new edit (Ok r) =
     (lacks_room room old edit ≡ false) × ((r, new) ≡ edited old edit)
@@ -135,8 +135,8 @@ Edits room old new edit w ended = ((r : EditReply) × EditsWithin room old new e
     ⊎ ((e : BookError) × EditsWithin room old new edit (Err e)
     × (ended ≡ Err (fault_of_book e)) × Keeps w.before w.now)
 
--- The line of the account is written, and then its record is taken away; a fault leaves the account
--- as it is. Where there is no record, that is answered.
+-- The line of the account is written, and then its record is removed. A fault leaves the account as
+-- it is. Without a record the answer says so.
 abbrev pub DisablesShown : MarkedBook → MarkedBook → List ℕ → Option (Option RecordValue) → Writing
     → Result Status Fault → Type 0
 DisablesShown old new name None w r = (new ≡ old) × Tells (told reply.NoAccount) w r

@@ -1,4 +1,4 @@
--- What an import makes of its text.
+-- The result of an import's text.
 use Rattle.std.specs.List.{ends_with, list_any, starts_with}
 use Rattle.std.specs.Prelude.{◌≡◌, ℕ, ◌+◌, ◌-◌, ◌<◌, Bool, true, false, ◌||◌, ◌==◌, if◌then◌else◌, List, [], ◌∷◌, ◌++◌, length, take, drop, codes, Option, None, Some, IfSome, Result, Ok, Err, nat_eq, ⊤}
 use Rattle.cred_phc.specs.{Errors.error_number as fault_number, Errors.error_word as fault_word, Pieces.pieces, Reading.read_record, Values.RecordValue}
@@ -39,13 +39,13 @@ abbrev pub without_return : List ℕ → List ℕ
 without_return line =
     if ends_with nat_eq line (13 ∷ []) then take (length line - 1) line else line
 
--- what stands after a scheme in braces (bytes 123 and 125), as Dovecot writes one
+-- the text after a scheme in braces (bytes 123 and 125), as Dovecot writes one
 abbrev pub behind_braces : List (List ℕ) → List ℕ → List ℕ
 behind_braces (scheme ∷ text ∷ []) whole =
     if starts_with nat_eq scheme (123 ∷ []) then text else whole
 behind_braces _ whole = whole
 
--- what stands after Django's word for the scheme
+-- the text after Django's word for the scheme
 abbrev pub behind_word : List ℕ → List ℕ
 behind_word text = if starts_with nat_eq text (codes "argon2") then drop 6 text else text
 
@@ -57,7 +57,7 @@ abbrev pub stored_as : Result RecordValue PhcError → Result (Option RecordValu
 stored_as (Ok v) = Ok (Some v)
 stored_as (Err e) = Err (Text e)
 
--- nothing is no record
+-- an empty text is no record
 abbrev pub stored_at : List ℕ → Result (Option RecordValue) LineFault
 stored_at [] = Ok None
 stored_at (c ∷ cs) = stored_as (read_record (record_part (c ∷ cs)))
@@ -70,7 +70,7 @@ abbrev pub said_with : List ℕ → Mark → Result (Option RecordValue) LineFau
 said_with name m (Ok stored) = Ok (Account (entry name stored m))
 said_with name m (Err e) = Err e
 
--- * (byte 42) stands in place of a record
+-- * (byte 42) replaces a record
 abbrev pub is_star : List ℕ → Bool
 is_star text = starts_with nat_eq text (42 ∷ [])
 
@@ -79,9 +79,9 @@ abbrev pub is_locked : List ℕ → Bool
 is_locked text =
     starts_with nat_eq text (33 ∷ []) || (is_star text || starts_with nat_eq text (126 ∷ []))
 
--- An item of Dovecot's extra fields with which a right password lets its user in nowhere (nologin,
--- noauthenticate), or only from some networks (allow_nets, allow_real_nets). It counts with any
--- value, and without one.
+-- An item of Dovecot's extra fields that bars its user despite a right password: everywhere
+-- (nologin, noauthenticate), or outside some networks (allow_nets, allow_real_nets). Such an item
+-- counts with any value, and without one.
 abbrev pub bars : List ℕ → Bool
 bars item = starts_with nat_eq item (codes "nologin")
     || (starts_with nat_eq item (codes "noauthenticate")
@@ -95,8 +95,9 @@ has_bar field = list_any bars (pieces 32 field)
 abbrev pub is_barred : List (List ℕ) → Bool
 is_barred others = list_any has_bar others
 
--- A line whose record is locked is at fault; or its account has no record; or it has the marks and
--- the record that stand there, as an export writes them: so a user whom a field bars is at fault.
+-- A line with a locked record is at fault, or its account gets no record, or the account gets the
+-- marks and the record of the line, as an export writes them. In the last case a line whose user a
+-- field bars is at fault.
 abbrev pub said_locked : LockedRecords → List ℕ → Bool → List ℕ → Result Said LineFault
 said_locked locked.Refused name barred text = Err IsLocked
 said_locked locked.Disabled name barred text = Ok (Account (entry name None unmarked))
@@ -117,7 +118,7 @@ abbrev pub said_in : LockedRecords → List (List ℕ) → Result Said LineFault
 said_in how (name ∷ text ∷ others) = said_as how (made_name name) (is_barred others) text
 said_in how _ = Err Line
 
--- it is empty, or begins with # (byte 35)
+-- the line is empty, or begins with # (byte 35)
 abbrev pub is_remark : List ℕ → Bool
 is_remark line = length line == 0 || starts_with nat_eq line (35 ∷ [])
 
@@ -133,9 +134,8 @@ said_of how line =
 abbrev pub import_lines : List ℕ → List (List ℕ)
 import_lines text = pieces 10 text
 
--- What the lines so far come to: the accounts that are new, those in the book that have another
--- record from now on, the marks of both, how many lines name one that is there and stays, and the
--- lines that aren't good.
+-- The result of the lines so far: the new accounts, the accounts in the book that get another
+-- record, the marks of both, the number of lines whose account exists and stays, and the bad lines.
 pub record Tally : Type 0 where
   pub accounts : Accounts
   pub changed : Accounts
@@ -203,7 +203,7 @@ tally_from rules book t n [] = t
 tally_from rules book t n (line ∷ lines) =
     tally_from rules book (with_line rules book t n (said_of rules.locked line)) (n + 1) lines
 
--- what the lines of a text come to, before a book
+-- the result of a text's lines for a book
 abbrev pub tally : Rules → Accounts → List ℕ → Tally
 tally rules book text = tally_from rules book nothing_yet 1 (import_lines text)
 
@@ -216,7 +216,7 @@ tally_of g = record {
   bad = g.bad.items;
 }
 
--- what a line adds makes this of what there was; or there was no memory, or the accounts are too many
+-- a successful call has the first result; otherwise memory ran out, or there are too many accounts
 -- for any book
 abbrev pub Comes : Tally → Tally → Result (Unit {0}) ImportFault → Type 0
 Comes next now (Ok _) = now ≡ next
@@ -235,7 +235,7 @@ entry_with rules (Err why) = None
 abbrev pub entry_of : Rules → List ℕ → Option LineAccount
 entry_of rules line = entry_with rules (said_of rules.locked line)
 
--- none of the good lines is of this name
+-- no good line has this name
 abbrev pub HasNone : Rules → List ℕ → List (List ℕ) → Type 0
 HasNone rules name [] = ⊤
 HasNone rules name (line ∷ lines) =
@@ -251,8 +251,8 @@ pub record IsFirst (rules : Rules) (text : List ℕ) (e : LineAccount) : Type 0 
   pub says : entry_of rules line ≡ Some e
   pub first : HasNone rules e.name front
 
--- A call on the reader failed; or none did, and there was no memory; or there are too many accounts
--- for any book. A call had failed before, and now.
+-- A call on the reader failed; or none failed, and memory ran out; or there are too many accounts
+-- for any book. The two flags tell whether a call had failed before, and has failed now.
 abbrev pub GatherFails : Rules → Accounts → Option (List ℕ) → Bool → Bool → ImportFault → Type 0
 GatherFails rules book input before now fault.Read = now ≡ true
 GatherFails rules book input before now fault.Memory = now ≡ before

@@ -13,7 +13,7 @@ unfoldable pub line_before : List ℕ → List ℕ
 line_before [] = []
 line_before (c ∷ cs) = if c == 10 then [] else c ∷ line_before cs
 
--- and those after it
+-- the bytes after the first line end
 unfoldable pub behind_line : List ℕ → List ℕ
 behind_line [] = []
 behind_line (c ∷ cs) = if c == 10 then cs else behind_line cs
@@ -23,28 +23,29 @@ abbrev pub Takes : List ℕ → Option (List ℕ) → Option ℕ → Type 0
 Takes bytes left (Some byte) = (rest : List ℕ) × (bytes ≡ byte ∷ rest) × (left ≡ Some rest)
 Takes bytes left None = (bytes ≡ []) × (left ≡ Some [])
 
--- The first line was read, and what follows it is left. No byte at all is no line, and a line end
--- alone is an empty one.
+-- The first line was read, and the bytes behind it are left. No byte at all is no line, and a line
+-- end alone is an empty line.
 pub record ReadsLine (bytes : List ℕ) (left : Option (List ℕ)) (line : List ℕ) : Type 0 where
   pub there : 0 < length bytes
   pub line_is : line ≡ line_before bytes
   pub left_is : left ≡ Some (behind_line bytes)
 
--- the first two lines were
+-- the first two lines were read
 pub record ReadsLines (bytes : List ℕ) (left : Option (List ℕ)) (first second : List ℕ)
     : Type 0 where
   pub there : 0 < length bytes
   pub first_is : first ≡ line_before bytes
   pub second_is : ReadsLine (behind_line bytes) left second
 
--- what a reader had begins with this line, or these two, and it has left what follows
+-- the reader's bytes begin with this line, or these two, and the reader has left the bytes behind
+-- them
 abbrev pub TakesLine : Reading → List ℕ → Type 0
 TakesLine r pw = IfSome r.input (λ bytes. ReadsLine bytes r.left pw)
 
 abbrev pub TakesLines : Reading → List ℕ → List ℕ → Type 0
 TakesLines r first second = IfSome r.input (λ bytes. ReadsLines bytes r.left first second)
 
--- a new password is empty, and that wasn't asked for
+-- a new password is empty, and empty ones are refused
 abbrev pub is_barred : EmptyPassword → List ℕ → Bool
 is_barred Refused pw = length pw == 0
 is_barred Taken pw = false
@@ -77,7 +78,7 @@ abbrev pub HasLong : Passwords → List ℕ → Type 0
 HasLong (PresentAndNew empty) bytes = HasLongLine bytes ⊎ HasLongLine (behind_line bytes)
 HasLong _ bytes = HasLongLine bytes
 
--- the new one is an empty line, and that wasn't asked for
+-- the new password is an empty line, and empty ones are refused
 abbrev pub HasEmpty : Passwords → Option (List ℕ) → Type 0
 HasEmpty Present known = ⊥
 HasEmpty (New empty) known = (empty ≡ Refused) × IfSome known HasEmptyLine
@@ -102,12 +103,12 @@ MissesLine r e = ((e ≡ fault.Read) × (r.failed ≡ true)) ⊎ (e ≡ fault.Me
 
 -- ---- the reader
 
--- after a byte a reader is at its end if it was before
+-- after a byte a reader is at its end exactly if it was there before
 abbrev pub IsOpen : Bool → Bool → Option ℕ → Type 0
 IsOpen old new (Some byte) = new ≡ old
 IsOpen old new None = ⊤
 
--- a call on the reader fails where that is told, and nowhere else
+-- a call on the reader fails if the fault says so, and otherwise none fails
 abbrev pub ReadFails : Bool → Bool → Fault → Type 0
 ReadFails before now fault.Read = now ≡ true
 ReadFails before now _ = now ≡ before

@@ -1,4 +1,4 @@
--- What lists and exports write.
+-- The output of lists and exports.
 use Rattle.std.specs.Prelude.{◌≡◌, ℕ, List, [], ◌∷◌, ◌++◌, Option, Some, None, Result, Ok, Err, true, ◌⊎◌, ◌<◌, codes, if◌then◌else◌, length, take}
 use Rattle.std.specs.{Io.KnownBytes.Appends, Io.KnownBytes.Keeps, List.flat_map}
 use Rattle.cred_phc.specs.{Values.RecordValue, Text.record_text, Text.scheme_text}
@@ -77,7 +77,7 @@ shown_at detail m None = (reply_line reply.NoAccount, status_of reply.NoAccount 
 shown_at detail m (Some None) = (reply_line reply.Absent, status_of reply.Absent None)
 shown_at detail m (Some (Some v)) = ((mark_text m ++ detail_text detail v) ++ 10 ∷ [], Done)
 
--- the same in JSON
+-- the entry and the status in JSON
 abbrev pub json_at : Detail → List ℕ → Mark → Option (Option RecordValue) → List ℕ × Status
 json_at detail name m None = (codes "null\n", No None)
 json_at detail name m (Some None) = (json_line detail m (name, None), No None)
@@ -85,7 +85,7 @@ json_at detail name m (Some (Some v)) = (json_line detail m (name, Some v), Done
 
 -- ---- what becomes of a text
 
--- it is written whole, and the status goes with it; or, if a call failed, a proper prefix of it; or
+-- the whole text is written, with its status; or, if a call failed, a proper prefix of the text; or
 -- nothing
 abbrev pub Tells : List ℕ × Status → Writing → Result Status Fault → Type 0
 Tells told w (Ok status) = Appends w.before w.now told.0 × (status ≡ told.1)
@@ -104,7 +104,8 @@ Prints line entries w (Err fault.Memory) =
     (n : ℕ) × (n < length entries) × Appends w.before w.now (flat_map line (take n entries))
 Prints line entries w (Err _) = ⊥
 
--- what was kept is written, and nothing is kept any more; or it is kept on, and nothing is written
+-- the kept text is written, and nothing is kept any more; or the text stays kept, and nothing is
+-- written
 abbrev pub IsPiece : Option (List ℕ) → Option (List ℕ) → List ℕ → List ℕ → Type 0
 IsPiece before now old new =
     (Appends before now old × (new ≡ [])) ⊎ ((now ≡ before) × (new ≡ old))

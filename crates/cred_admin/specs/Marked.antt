@@ -1,4 +1,4 @@
--- A book with the marks of its accounts, and what a try at one of them comes to.
+-- A book with the marks of its accounts, and the result of a try at an account.
 use Rattle.std.specs.Prelude.{◌≡◌, ◌⊎◌, ℕ, List, Bool, true, false, if◌then◌else◌, Option, Some, None, Result, OnOk, OnErr}
 use Rattle.std.specs.Str.{bytes_eq}
 use Rattle.std.specs.FinMap as map
@@ -18,7 +18,7 @@ pub record MarkedBook : Type 0 where
 abbrev pub marked_book : Accounts → (List ℕ → Mark) → MarkedBook
 marked_book accounts marks = record { accounts = accounts; marks = marks }
 
--- that of a kept book
+-- the marked book of a kept book
 abbrev pub kept_book : {S : Type 0} → Kept S → MarkedBook
 kept_book k = marked_book k.book (kept_mark k.marks)
 
@@ -28,7 +28,8 @@ mark_in book name = if map.contains_key book.accounts name then book.marks name 
 
 -- ---- records that are put
 
--- This record, or none, stands at an account. It need not be changed any more, and a lock stays.
+-- The account has this record, or none. Its password need not be changed any more, and a lock
+-- stays.
 abbrev pub with_record : MarkedBook → List ℕ → Option RecordValue → MarkedBook
 with_record book name stored =
     marked_book (map.insert book.accounts name stored)
@@ -39,7 +40,7 @@ abbrev pub with_account : MarkedBook → List ℕ → Option RecordValue → Mar
 with_account book name stored =
     marked_book (map.insert book.accounts name stored) (marked book.marks name unmarked)
 
--- the mark alone is another
+-- the book with another mark at this name
 abbrev pub with_mark : MarkedBook → List ℕ → Mark → MarkedBook
 with_mark book name m = marked_book book.accounts (marked book.marks name m)
 
@@ -66,13 +67,13 @@ shut (Upgrade name pw setting) (Some stored) = reply.Wrong
 shut (Remove name pw) None = reply.Absent
 shut (Remove name pw) (Some stored) = reply.Wrong
 
--- a change to the password that stands
+-- the request changes a password to the present one
 abbrev pub keeps_password : Request → Bool
 keeps_password (Change name pw new setting) = bytes_eq pw new
 keeps_password _ = false
 
--- A right password that must be changed is told so, and nothing is done. A change is made, but for
--- one to the same password.
+-- A right password that must be changed gets this answer, and nothing is done. A change to another
+-- password is made.
 abbrev pub due : Request → Reply → Option Verdict
 due request reply.Yes = Some Expired
 due request reply.Kept = Some Expired
@@ -81,7 +82,7 @@ due request reply.Removed = Some Expired
 due request reply.Replaced = if keeps_password request then Some Same else None
 due request _ = None
 
--- what is answered in place of this reply, at an account with this mark and this record
+-- the answer that replaces this reply at an account with this mark and this record
 abbrev pub barred_by : Mark → Request → Option RecordValue → Reply → Option Verdict
 barred_by m request now r =
     if m.locked then Some (Told (shut request now))
@@ -91,7 +92,7 @@ barred_by m request now r =
 abbrev pub barred : Mark → Request → Option RecordValue → Option Verdict
 barred m request now = barred_by m request now (whole request now).0
 
--- an operation that makes a change puts a record, and takes the mark away that it must change
+-- an operation that makes a change puts a record, and removes the mark that the old one must change
 abbrev pub marks_after : MarkedBook → List ℕ → Bool → List ℕ → Mark
 marks_after book name changes =
     if changes then marked book.marks name (renewed (book.marks name)) else book.marks
@@ -120,7 +121,7 @@ abbrev pub is_outdated : Verdict → Bool
 is_outdated (Told (reply.Changed now)) = true
 is_outdated _ = false
 
--- the record isn't the one that was copied, and nothing is done
+-- the record differs from the copy, and nothing is done
 pub record IsOutdated (old new : MarkedBook) (work : Task) (v : Verdict) : Type 0 where
   pub now : Option RecordValue
   pub there : map.get old.accounts (name_of work.0) ≡ Some now
@@ -128,13 +129,13 @@ pub record IsOutdated (old new : MarkedBook) (work : Task) (v : Verdict) : Type 
   pub told : v ≡ Told (reply.Changed now)
   pub same_book : new ≡ old
 
--- the operation is done whole, as the marks allow that stand now; or it is outdated
+-- the whole operation is done as the present marks allow; or the work is outdated
 abbrev pub HeedsMarks : MarkedBook → MarkedBook → Task → Verdict → Type 0
 HeedsMarks old new work v = ((v, new) ≡ tried old work.0) ⊎ IsOutdated old new work v
 
 -- ---- what a keeper's call does
 
--- once done the book is this, else it stays
+-- if the call succeeds, the book is this one, and otherwise it stays
 abbrev pub Becomes : {A E : Type 0} → Result A E → MarkedBook → MarkedBook → MarkedBook → Type 0
 Becomes r old new after = OnOk r (new ≡ after) × OnErr r (new ≡ old)
 

@@ -1,4 +1,4 @@
--- What is seen of a command.
+-- What proofs see of a command.
 use Rattle.std.specs.Prelude.{◌≡◌, List, ◌++◌, ℕ, false}
 use Rattle.cred_admin.specs.Marked.{MarkedBook}
 use Rattle.cred_cli.specs.Watched.{Basis, Contract, Fits, Reading, Transcript, Writing, ended_of, given_of}
@@ -19,6 +19,6 @@ abbrev pub FitsSince : Basis → {R : Type 0} → Watched R → Watched R → Ty
 FitsSince Contract old new = Unit {0}
 FitsSince (Transcript all) old new = (ended_of old ≡ false) × Fits (Transcript all) new
 
--- it gave some bytes in between
+-- the reader gave some bytes in between
 abbrev pub GivesMore : {R : Type 0} → Watched R → Watched R → Type 0
 GivesMore old new = (bytes : List ℕ) × (given_of new ≡ given_of old ++ bytes)

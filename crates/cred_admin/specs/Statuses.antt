@@ -30,7 +30,7 @@ status_of_fault fault.NoNewPassword = Data
 status_of_fault fault.Empty = Data
 status_of_fault fault.Full = Data
 
--- what ends a command if a book refuses it
+-- the fault of a command that a book refuses
 abbrev pub fault_of_book : BookError → Fault
 fault_of_book error.Full = fault.Full
 fault_of_book _ = fault.Memory
@@ -45,7 +45,7 @@ hint_at (Some byte) = if byte == 13 then Some CarriageReturn else None
 abbrev pub hint_of : List ℕ → Option Hint
 hint_of pw = hint_at (slice_get pw (length pw - 1))
 
--- what was asked is done, or it is not; a password that isn't right has its hint
+-- the operation is done, or isn't; a wrong password has its hint
 abbrev pub status_of : Reply → Option Hint → Status
 status_of reply.Enrolled hint = Done
 status_of reply.Yes hint = Done

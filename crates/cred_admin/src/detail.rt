@@ -32,7 +32,7 @@ pub(crate) fn detail_text(
     }
 }
 
-/// The text of the setting without its last field, the salt.
+/// Returns the text of the setting without its last field, the salt.
 fn costs_text(alloc: Global, setting: &Setting) -> Result<Vec<u8>, AllocError>
     ensures { IfOk result (λ text. text.items ≡ scheme_text setting.now.scheme) }
 {
@@ -44,7 +44,7 @@ fn costs_text(alloc: Global, setting: &Setting) -> Result<Vec<u8>, AllocError>
     Ok(costs)
 }
 
-/// The text before the `$` and the salt, in base64, that end a setting's text.
+/// Returns the text before the `$` and the salt, in base64, that end a setting's text.
 fn before_salt<'a>(text: &'a [u8], salt: &[u8]) -> &'a [u8]
     requires { length salt.now ≤ 48 }
     ensures { (front : List ℕ) → text.now ≡ front ++ 36 ∷ base64 salt.now

@@ -30,7 +30,7 @@ pub enum EditReply {
     NoAccount,
 }
 
-/// The reply's word with the line end.
+/// Returns the reply's word with the line end.
 pub fn edit_line(reply: EditReply) -> &'static [u8]
     ensures { result.now ≡ edit_line reply }
 {
@@ -48,7 +48,7 @@ pub fn edit_line(reply: EditReply) -> &'static [u8]
     }
 }
 
-/// The exit status for the reply.
+/// Returns the exit status for the reply.
 pub(crate) fn edit_status(reply: EditReply) -> Status
     ensures { result ≡ edit_status reply }
 {

@@ -21,12 +21,12 @@ use sqlite::Alter;
 use std::alloc::Global;
 use std::io::Write;
 
-/// A change of an account for which no password is asked.
+/// A change of an account without its password.
 #[derive(Clone, Copy)]
 pub enum Edit {
     /// Removes the record, and leaves the name.
     Disable(Name),
-    /// Removes the name, with its record.
+    /// Removes the name with its record.
     Delete(Name),
     /// Renames the account of the first name to the second one.
     Rename(Name, Name),
@@ -34,16 +34,16 @@ pub enum Edit {
     Lock(Name),
     /// Ends a lock.
     Unlock(Name),
-    /// Demands a change of the account's password.
+    /// Requires a new password for the account.
     Expire(Name),
 }
 
 /// Changes an account, and writes the outcome: `disabled`, `deleted`, `renamed`, `locked`,
-/// `unlocked` or `expired`; `absent` if it has no record to remove or to change; `none` if it isn't
-/// locked; `exists` if the second name exists; or `noaccount`.
+/// `unlocked` or `expired`; `absent` if the account has no record to remove or to change, `none` if
+/// the account isn't locked, `exists` if the second name exists, or `noaccount`.
 ///
-/// Errors: `Memory`, and `Full` if an account would be renamed and the book has no room for one
-/// more name: nothing is written or changed; `Write`.
+/// Errors: `Write`; and, before any output or change, `Memory`, or `Full` if an account would be
+/// renamed and the book has no room for one more name.
 pub fn edit_account<K: Host, W: Write>(
     keeper: &mut K,
     edit: &Edit,
@@ -60,7 +60,7 @@ pub fn edit_account<K: Host, W: Write>(
 /// Changes an account, and returns the outcome.
 ///
 /// Errors: `Full` if an account would be renamed, and the book has no room for one more name;
-/// `Memory`. The book stays.
+/// `Memory`. The book stays as it was.
 pub(crate) fn make_edit<S: Alter>(
     book: &mut FileBook<S>,
     edit: &Edit,
@@ -207,11 +207,11 @@ fn expired(mark: Mark) -> Mark
     }
 }
 
-/// Writes the account's line of a passwd-file, and then removes its record. The line comes
-/// first, so that a record isn't lost by a failed write.
+/// Writes the account's line of a passwd-file, and then removes its record. The line comes first,
+/// so that a failed write loses no record.
 ///
-/// The answer without a record is `absent` or `noaccount`. Errors: `Memory`, and `Write`: the
-/// account stays as it is.
+/// The answer without a record is `absent` or `noaccount`. Errors: `Memory` and `Write`. The
+/// account then stays as it is.
 pub fn disable_shown<K: Host, W: Write>(
     alloc: Global,
     keeper: &mut K,

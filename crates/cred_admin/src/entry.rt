@@ -1,9 +1,9 @@
-//! A line of a passwd-file: `NAME:RECORD`, or `NAME:` if it has no record.
+//! A line of a passwd-file: `NAME:RECORD`, or `NAME:` without a record.
 //!
-//! Additions of other programs are left out: a carriage return at the end, further fields,
-//! and in front of the record Dovecot's scheme in braces or Django's word `argon2`. But a line with
-//! `nologin` or another field of Dovecot's that bars its user is locked. An empty line and one that
-//! begins with `#` say nothing.
+//! The reader skips additions of other programs: a carriage return at the end, further fields, and
+//! before the record Dovecot's scheme in braces or Django's word `argon2`. But a line with
+//! `nologin`, or with another of Dovecot's fields that bars the user, is locked. An empty line and
+//! a line that begins with `#` say nothing.
 
 ghost use Rattle.std.specs.{Prelude.◌≡◌, List.list_any};
 ghost use Rattle.cred_admin.specs.Import.{bars, behind_braces, behind_word, has_bar, is_barred, is_locked, is_remark, is_star, line_number, line_word, record_part, said_as, said_locked, said_of, said_with, stored_at, without_return};
@@ -23,7 +23,7 @@ pub enum LineFault {
     Line,
     /// The text of the record has this fault.
     Text(PhcError),
-    /// The name is no name, or the book refuses it.
+    /// The name isn't valid, or the book refuses the name.
     Book(BookError),
     /// The record is locked, or a field of Dovecot's bars its user.
     Locked,
@@ -32,7 +32,7 @@ pub enum LineFault {
 }
 
 impl LineFault {
-    /// The number of the fault, as in the answers to a script: from 1 to 9, 11, 17 or 18.
+    /// Returns the number of the fault, as in the answers to a script: 1 to 9, 11, 17 or 18.
     pub fn number(self) -> u8
         ensures { result ≡ line_number self }
     {
@@ -45,7 +45,7 @@ impl LineFault {
         }
     }
 
-    /// The name of the fault in lower case.
+    /// Returns the name of the fault in lower case.
     pub fn word(self) -> &'static str
         ensures { result.now ≡ line_word self }
     {
@@ -68,7 +68,7 @@ pub(crate) enum Said {
     Account(LineAccount),
 }
 
-/// An account of a line, with its record or none, and its mark.
+/// An account of a line, with its record, if any, and its mark.
 #[derive(Clone, Copy, Debug, PartialEq, Eq)]
 pub(crate) struct LineAccount {
     pub(crate) name: Name,
@@ -76,8 +76,9 @@ pub(crate) struct LineAccount {
     pub(crate) mark: Mark,
 }
 
-/// Reads a line, which is cut at every colon: the first field is the name, and the second one has
-/// the record. The name is judged before the record. The others count only if they bar the user.
+/// Reads a line, whose fields end at colons: the first field is the name, and the second one has
+/// the record. The name is judged before the record. The other fields count only if they bar the
+/// user.
 #[tactic(auto, unfolding(crate::specs::Import::said_of))]
 pub(crate) fn said_of(line: &[u8], locked: LockedRecords) -> Result<Said, LineFault>
     ensures { result ≡ said_of locked line.now }
@@ -93,7 +94,7 @@ pub(crate) fn said_of(line: &[u8], locked: LockedRecords) -> Result<Said, LineFa
     }
 }
 
-/// Whether a line is a remark, for its readers alone.
+/// Whether a line is a remark for human readers.
 fn is_remark(line: &[u8]) -> bool
     ensures { result ≡ is_remark line.now }
 {
@@ -110,7 +111,7 @@ fn said_as(locked: LockedRecords, name: &[u8], barred: bool, text: &[u8]) -> Res
     said_with(name, Mark::none(), text)
 }
 
-/// The account of a line whose record is locked, or whose user a field bars.
+/// Returns the account of a line whose record is locked, or whose user a field bars.
 fn said_locked(
     locked: LockedRecords,
     name: Name,
@@ -140,7 +141,7 @@ fn said_with(name: Name, mark: Mark, text: &[u8]) -> Result<Said, LineFault>
     Ok(Said::Account(LineAccount { name, stored, mark }))
 }
 
-/// The mark that stands before a record, and the text behind it.
+/// Returns the mark that stands before a record, and the text behind it.
 fn cut_mark(text: &[u8]) -> (Mark, &[u8])
     ensures mark { result.0 ≡ mark_of text.now }
     ensures rest { result.1.now ≡ rest_of text.now }
@@ -156,7 +157,7 @@ fn cut_mark(text: &[u8]) -> (Mark, &[u8])
     )
 }
 
-/// Whether a text begins with this byte, and the text behind that.
+/// Returns whether a text begins with this byte, and the text behind the byte.
 fn cut(text: &[u8], byte: u8) -> (bool, &[u8])
     ensures { (result.0 ≡ begins byte text.now) × (result.1.now ≡ past byte text.now) }
 {
@@ -166,7 +167,8 @@ fn cut(text: &[u8], byte: u8) -> (bool, &[u8])
     }
 }
 
-/// Whether a second field has a record that `passwd -l` or an export marked, or `*` in its place.
+/// Whether a second field has a record that `passwd -l` or an export marked, or `*` instead of a
+/// record.
 fn is_locked(text: &[u8]) -> bool
     ensures { result ≡ is_locked text.now }
 {
@@ -205,7 +207,8 @@ fn has_bar(field: &[u8]) -> bool
     false
 }
 
-/// Whether an item of Dovecot's extra fields lets its user in nowhere, or only from some networks.
+/// Whether an item of Dovecot's extra fields bars its user everywhere, or allows only some
+/// networks.
 fn bars(item: &[u8]) -> bool
     ensures { result ≡ bars item.now }
 {
@@ -225,7 +228,7 @@ fn stored_at(text: &[u8]) -> Result<Option<Record>, LineFault>
     }
 }
 
-/// A line without the carriage return before its end.
+/// Returns a line without the carriage return before its end.
 fn without_return(line: &[u8]) -> &[u8]
     ensures { result.now ≡ without_return line.now }
 {
@@ -237,14 +240,14 @@ fn without_return(line: &[u8]) -> &[u8]
     }
 }
 
-/// The text of the record in a second field.
+/// Returns the text of the record in a second field.
 fn record_part(text: &[u8]) -> &[u8]
     ensures { result.now ≡ record_part text.now }
 {
     behind_word(behind_braces(text))
 }
 
-/// The text after a scheme in braces, if it begins with one.
+/// Returns the text after a scheme in braces, if the text begins with one.
 fn behind_braces(text: &[u8]) -> &[u8]
     ensures { result.now ≡ behind_braces (pieces 125 text.now) text.now }
 {
@@ -255,7 +258,7 @@ fn behind_braces(text: &[u8]) -> &[u8]
     }
 }
 
-/// The text after Django's word, if it begins with that.
+/// Returns the text after Django's word, if the text begins with this word.
 fn behind_word(text: &[u8]) -> &[u8]
     ensures { result.now ≡ behind_word text.now }
 {

@@ -31,7 +31,7 @@ pub enum Fault {
 }
 
 impl Fault {
-    /// The exit status of the fault.
+    /// Returns the exit status of the fault.
     pub fn status(&self) -> Status
         ensures { result ≡ status_of_fault self.now }
     {
@@ -63,7 +63,8 @@ impl From<TagError> for Fault {
     }
 }
 
-/// Commands ask a book only for possible changes: it refuses them only for want of room or memory.
+/// Commands ask a book only for possible changes, so the book refuses a change only for want of
+/// room or memory.
 impl From<BookError> for Fault {
     ghost from_gives = { λ why e. e ≡ fault_of_book why };
 

@@ -9,8 +9,8 @@ use sqlite::Alter;
 
 /// A keeper whose book stands in a register in memory, and whose changes wait for nobody.
 ///
-/// Its calls return: none of them has a handle by which it may wait. They answer `Memory` if memory
-/// runs out and no other error is due; the book stays then.
+/// Its calls return, since none has a handle by which the call could wait. A call answers `Memory`
+/// if memory runs out and no other error is due. The book then stays as it was.
 pub trait Host {
     ghost use Rattle.std.specs.Prelude.{◌≡◌, ℕ, Bool, None, Some};
     ghost use Rattle.cred_book.specs.{Accounts.most_accounts, Calls.AdmitsWithin, Calls.Loads, Commits.Commits};
@@ -23,19 +23,19 @@ pub trait Host {
 
     ghost capacity: { ℕ } = { most_accounts };
 
-    /// Whether it has failed for good: no change is made any more, and the one that was under way
-    /// may be kept or not.
+    /// Whether the keeper has failed for good. It then makes no more changes, and the change that
+    /// was under way may or may not be kept.
     ghost failed: { Self → Bool };
 
-    /// The accounts.
+    /// Returns the accounts.
     fn accounts(&self) -> &Register
         ensures { result.now ≡ (book self.now).accounts };
 
-    /// The mark of an account.
+    /// Returns the mark of an account.
     fn mark_of(&self, name: &Name) -> Mark
         ensures { result ≡ (book self.now).marks name.now };
 
-    /// Adds a name, with no record and no mark.
+    /// Adds a name without a record or a mark.
     ///
     /// Errors: `Exists` if the book has the name; `Full`; `Memory`.
     fn admit(&mut self, name: Name) -> Result<(), BookError>
@@ -54,8 +54,9 @@ pub trait Host {
         ensures whole { Becomes result (book self.old) (book self.new)
             (with_record (book self.old) name.now (Some stored)) };
 
-    /// Puts a record, or none, at a name, which is added if it doesn't exist, in one change. A new
-    /// account has no mark; another need not be changed any more, and keeps its lock.
+    /// Puts a record, or none, at a name, and adds the name if it doesn't exist, in one change. A
+    /// new account has no mark. The password of an existing account need not be changed any more,
+    /// and its lock stays.
     ///
     /// Errors: `Full` if the name doesn't exist and there is no room for it; `Memory`.
     fn put(&mut self, name: &Name, stored: Option<Record>) -> Result<(), BookError>
@@ -64,25 +65,25 @@ pub trait Host {
         ensures whole { Becomes result (book self.old) (book self.new)
             (with_put (book self.old) name.now stored) };
 
-    /// Does the whole operation if the record still equals the copy, and otherwise nothing. It
-    /// heeds no mark: `commit_try` does.
+    /// Does the whole operation if the record still equals the copy, and otherwise nothing. This
+    /// call ignores marks: `commit_try` heeds them.
     ///
-    /// Errors: `Memory`; the work comes back.
+    /// Errors: `Memory`. The work comes back.
     fn commit(&mut self, worked: Worked) -> Result<Reply, (Worked, BookError)>
         ensures done { Commits (book self.old).accounts (book self.new).accounts worked result }
         ensures whole { Becomes result (book self.old) (book self.new)
             (with_commit (book self.old) worked) };
 
-    /// Changes an account for which no password is asked.
+    /// Changes an account without its password.
     ///
     /// Errors: `Full` if an account would be renamed, and there is no room for one more name;
     /// `Memory`. The book stays.
     fn edit(&mut self, edit: &Edit) -> Result<EditReply, BookError>
         ensures { EditsWithin capacity (book self.old) (book self.new) edit.now result };
 
-    /// Stores at each of these accounts its record there, or none, in place of any other: all
-    /// together, so that a crash leaves the book with all of these changes, or with none. No
-    /// password of these need be changed any more, and locks stay.
+    /// Gives each of these accounts its record in this register, or none, in place of any other.
+    /// The changes are made together, so that a crash leaves the book with all of them or with
+    /// none. The passwords of these accounts need not be changed any more, and locks stay.
     ///
     /// Errors: `NoAccount` if one of the names has no account; `Memory`. The book stays.
     fn replace_all(&mut self, changed: Register) -> Result<(), BookError>
@@ -91,7 +92,8 @@ pub trait Host {
         ensures whole { Becomes result (book self.old) (book self.new)
             (with_replaced (book self.old) changed) };
 
-    /// Whether it has failed for good. An error with which it hasn't failed is want of memory.
+    /// Whether the keeper has failed for good. An error without such a failure means want of
+    /// memory.
     fn has_failed(&self) -> bool
         ensures { result ≡ failed self.now };
 }

@@ -29,15 +29,16 @@ pub enum Existing {
     Updated,
 }
 
-/// The treatment of a locked record: one after `!`, `~` or `*`, or of a user whom a field bars.
+/// The treatment of a locked record: a record after `!`, `~` or `*`, or of a user whom a field
+/// bars.
 #[derive(Clone, Copy, Debug, PartialEq, Eq)]
 pub enum LockedRecords {
     /// The line is refused.
     Refused,
     /// The account of the line has no record.
     Disabled,
-    /// The account has its record, and the marks `!` and `~`, as an export writes them. A line with
-    /// `*`, or with a field that bars its user, is refused.
+    /// The account has its record, and the marks `!` and `~`, as an export writes them. The import
+    /// refuses a line with `*`, or with a field that bars the user.
     Kept,
 }
 
@@ -95,9 +96,9 @@ impl From<AllocError> for ImportFault {
 pub struct Gathered {
     /// The new accounts.
     pub accounts: Register,
-    /// The existing accounts that change, with their records from then on.
+    /// The existing accounts that change, with their new records.
     pub changed: Register,
-    /// The marks of both.
+    /// The marks of the new and the changed accounts.
     pub marks: Marks,
     /// The number of lines whose account exists and stays as it is.
     pub kept: u64,
@@ -105,7 +106,8 @@ pub struct Gathered {
     pub bad: Vec<BadLine>,
 }
 
-/// The accounts in the lines of the reader, `NAME:RECORD` or `NAME:` each, beside this book.
+/// Gathers the accounts in the lines of the reader, `NAME:RECORD` or `NAME:` each, beside this
+/// book.
 ///
 /// Errors: `Read`; `Memory`; `Full` for over 2^24 accounts.
 pub fn gather<R: Read>(

@@ -7,9 +7,9 @@ ghost use Rattle.cred_file.specs.Cells.{unmarked};
 ghost use Rattle.cred_admin.specs.Import.{HasNone, IsFirst, import_lines, tally};
 ghost use Rattle.cred_admin.specs.{declared.entry.LineAccount.LineAccount, declared.import.Existing.TheVariants.Updated, declared.import.Rules.Rules};
 
-/// The law that a name gets the record and the mark of its first good line: among the new accounts,
-/// if the name isn't in the book; among the changed ones, if it is, and such accounts are updated.
-/// No other name is new, changed or marked.
+/// The law that a name gets the record and the mark of its first good line. A name that isn't in
+/// the book is among the new accounts. A name in the book is among the changed accounts, if the
+/// rules update existing accounts. No other name is new, changed or marked.
 pub fn imports_are_of_their_lines()
     ensures added { (rules : Rules) (book : Accounts) (text : List ℕ) (e : LineAccount)
         → IsFirst rules text e → map.contains_key book e.name ≡ false

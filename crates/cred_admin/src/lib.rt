@@ -1,9 +1,9 @@
-//! The commands of an administrator over a book of accounts: add, check, change, upgrade, remove
-//! and reset by a password that is read from a reader; show and list; disable, delete and rename;
-//! and the result of the lines of an import.
+//! The commands of an administrator over a book of accounts. Add, check, change, upgrade, remove
+//! and reset read a password from a reader. Other commands show and list accounts, or disable,
+//! delete and rename an account. This crate also computes the result of an import's lines.
 //!
-//! Each command reads, changes the book by its keeper, and then writes its answer: so it never
-//! writes an answer before the change.
+//! Each command reads, then changes the book through its keeper, and then writes its answer. So no
+//! command writes an answer before the change.
 #![tactic(auto)]
 
 mod detail;

@@ -36,15 +36,17 @@ pub enum LineForm {
     /// A line of a passwd-file: `NAME:` and this detail of its record, if it has one. Before the
     /// detail there is `!` if the account is locked, and `~` if its password must be changed.
     Passwd(Detail),
-    /// JSON: `{"name":"NAME","record":"RECORD"}`, or with `"costs"`; `null` is no record.
-    /// A locked account has `"locked":true`, and one that must be changed `"expired":true`.
+    /// JSON: `{"name":"NAME","record":"RECORD"}`, or with `"costs"`; `null` stands for no record. A
+    /// locked account has `"locked":true`, and one whose password must be changed has
+    /// `"expired":true`.
     Json(Detail),
 }
 
-/// Writes a line of each account, in the order of their names, with about 64 KiB in memory at a
-/// time, however many there are. `import` reads those of `LineForm::Passwd(Detail::Record)`.
+/// Writes a line for each account, in the order of the names. However many accounts there are, the
+/// call holds only about 64 KiB of lines in memory. `import` reads the lines of
+/// `LineForm::Passwd(Detail::Record)`.
 ///
-/// Errors: `Memory`, and some first lines are written, perhaps none and never all; `Write`.
+/// Errors: `Memory`, after some of the lines, perhaps none, but never all; `Write`.
 pub fn list<K: Host, W: Write>(
     alloc: Global,
     keeper: &K,
@@ -88,7 +90,7 @@ fn write_piece<W: Write>(writer: &mut Watched<W>, text: &mut Vec<u8>) -> Result<
     Ok(())
 }
 
-/// The line of one account.
+/// Writes the line of one account.
 pub fn line_of(
     alloc: Global,
     line: LineForm,
@@ -145,8 +147,8 @@ fn push_line(
     }
 }
 
-/// The mark as the book's file has it before a record: `!` of a lock, and `~` of a password that
-/// must be changed.
+/// Returns the mark as the book's file has it before a record: `!` for a lock, and `~` for a
+/// password that must be changed.
 pub(crate) fn mark_text(mark: Mark) -> &'static [u8]
     ensures { result.now ≡ mark_text mark }
 {
@@ -158,7 +160,7 @@ pub(crate) fn mark_text(mark: Mark) -> &'static [u8]
     }
 }
 
-/// The marks that an account has, as members of its object.
+/// Returns the marks that an account has, as members of its object.
 fn json_marks(mark: Mark) -> &'static [u8]
     ensures { result.now ≡ json_marks mark }
 {
@@ -179,7 +181,7 @@ fn detail_word(detail: Detail) -> &'static [u8]
     }
 }
 
-/// A record's detail as a string, or null.
+/// Adds a record's detail as a string, or null.
 fn push_json_detail(
     alloc: Global,
     text: &mut Vec<u8>,

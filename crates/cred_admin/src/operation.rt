@@ -22,7 +22,7 @@ use std::alloc::AllocError;
 use std::io::{Read, Write};
 use std::thread::Threads;
 
-/// An operation on one account, with its passwords read a line each.
+/// An operation on one account, which reads each of its passwords from a line.
 #[derive(Clone, Copy, Debug, PartialEq, Eq)]
 pub enum Operation {
     /// Stores the first record of the account, and adds the account if it doesn't exist. The answer
@@ -30,21 +30,21 @@ pub enum Operation {
     Add(NewPassword),
     /// Asks whether a password is the account's. The answer is `yes` or `no`.
     Check,
-    /// Replaces the old password's record by one of a new password. The answer is `replaced` or
-    /// `wrong`.
+    /// Replaces the old password's record by a record of a new password. The answer is `replaced`
+    /// or `wrong`.
     Change(NewPassword),
     /// Sets the record of a new password, without the old one. The answer is
     /// `replaced`, or `enrolled` for the first record.
     Reset(NewPassword),
-    /// Rehashes the account's record, unless it has this scheme with these numbers. The answer is
-    /// `upgraded`, `kept` or `wrong`.
+    /// Rehashes the account's password, unless its record has this scheme with these numbers. The
+    /// answer is `upgraded`, `kept` or `wrong`.
     Upgrade(NewSetting),
     /// Removes the account's record; the name stays. The answer is `removed` or `wrong`.
     Remove,
 }
 
 impl Operation {
-    /// The passwords that the operation reads.
+    /// Returns the passwords that the operation reads.
     pub fn passwords(&self) -> Passwords
         ensures { result ≡ passwords_of self.now }
     {
@@ -55,16 +55,16 @@ impl Operation {
         }
     }
 
-    /// Reads the passwords, does the whole operation, and then writes the answer: `noaccount` or
-    /// `absent` where the account or its record is missing. A locked account answers as if each
-    /// password were wrong. A right password that must be changed is `expired`, and a change to
-    /// itself is `same`.
+    /// Reads the passwords, does the whole operation, and then writes the answer, which is
+    /// `noaccount` or `absent` if the account or its record is missing. A locked account gets the
+    /// answers of wrong passwords. A right password that must be changed gets `expired`, and its
+    /// change to itself gets `same`.
     ///
-    /// Only a call of the reader or the writer may wait: else every body returns, and is bound by
-    /// this.
+    /// Only a call of the reader or the writer may wait: otherwise every body returns, so these
+    /// clauses bind it.
     ///
-    /// Errors: `Read`, `NoPassword`, `NoNewPassword`, `Password`, `Empty`, `Memory`, and `Full` if
-    /// the book has no room for an account: nothing is written or changed; `Write`.
+    /// Errors: `Write`; and, before any output or change, `Read`, `NoPassword`, `NoNewPassword`,
+    /// `Password`, `Empty`, `Memory`, or `Full` if the book has no room for an account.
     pub fn carry_out<T: Threads + Sync, K: Host, R: Read, W: Write>(
         &self,
         tools: &Tools<'_, T>,
@@ -133,7 +133,8 @@ impl Operation {
     }
 }
 
-/// Begins, hashes and commits, with nothing between that could change the record.
+/// Begins an operation, hashes for it and commits it, with nothing between that could change the
+/// record.
 fn settle<T: Threads + Sync, K: Host>(
     tools: &Tools<'_, T>,
     keeper: &mut K,
@@ -206,8 +207,8 @@ fn reset<T: Threads + Sync, K: Host>(
 }
 
 /// Stores this record at the account, in place of any other. Its password need not be changed any
-/// more, and a lock stays. If memory runs out the book stays; it runs out only if the account
-/// exists.
+/// more, and a lock stays. If memory runs out, which it does only if the account exists, the book
+/// stays as it was.
 pub fn put_in_place<K: Host>(
     keeper: &mut K,
     name: &Name,

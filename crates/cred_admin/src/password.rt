@@ -1,4 +1,4 @@
-//! Reading passwords, a line each.
+//! Reads passwords, a line each.
 
 ghost use Rattle.std.specs.Prelude.{◌≡◌, ◌<◌, ◌&&◌, ◌++◌, ◌∷◌, [], IfErr, IfOk, IfSome, OnOk, Some, false, length, not, true};
 ghost use Rattle.cred_cli.specs.Watched.{Basis, ended_of, failed_of, left_on, reading_on};
@@ -42,14 +42,14 @@ pub enum Passwords {
     PresentAndNew(EmptyPassword),
 }
 
-/// The passwords that were read: of the first line and of the last one, which may be the same.
+/// The passwords of the first line and of the last line, which may be the same line.
 #[derive(Clone, Copy)]
 pub(crate) struct Typed {
     pub(crate) first: Password,
     pub(crate) last: Password,
 }
 
-/// Reads passwords, a line each. No byte after the last line is taken.
+/// Reads passwords, a line each, and no byte after the last line.
 ///
 /// Errors: those of [`read_password`]; `NoNewPassword` if the input ends after the first line of
 /// two; `Empty` if a new password is empty, and empty ones are refused.
@@ -96,16 +96,16 @@ fn is_barred(empty: EmptyPassword, pw: &Password) -> bool
     }
 }
 
-/// Whether the reader came to its end since it was asked. No line follows then, even if a terminal
-/// gives more after its end.
+/// Whether the reader came to its end in these calls. Then no line follows, even if a terminal
+/// gives more bytes after its end.
 fn came_to_end<R>(was_ended: bool, reader: &Watched<R>) -> bool
     ensures { result ≡ (not was_ended && ended_of reader.now) }
 {
     !was_ended && reader.ended()
 }
 
-/// Reads one line: the bytes before the next line end, which is read too, or before the end of
-/// the input. No byte after the line is read.
+/// Reads one line: the bytes before the next line end, and that line end, or the bytes before the
+/// end of the input. Reads no byte after the line.
 ///
 /// Errors: `Read`; `Memory`; `NoPassword` at the end of the input; `Password` if the line has
 /// over 256 bytes.
@@ -138,7 +138,7 @@ fn read_password<R: Read>(alloc: Global, reader: &mut Watched<R>) -> Result<Pass
     Err(Fault::Password)
 }
 
-/// The next byte, or none at the end.
+/// Reads the next byte, or none at the end.
 fn next_byte<R: Read>(reader: &mut Watched<R>) -> Result<Option<u8>, Fault>
     ensures byte { (basis : Basis) → FitsSince basis reader.old reader.new
         → IfOk result (λ byte. IfSome (left_on basis R.remaining reader.old)
@@ -156,7 +156,7 @@ fn next_byte<R: Read>(reader: &mut Watched<R>) -> Result<Option<u8>, Fault>
     }
 }
 
-/// The password of these bytes.
+/// Builds the password of these bytes.
 fn password(bytes: &[u8]) -> Result<Password, Fault>
     ensures value { IfOk result (λ pw. pw ≡ bytes.now) }
     ensures long { IfErr result (λ e.

@@ -1,4 +1,4 @@
-//! Writing a whole text, and answering with one.
+//! Writes whole texts, and answers with them.
 
 ghost use Rattle.std.specs.{Prelude.◌≡◌, Prelude.IfErr, Prelude.OnErr, Prelude.OnOk, Prelude.true, Io.KnownBytes.Appends};
 ghost use Rattle.cred_cli.specs.{Outcome.FrontWritten, Watched.Basis, Watched.failed_of, Watched.held_on, Watched.writing_on};

@@ -11,7 +11,7 @@ use std::marker::Model;
 /// A salt for a text that has none: 8 bytes of zero in base64.
 const ANY_SALT: &[u8] = b"$AAAAAAAAAAA";
 
-/// A setting for new records: its version isn't 0x10.
+/// A setting for new records, whose version isn't 0x10.
 #[derive(Clone, Copy, Debug, PartialEq, Eq)]
 pub struct NewSetting {
     setting: Setting,
@@ -31,7 +31,7 @@ impl Model for NewSetting {
 }
 
 impl NewSetting {
-    /// The setting.
+    /// Returns the setting.
     pub fn setting(&self) -> Setting
         ensures value { result ≡ self.now }
         ensures current { is_current self.now.scheme ≡ true }
@@ -40,7 +40,7 @@ impl NewSetting {
     }
 }
 
-/// The setting of a text. A text that ends before its salt, such as
+/// Reads the setting of a text. A text that ends before its salt, such as
 /// `$argon2id$v=19$m=65536,t=3,p=4`, gets this salt.
 ///
 /// Errors: those of `parse_setting`; `Memory`.

@@ -16,11 +16,11 @@ use cred_cli::{Watched, reply_line};
 use std::alloc::Global;
 use std::io::Write;
 
-/// Writes this detail of an account's record, in a line, behind its mark: `!` if it is locked, and
-/// `~` if its password must be changed.
+/// Writes a line with this detail of an account's record behind its mark: `!` if the account is
+/// locked, and `~` if its password must be changed.
 ///
-/// The line is `absent` without a record, or `noaccount`. Errors: `Memory`: nothing is
-/// written; `Write`.
+/// The line is `absent` without a record, or `noaccount`. Errors: `Memory`, without any output;
+/// `Write`.
 pub fn show<K: Host, W: Write>(
     alloc: Global,
     keeper: &K,
@@ -46,9 +46,9 @@ pub fn show<K: Host, W: Write>(
     }
 }
 
-/// Writes an account with this detail of its record in JSON, in a line.
+/// Writes a line of JSON with an account and this detail of its record.
 ///
-/// The line is `null` if no such account exists. Errors: `Memory`: nothing is written; `Write`.
+/// The line is `null` if no such account exists. Errors: `Memory`, without any output; `Write`.
 pub fn show_json<K: Host, W: Write>(
     alloc: Global,
     keeper: &K,

@@ -14,7 +14,7 @@ pub enum Hint {
     CarriageReturn,
 }
 
-/// The hint for this password, if any.
+/// Returns the hint for this password, if any.
 pub(crate) fn hint_of(pw: &Password) -> Option<Hint>
     ensures { result ≡ hint_of pw.now }
 {
@@ -36,17 +36,17 @@ pub enum Status {
     Io,
     /// Memory ran out.
     Memory,
-    /// The book says no: another password (perhaps with a hint), no such account, no record, or one
-    /// already.
+    /// The book says no: another password (perhaps with a hint), no such account, no record, or an
+    /// existing one.
     No(Option<Hint>),
     /// The database failed, is busy, or holds no book.
     Database,
-    /// The input is wrong: a password, no password, a line, or one account too many.
+    /// The input is wrong: a bad password or none, a bad line, or one account too many.
     Data,
 }
 
 impl Status {
-    /// The number of the exit status.
+    /// Returns the number of the exit status.
     pub fn number(self) -> u8
         ensures { result ≡ number_of self }
     {
@@ -62,7 +62,7 @@ impl Status {
     }
 }
 
-/// The exit status of a reply, with the hint for the password.
+/// Returns the exit status of a reply, with the hint for the password.
 pub(crate) fn status_of(reply: &Reply, hint: Option<Hint>) -> Status
     ensures { result ≡ status_of reply.now hint }
 {

@@ -14,7 +14,7 @@ use cred_phc::Record;
 /// The answer to a try at an account.
 #[derive(Clone, Copy, Debug, PartialEq, Eq)]
 pub enum Verdict {
-    /// The reply to the operation. At a locked account it is the one that a wrong password has.
+    /// The reply to the operation. At a locked account this is the reply to a wrong password.
     Told(Reply),
     /// The password is right, and must be changed. Nothing was done.
     Expired,
@@ -23,7 +23,7 @@ pub enum Verdict {
 }
 
 impl Verdict {
-    /// Whether the commit found another record than the copy.
+    /// Whether the commit found a record that differs from the copy.
     pub fn is_outdated(&self) -> bool
         ensures { result ≡ is_outdated self.now }
     {
@@ -31,7 +31,7 @@ impl Verdict {
     }
 }
 
-/// The verdict's word with the line end.
+/// Returns the verdict's word with the line end.
 pub fn verdict_line(verdict: &Verdict) -> &'static [u8]
     ensures { result.now ≡ verdict_line verdict.now }
 {
@@ -42,7 +42,7 @@ pub fn verdict_line(verdict: &Verdict) -> &'static [u8]
     }
 }
 
-/// The exit status for the verdict, with the hint for the password.
+/// Returns the exit status for the verdict, with the hint for the password.
 pub(crate) fn verdict_status(verdict: &Verdict, hint: Option<Hint>) -> Status
     ensures { result ≡ verdict_status verdict.now hint }
 {
@@ -52,10 +52,10 @@ pub(crate) fn verdict_status(verdict: &Verdict, hint: Option<Hint>) -> Status
     }
 }
 
-/// Does a whole operation at the record that was copied, as far as the marks allow that its account
-/// has now. A mark that came after the copy counts.
+/// Does a whole operation at the copied record, as far as the present marks of its account allow. A
+/// mark that came after the copy counts too.
 ///
-/// Errors: `Memory`; the work comes back, and nothing is changed.
+/// Errors: `Memory`. The work comes back, and nothing changes.
 #[tactic(auto, using(crate::proofs::Heeding::heeding))]
 pub fn commit_try<K: Host>(keeper: &mut K, worked: Worked) -> Result<Verdict, (Worked, BookError)>
     ensures done { IfOk result
@@ -77,7 +77,7 @@ pub fn commit_try<K: Host>(keeper: &mut K, worked: Worked) -> Result<Verdict, (W
     }
 }
 
-/// The answer in place of this reply, at an account with this mark and this record.
+/// Returns the answer that replaces this reply at an account with this mark and this record.
 fn barred(mark: Mark, request: &Request, now: &Option<Record>, reply: Reply) -> Option<Verdict>
     ensures { result ≡ barred_by mark request.now now.now reply }
 {
@@ -90,7 +90,8 @@ fn barred(mark: Mark, request: &Request, now: &Option<Record>, reply: Reply) -> 
     None
 }
 
-/// The reply that a wrong password has at this record. A first record isn't made either.
+/// Returns the reply that a wrong password has at this record. Such an account gets no first record
+/// either.
 fn shut(request: &Request, stored: &Option<Record>) -> Reply
     ensures { result ≡ shut request.now stored.now }
 {
@@ -102,7 +103,7 @@ fn shut(request: &Request, stored: &Option<Record>) -> Reply
     }
 }
 
-/// The answer in place of this reply, where the password must be changed.
+/// Returns the answer that replaces this reply if the password must be changed.
 fn due(request: &Request, reply: Reply) -> Option<Verdict>
     ensures { result ≡ due request.now reply }
 {
@@ -113,7 +114,7 @@ fn due(request: &Request, reply: Reply) -> Option<Verdict>
     }
 }
 
-/// Whether it is a change to the password that stands.
+/// Whether the request changes a password to the present one.
 fn keeps_password(request: &Request) -> bool
     ensures { result ≡ keeps_password request.now }
 {

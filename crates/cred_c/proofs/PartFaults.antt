@@ -1,4 +1,4 @@
--- The first that is wrong with a tag's numbers is what reading them answers.
+-- Reading a tag's numbers answers with their first fault.
 use Rattle.std.proofs.Common.{◌≡◌, ℕ, Result, Err, inl, inr, arith}
 use Rattle.cred_argon.specs.{Faults.IsFirstRawFault, Numbers.kind_number, Numbers.version_number, Parameters.Parameters, declared.error.ArgonError.ArgonError}
 use Rattle.cred_argon.specs.declared.error.ArgonError.TheVariants.{Lanes, Cost, Passes, TagLen, InputLen, Memory}

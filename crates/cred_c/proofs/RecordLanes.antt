@@ -1,4 +1,4 @@
--- Records whose tags are worked in parts: what is made of the last slice, and what is answered of it.
+-- Records whose tags are worked in parts: the result of the last slice, and the answer about it.
 use Rattle.std.proofs.Common.{◌≡◌, ◌∙◌, ◌⊎◌, ◌↔◌, ℕ, List, [], length, Option, Some, None, Result, Ok, Err, IfOk, IfErr, inl, inr, ap, refl, sym, arith}
 use Rattle.cred_argon.specs.{Argon.argon, Parameters.Parameters, Parameters.parameters, declared.block.Block.Block}
 use Rattle.cred_argon.specs.declared.error.ArgonError.TheVariants.{Memory}
@@ -22,14 +22,14 @@ pub tag_is : (setting : SettingValue) (n : ℕ) (a : Parameters) (pw : List ℕ)
 unfolding tag
 tag_is setting n a pw is = scheme_tag_is setting.scheme n a pw setting.salt is
 
--- what is made of a last slice under a setting, whose parameters are p
+-- the result of a last slice under a setting, whose parameters are p
 pub record IsMade (s : SettingValue) (n : ℕ) (p : Option Parameters) (last : List Block) (made : Result (List ℕ) PartFault) : Type 0 where
   pub scheme : p ≡ None → made ≡ Err NoLanes
   pub place : (a : Parameters) → p ≡ Some a → (IsSlice a last → ⊥) → made ≡ Err Place
   pub memory : (a : Parameters) → p ≡ Some a → IsSlice a last → IfErr made (λ f. f ≡ Argon Memory)
   pub tag_of : (a : Parameters) → p ≡ Some a → (pw : List ℕ) → IsFilled a (record_inputs pw s.salt) last → IfOk made (λ t. t ≡ tag s n pw)
 
--- the verdict on a tag that was made
+-- the verdict on a computed tag
 pub end_of_tag : (v : RecordValue) (p : Option Parameters) (last : List Block) (t : List ℕ) (answer : ℕ)
     → IsMade v.setting (length v.tag) p last (Ok t) → (answer ≡ 0) ↔ (t ≡ v.tag) → (answer ≡ 0) ⊎ (answer ≡ 10) → IsEndUnder v p last answer
 end_of_tag v None last t answer made right one_of = let no = made.scheme refl in absurd cc
@@ -46,7 +46,7 @@ end_of_tag v (Some a) last t answer made right one_of = record {
       };
 }
 
--- what is answered where no tag was made
+-- the answer without a computed tag
 pub end_of_fault : (v : RecordValue) (p : Option Parameters) (last : List Block) (f : PartFault)
     → IsMade v.setting (length v.tag) p last (Err f) → IsEndUnder v p last (part_fault_number f)
 end_of_fault v None last f made = let same : f ≡ NoLanes = (let e = made.scheme refl in cc) in ap part_fault_number same
@@ -66,7 +66,7 @@ end_of_fault v (Some a) last f made = record {
     eight : IsSlice a last → part_fault_number f ≡ 8
     eight slice = ap part_fault_number (made.memory a refl slice)
 
--- a record that was written of a tag that was made
+-- a record that was written from a computed tag
 pub record_end_of_tag : (s : SettingValue) (n : ℕ) (p : Option Parameters) (last : List Block) (t : List ℕ) (o : Output)
     → IsMade s n p last (Ok t) → IsWritten (record_text (record_of s t)) o → IsRecordEndUnder s n p last o
 record_end_of_tag s n None last t o made written = let no = made.scheme refl in absurd cc

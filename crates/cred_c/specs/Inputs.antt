@@ -1,4 +1,4 @@
--- What numbers stand for.
+-- The meanings of numbers.
 use Rattle.std.specs.Prelude.{◌≡◌, ℕ, ◌≤◌, ◌⊎◌, List, Result, Ok, Err}
 use Rattle.cred_argon.specs.{Numbers.kind_number, Numbers.version_number, Parameters.Parameters, Parameters.parameters, declared.kind.Kind.Kind}
 use Rattle.cred_argon.specs.declared.kind.Version.{Version}
@@ -18,7 +18,7 @@ IsVersion version = (version ≡ 16) ⊎ (version ≡ 19)
 abbrev pub IsPositiveByte : ℕ → Type 0
 IsPositiveByte n = (1 ≤ n) × (n ≤ 255)
 
--- scrypt's r and p are such
+-- scrypt's r and p are such numbers
 abbrev pub HasBytes : ScryptNumbers → Type 0
 HasBytes n = IsPositiveByte n.r × IsPositiveByte n.p
 

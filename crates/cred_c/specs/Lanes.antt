@@ -1,5 +1,5 @@
--- Argon2 worked in parts over memory of the caller's: what numbers stand for, what is wrong with
--- what a part is given, and what the parts make.
+-- Argon2 in parts over the caller's memory: the meanings of numbers, the faults of a part's inputs,
+-- and the results of the parts.
 use Rattle.std.specs.Prelude.{◌≡◌, ℕ, ◌+◌, ◌-◌, ◌*◌, ◌^◌, ◌<◌, ◌⊎◌, List, [], length, Option, Some, None}
 use Rattle.cred_argon.specs.{Argon.first_hash, Faults.IsFirstRawFault, Lanes.HoldsBlocks, Lanes.HoldsFirstBlocks, Numbers.kind_number, Numbers.version_number}
 use Rattle.cred_argon.specs.declared.inputs.Inputs.{Inputs}
@@ -37,7 +37,7 @@ pub record StandFor (n : TagNumbers) (a : Parameters) : Type 0 where
 abbrev pub ranged : TagNumbers → Parameters
 ranged n = parameters V13 Id n.memory n.passes n.lanes n.tag_len
 
--- the first that is wrong with numbers
+-- the first fault of the numbers
 abbrev pub IsNumbersFault : TagNumbers → PartFault → Type 0
 IsNumbersFault n NoKind = 2 < n.kind
 IsNumbersFault n NoVersion = IsKind n.kind × (IsVersion n.version → ⊥)
@@ -47,7 +47,7 @@ IsNumbersFault n Scrypt = ⊥
 
 -- ---- the parts
 
--- as many blocks as a slice has
+-- the list has as many blocks as a slice
 abbrev pub IsSlice : Parameters → List Block → Type 0
 IsSlice a blocks = length blocks ≡ a.lanes * segment_len a
 
@@ -66,11 +66,11 @@ tag_inputs i = record {
   assoc = i.assoc.now;
 }
 
--- those of a record's tag
+-- the inputs of a record's tag
 abbrev pub record_inputs : List ℕ → List ℕ → TagInputs
 record_inputs pw salt = record { pw = pw; salt = salt; secret = []; assoc = [] }
 
--- H0 of them
+-- the hash H0 of the inputs
 abbrev pub hash_of : Parameters → TagInputs → List ℕ
 hash_of a i = first_hash a i.pw i.salt i.secret i.assoc
 
@@ -86,7 +86,7 @@ pub record IsBegun (a : Parameters) (i : TagInputs) (answer : ℕ) (old new : Li
       × HoldsFirstBlocks a (hash_of a i) a.lanes new
   pub kept : (answer ≡ 0 → ⊥) → new ≡ old
 
--- the slices before that of a segment: three, two and one back
+-- the three slices before that of a segment
 pub record SlicesBefore : Type 0 where
   pub oldest : List Block
   pub middle : List Block
@@ -124,17 +124,17 @@ IsFilled a i last = HoldsBlocks a (hash_of a i) (4 * a.passes - 1) last
 abbrev pub record_parameters : RecordValue → Option Parameters
 record_parameters v = argon_parameters v.setting.scheme (length v.tag)
 
--- numbers are written, unless it is a text of scrypt
+-- the numbers are written, unless the text is one of scrypt
 abbrev pub AreNumbers : Option Parameters → ℕ → TagNumbers → Type 0
 AreNumbers None answer n = answer ≡ 2
 AreNumbers (Some a) answer n = (answer ≡ 0) × StandFor n a
 
--- the first blocks of each lane are written, unless it is a text of scrypt
+-- the first blocks of each lane are written, unless the text is one of scrypt
 abbrev pub IsBegunUnder : Option Parameters → TagInputs → ℕ → List Block → List Block → Type 0
 IsBegunUnder None i answer old new = (answer ≡ 2) × (new ≡ old)
 IsBegunUnder (Some a) i answer old new = IsBegun a i answer old new
 
--- what is answered of a record and the last slice of a password's memory
+-- the answer about a record and the last slice of a password's memory
 pub record IsEnd (v : RecordValue) (a : Parameters) (last : List Block) (answer : ℕ)
     : Type 0 where
   pub place : (IsSlice a last → ⊥) → answer ≡ 27
@@ -146,8 +146,8 @@ abbrev pub IsEndUnder : RecordValue → Option Parameters → List Block → ℕ
 IsEndUnder v None last answer = answer ≡ 2
 IsEndUnder v (Some a) last answer = IsEnd v a last answer
 
--- what is answered if a record is to be made from the last slice of a password's memory, with its
--- text over the front of a buffer
+-- the answer to making a record from the last slice of a password's memory, with its text over the
+-- front of a buffer
 pub record IsRecordEnd (s : SettingValue) (tag_len : ℕ) (a : Parameters) (last : List Block)
     (o : Output) : Type 0 where
   pub place : (IsSlice a last → ⊥) → o.answer ≡ 27

@@ -1,4 +1,4 @@
--- What a record says of itself.
+-- The parts of a record.
 use Rattle.std.specs.Prelude.{ℕ, length}
 use Rattle.cred_argon.specs.Numbers.{kind_number, version_number}
 use Rattle.cred_c.specs.declared.parts.Parts.{Parts}

@@ -1,4 +1,4 @@
--- What is kept of a text of Argon2 between the calls for its lanes.
+-- The values that the caller keeps of a text of Argon2 between the calls for its lanes.
 use Rattle.std.specs.Prelude.{◌≡◌, ℕ, ◌≤◌, Option, Some, None, length, take}
 use Rattle.cred_argon.specs.Numbers.{version_number}
 use Rattle.cred_c.specs.{Parts.variant_number, declared.reading.RecordReading.RecordReading, declared.reading.SettingReading.SettingReading}

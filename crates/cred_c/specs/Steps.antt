@@ -1,5 +1,5 @@
--- A step: one whole operation, worked at a copy of an account's record, for a store that puts the
--- record after in place of the copy if that is still there.
+-- A step: one whole operation at a copy of an account's record, for a store that replaces the copy
+-- by the new record if the copy is still there.
 use Rattle.std.specs.Prelude.{◌≡◌, ◌⊎◌, ℕ, ◌==◌, if◌then◌else◌, List, [], length, Option, Some, None}
 use Rattle.std.specs.Option.{option_map}
 use Rattle.cred_phc.specs.{Errors.error_number, Faults.record_fault, Faults.setting_fault, Text.IsRecordText, Text.IsSettingText, Text.record_text}
@@ -80,7 +80,7 @@ step_fault operation i = first (copy_fault i.copy.now) (request_fault operation 
 
 -- ---- what is answered
 
--- in the order of the replies; a step at a copy never answers the last two
+-- the number of a reply, in their order; a step at a copy never answers the last two
 abbrev pub reply_number : Reply → ℕ
 reply_number reply.Enrolled = 1
 reply_number reply.Exists = 2
@@ -95,8 +95,8 @@ reply_number reply.Removed = 10
 reply_number (reply.Changed now) = 11
 reply_number reply.NoAccount = 12
 
--- the text that is to stand in place of the copy: empty if nothing changes, or if no record is to
--- stand
+-- the text that will replace the copy: empty if nothing changes, or if the change removes the
+-- record
 abbrev pub text_after : Reply × Option (Option RecordValue) → List ℕ
 text_after (r, None) = []
 text_after (r, Some None) = []

@@ -1,7 +1,7 @@
 //! An Argon2 tag in parts, for a caller who works the lanes in threads of its own. The memory is
 //! four slices of blocks, each with the segments of its lanes one after another. Segment g of a
-//! lane, counted over all passes, is that of pass g / 4 and slice g % 4; it is worked once, after
-//! all segments of slice g - 1.
+//! lane, counted over all passes, belongs to pass g / 4 and slice g % 4. The caller works this
+//! segment once, after all segments of slice g - 1.
 ghost use Rattle.std.specs.Prelude.{◌≡◌, ℕ, ◌+◌, ◌*◌, ◌<◌, ◌≤◌, ◌↔◌, ◌⊎◌, List, length, take, drop, IsTrue};
 ghost use Rattle.cred_argon.specs.{Argon.argon, Lanes.WorksSegment, Parameters.Parameters, Parameters.segment_len};
 ghost use Rattle.cred_c.specs.Lanes.{AreSlices, AreTwoSegments, IsBegun, IsFilled, IsNumbersFault, IsSegment, IsSlice, StandFor, TagInputs, part_fault_number, slices_before, tag_inputs};
@@ -15,11 +15,11 @@ use cred_argon::{
 };
 use std::alloc::Global;
 
-/// Writes into `segment` how many blocks a segment has. A slice has as many for each lane, and the
-/// memory has four slices.
+/// Writes the number of blocks of a segment into `segment`. A slice has as many blocks for each
+/// lane, and the memory has four slices.
 ///
-/// Answers 0; or 12 if there is no such kind, otherwise 13 if there is no such version, otherwise
-/// by the first that is wrong of `lanes` (14), `memory` (15), `passes` (16) and `tag_len` (17).
+/// Answers 0, or the first of these faults: 12 for a wrong kind, 13 for a wrong version, 14 for
+/// `lanes`, 15 for `memory`, 16 for `passes` and 17 for `tag_len`.
 #[unsafe(no_mangle)]
 pub extern "C" fn cred_argon2_segment_len(numbers: &TagNumbers, segment: &mut u32) -> u8
     ensures len { (a : Parameters) → StandFor numbers.now a
@@ -40,8 +40,8 @@ pub extern "C" fn cred_argon2_segment_len(numbers: &TagNumbers, segment: &mut u3
 /// Writes the first two blocks of each lane into the first slice, whose other blocks may be
 /// anything.
 ///
-/// Answers 0; or 12 to 17 as above; otherwise 27 if `first` isn't a slice, otherwise 18 if an input
-/// has 2^32 bytes or more.
+/// Answers 0, or the first of these faults: 12 to 17 as above, 27 if `first` isn't a slice, and 18
+/// if an input has 2^32 bytes or more.
 #[unsafe(no_mangle)]
 pub extern "C" fn cred_argon2_begin(
     numbers: &TagNumbers,
@@ -60,7 +60,7 @@ pub extern "C" fn cred_argon2_begin(
     }
 }
 
-/// The same by parameters.
+/// Writes these blocks for parameters.
 pub(crate) fn begin(params: &Params, inputs: &Inputs<'_>, first: &mut [Block]) -> u8
     ensures { IsBegun params.now (tag_inputs inputs.now) result first.old first.new }
 {
@@ -73,12 +73,13 @@ pub(crate) fn begin(params: &Params, inputs: &Inputs<'_>, first: &mut [Block]) -
     }
 }
 
-/// Works a segment. `own` are its blocks: on the first pass they may be anything, but for the first
-/// two of a lane; later they are those of the pass before. `newest`, `middle` and `oldest` are the
-/// slices before it, one, two and three back; what hasn't been worked yet may be anything.
+/// Works a segment. `own` are its blocks. On the first pass these may be anything, except the first
+/// two of a lane, and on later passes they are those of the pass before. `newest`, `middle` and
+/// `oldest` are the slices one, two and three before the segment. Blocks that nobody has worked yet
+/// may be anything.
 ///
-/// Answers 0; or 12 to 17 as above; otherwise 27 if there is no such slice or lane, or the blocks
-/// aren't those of three slices and a segment.
+/// Answers 0, or the first of these faults: 12 to 17 as above, and 27 if there is no such slice or
+/// lane, or the blocks aren't those of three slices and a segment.
 #[unsafe(no_mangle)]
 pub extern "C" fn cred_argon2_segment(
     numbers: &TagNumbers,
@@ -117,11 +118,11 @@ pub extern "C" fn cred_argon2_segment(
     }
 }
 
-/// Works the segment of the index and that of the next lane, a block of each in turn. `own` are the
-/// blocks of both, one segment behind the other. All else is as for one segment.
+/// Works the segment of the index and the segment of the next lane, a block of each in turn. `own`
+/// are the blocks of both, one segment behind the other. All else is as for one segment.
 ///
-/// Answers 0; or 12 to 17 as above; otherwise 27 if there is no such slice or no lane behind the
-/// index's, or the blocks aren't those of three slices and two segments.
+/// Answers 0, or the first of these faults: 12 to 17 as above, and 27 if there is no such slice or
+/// no lane behind the index's, or the blocks aren't those of three slices and two segments.
 #[unsafe(no_mangle)]
 pub extern "C" fn cred_argon2_two_segments(
     numbers: &TagNumbers,
@@ -164,10 +165,10 @@ pub extern "C" fn cred_argon2_two_segments(
     }
 }
 
-/// Writes the tag over `out`, if `last` is the last slice and has been worked on the last pass.
+/// Writes the tag over `out`, if `last` is the last slice after the last pass.
 ///
-/// Answers 0; or 12 to 17 as above; otherwise 27 if `last` isn't a slice or `out` hasn't the tag's
-/// length, otherwise 8 if there is too little memory.
+/// Answers 0, or the first of these faults: 12 to 17 as above, 27 if `last` isn't a slice or `out`
+/// hasn't the tag's length, and 8 if there is too little memory.
 #[unsafe(no_mangle)]
 pub extern "C" fn cred_argon2_end(
     alloc: Global,

@@ -1,9 +1,9 @@
 //! Argon2, scrypt and password strings for programs in C: exports over the crates below, each with
 //! the clauses of the call that it makes.
 //!
-//! An export answers 0, or the number of what it refused: one table for all of them, which
-//! `specs/Answers.antt` has. All the work is done on the caller's thread. A buffer is written only
-//! if 0 is answered.
+//! An export answers 0, or the number of the fault. The table of all numbers is in
+//! `specs/Answers.antt`. An export does all its work on the caller's thread, and writes a buffer
+//! only if it answers 0.
 #![tactic(auto)]
 
 mod lanes;

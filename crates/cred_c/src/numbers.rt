@@ -1,4 +1,4 @@
-//! The numbers that the exports answer, and those that they are given.
+//! The numbers that the exports answer, and those that they receive.
 ghost use Rattle.std.specs.Prelude.{◌≡◌, ◌<◌, ◌≤◌, ◌↔◌, IfSome, None, Some};
 ghost use Rattle.cred_argon.specs.{Numbers.kind_number, Numbers.version_number, declared.kind.Kind.Kind, declared.kind.Version.Version};
 ghost use Rattle.cred_c.specs.{Answers.argon_number, Answers.scrypt_number, Inputs.IsVersion, Parts.variant_number};
@@ -8,7 +8,7 @@ use cred_argon::{ArgonError, Kind, Version};
 use cred_phc::Variant;
 use cred_scrypt::ScryptError;
 
-/// It was done.
+/// The call did its work.
 pub(crate) const DONE: u8 = 0;
 
 /// The record is of another password.
@@ -29,7 +29,7 @@ pub(crate) const NO_PLACE: u8 = 27;
 /// The number names no operation.
 pub(crate) const NO_OPERATION: u8 = 23;
 
-/// The number of an error of Argon2: 14 to 18, and 8 if memory runs out.
+/// Returns the number of an error of Argon2: 14 to 18, and 8 if memory runs out.
 pub(crate) fn argon_number(error: ArgonError) -> u8
     ensures { result ≡ argon_number error }
 {
@@ -43,7 +43,7 @@ pub(crate) fn argon_number(error: ArgonError) -> u8
     }
 }
 
-/// The number of an error of scrypt: 19 to 22, and 8 if memory runs out.
+/// Returns the number of an error of scrypt: 19 to 22, and 8 if memory runs out.
 pub(crate) fn scrypt_number(error: ScryptError) -> u8
     ensures { result ≡ scrypt_number error }
 {
@@ -56,7 +56,7 @@ pub(crate) fn scrypt_number(error: ScryptError) -> u8
     }
 }
 
-/// The kind with this number.
+/// Returns the kind with this number.
 pub(crate) fn kind_of(number: u32) -> Option<Kind>
     ensures found { (k : Kind) → number ≡ kind_number k → result ≡ Some k }
     ensures only { IfSome result (λ k. number ≡ kind_number k) }
@@ -70,7 +70,7 @@ pub(crate) fn kind_of(number: u32) -> Option<Kind>
     }
 }
 
-/// The variant with this number.
+/// Returns the variant with this number.
 pub(crate) fn variant_of(number: u32) -> Option<Variant>
     ensures found { (x : Variant) → number ≡ variant_number x → result ≡ Some x }
     ensures only { IfSome result (λ x. number ≡ variant_number x) }
@@ -84,7 +84,7 @@ pub(crate) fn variant_of(number: u32) -> Option<Variant>
     }
 }
 
-/// The version with this number.
+/// Returns the version with this number.
 pub(crate) fn version_of(number: u32) -> Option<Version>
     ensures found { (v : Version) → number ≡ version_number v → result ≡ Some v }
     ensures only { IfSome result (λ v. number ≡ version_number v) }
@@ -97,7 +97,7 @@ pub(crate) fn version_of(number: u32) -> Option<Version>
     }
 }
 
-/// The number as a byte; one that has none is as wrong as 0.
+/// Returns the number as a byte, or 0 for a number over a byte: both are equally wrong.
 pub(crate) fn byte_of(number: u32) -> u8
     ensures small { number ≤ 255 → result ≡ number }
     ensures large { 255 < number → result ≡ 0 }

@@ -20,21 +20,21 @@ pub enum RecordOperation {
 #[repr(C)]
 #[derive(Clone, Copy, Drop)]
 pub struct StepInputs<'a> {
-    /// 1 to 5 for enrol, verify, change, upgrade and remove.
+    /// The number 1 to 5 of enrol, verify, change, upgrade or remove.
     pub operation: u32,
-    /// The text of the account's record, empty if none stands.
+    /// The text of the account's record, or an empty text without a record.
     pub copy: &'a [u8],
     pub pw: &'a [u8],
-    /// Read for a change.
+    /// The new password, which only a change reads.
     pub new_pw: &'a [u8],
-    /// The text that the new record is made under, for an enrol, a change and an upgrade.
+    /// The text of the setting for the new record of an enrol, a change or an upgrade.
     pub setting: &'a [u8],
 }
 
-/// Why a step isn't taken.
+/// The reason why a step isn't taken.
 #[derive(Clone, Copy, PartialEq, Eq)]
 pub enum StepFault {
-    /// The copy's text is no record.
+    /// The copy's text isn't a record.
     Copy,
     /// A password has over 256 bytes.
     Long,
@@ -43,7 +43,7 @@ pub enum StepFault {
 }
 
 impl StepFault {
-    /// The number of the fault: 24, 25, or that of the setting's.
+    /// Returns the number of the fault: 24, 25, or the number of the setting's fault.
     pub(crate) fn number(self) -> u8
         ensures { result ≡ fault_number self }
     {
@@ -55,7 +55,7 @@ impl StepFault {
     }
 }
 
-/// The operation of a number: 1 to 5.
+/// Returns the operation of a number: 1 to 5.
 pub(crate) fn operation_of(number: u32) -> Option<RecordOperation>
     ensures found { (o : RecordOperation) → number ≡ operation_number o → result ≡ Some o }
     ensures only { IfSome result (λ o. number ≡ operation_number o) }
@@ -71,7 +71,7 @@ pub(crate) fn operation_of(number: u32) -> Option<RecordOperation>
     }
 }
 
-/// The record of a copy's text, if it isn't empty.
+/// Reads the record of a copy's text, if the text isn't empty.
 pub(crate) fn copy_of(text: &[u8]) -> Result<Option<Record>, StepFault>
     ensures copy { IfOk result (λ copy. IsCopy text.now copy) }
     ensures fault { IfErr result (λ fault. copy_fault text.now ≡ Some fault) }
@@ -86,7 +86,7 @@ pub(crate) fn copy_of(text: &[u8]) -> Result<Option<Record>, StepFault>
     }
 }
 
-/// The request of a step, of an account whose name plays no part.
+/// Returns the request of a step, for an account whose name doesn't matter.
 pub(crate) fn request_of(
     operation: RecordOperation,
     inputs: &StepInputs<'_>,

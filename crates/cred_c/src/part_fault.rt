@@ -6,7 +6,7 @@ use crate::numbers::{NO_KIND, NO_PLACE, NO_VERSION, argon_number};
 use cred_argon::ArgonError;
 use cred_phc::PhcError;
 
-/// Why a part of the work on a tag isn't done.
+/// The reason why a part of the work on a tag isn't done.
 #[derive(Clone, Copy, PartialEq, Eq)]
 pub enum PartFault {
     /// The number names no kind.
@@ -22,7 +22,7 @@ pub enum PartFault {
 }
 
 impl PartFault {
-    /// The number of the fault.
+    /// Returns the number of the fault.
     pub(crate) fn number(self) -> u8
         ensures { result ≡ part_fault_number self }
     {

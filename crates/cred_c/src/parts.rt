@@ -1,4 +1,4 @@
-//! The fault of a text, and the numbers that a record's text has.
+//! The fault of a text, and the numbers in a record's text.
 ghost use Rattle.std.specs.Prelude.{◌≡◌, None, Some};
 ghost use Rattle.cred_c.specs.Parts.{parts_of, variant_number};
 ghost use Rattle.cred_phc.specs.{Errors.error_number, Faults.record_fault, Faults.setting_fault, Text.IsRecordText, Values.IsRecord, Values.RecordValue};
@@ -7,25 +7,26 @@ ghost use Rattle.cred_phc.specs.declared.error.PhcError.{PhcError};
 use crate::numbers::DONE;
 use cred_phc::{Record, Scheme, Variant, parse_record, parse_setting};
 
-/// The scheme of a record, its numbers, and the lengths of salt and tag in bytes.
+/// The scheme of a record, its numbers, and the lengths of its salt and tag in bytes.
 #[repr(C)]
 #[derive(Clone, Copy, Debug, PartialEq, Eq)]
 pub struct Parts {
-    /// 0, 1 or 2 for argon2d, argon2i and argon2id, 3 for scrypt.
+    /// 0, 1 and 2 stand for argon2d, argon2i and argon2id, and 3 for scrypt.
     pub scheme: u32,
-    /// 16 or 19; 0 for scrypt.
+    /// 16 or 19, but 0 for scrypt.
     pub version: u32,
-    /// In KiB; for scrypt the logarithm of the cost.
+    /// The memory in KiB, but for scrypt the logarithm of the cost.
     pub memory: u32,
-    /// The passes; for scrypt the block size.
+    /// The passes, but for scrypt the block size.
     pub passes: u32,
-    /// The lanes; for scrypt the parallelization.
+    /// The lanes, but for scrypt the parallelization.
     pub lanes: u32,
     pub salt_len: u32,
     pub tag_len: u32,
 }
 
-/// The number of the first fault of a setting's text, or 0 if it stands for one.
+/// Returns the number of the first fault of a setting's text, or 0 if the text stands for a
+/// setting.
 #[unsafe(no_mangle)]
 pub extern "C" fn cred_setting_fault(text: &[u8]) -> u8
     ensures fault { (e : PhcError) → setting_fault text.now ≡ Some e → result ≡ error_number e }
@@ -37,7 +38,7 @@ pub extern "C" fn cred_setting_fault(text: &[u8]) -> u8
     }
 }
 
-/// The number of the first fault of a record's text, or 0 if it stands for one.
+/// Returns the number of the first fault of a record's text, or 0 if the text stands for a record.
 #[unsafe(no_mangle)]
 pub extern "C" fn cred_record_fault(text: &[u8]) -> u8
     ensures fault { (e : PhcError) → record_fault text.now ≡ Some e → result ≡ error_number e }
@@ -49,8 +50,8 @@ pub extern "C" fn cred_record_fault(text: &[u8]) -> u8
     }
 }
 
-/// Writes what a record's text says of itself into `parts`, so that the caller can see whether it
-/// needs a rehash.
+/// Writes the scheme, the numbers and the lengths of a record's text into `parts`, so that the
+/// caller can see whether the record needs a rehash.
 ///
 /// Answers 0, or the number of the text's fault.
 #[unsafe(no_mangle)]
@@ -69,7 +70,7 @@ pub extern "C" fn cred_record_parts(text: &[u8], parts: &mut Parts) -> u8
     }
 }
 
-/// The parts of a record.
+/// Returns the parts of a record.
 fn parts_of(stored: &Record) -> Parts
     ensures value { result ≡ parts_of stored.now }
     ensures ranges { IsRecord stored.now }
@@ -105,7 +106,7 @@ fn parts_of(stored: &Record) -> Parts
     }
 }
 
-/// The number of a variant.
+/// Returns the number of a variant.
 fn variant_number(variant: Variant) -> u32
     ensures { result ≡ variant_number variant }
 {

@@ -1,4 +1,4 @@
-//! Tags and keys as they come from the functions.
+//! Raw tags and keys of the hash functions.
 ghost use Rattle.std.specs.Prelude.{◌≡◌, ◌<◌, ◌≤◌, ◌^◌, ◌⊎◌, ◌↔◌, IfOk, length};
 ghost use Rattle.cred_argon.specs.{Argon.argon, Faults.IsFirstRawFault, Parameters.IsRaw, Tags.IsAnyTooLong, declared.error.ArgonError.ArgonError};
 ghost use Rattle.cred_argon.specs.{declared.kind.Kind.Kind, declared.kind.Version.Version};
@@ -14,13 +14,12 @@ use cred_pool::NoGate;
 use cred_scrypt::{ScryptError, ScryptParams, ScryptScratch, scrypt_in};
 use std::alloc::Global;
 
-/// Writes the Argon2 tag (RFC 9106) of the inputs over `out`, which says the tag's length: 4 bytes
-/// or more.
+/// Writes the Argon2 tag (RFC 9106) of the inputs over `out`, whose length is the tag's: 4 bytes or
+/// more.
 ///
-/// Answers 0, or 12 if there is no such kind, otherwise 13 if there is no such version, otherwise
-/// 17 if `out` has 2^32 bytes or more, otherwise by the first that is wrong of the lanes (14), the
-/// memory (15), the passes (16) and the length of `out` (17); otherwise 18 if an input has 2^32
-/// bytes or more; otherwise 8 if memory is short.
+/// Answers 0, or the first of these faults: 12 for a wrong kind, 13 for a wrong version, 17 if
+/// `out` has 2^32 bytes or more, 14 for the lanes, 15 for the memory, 16 for the passes, 17 for the
+/// length of `out`, 18 if an input has 2^32 bytes or more, and 8 if memory is short.
 #[unsafe(no_mangle)]
 pub extern "C" fn cred_argon2(
     alloc: Global,
@@ -83,18 +82,18 @@ pub extern "C" fn cred_argon2(
 #[repr(C)]
 #[derive(Clone, Copy, Debug, PartialEq, Eq)]
 pub struct ScryptNumbers {
-    /// N is 2 to the power of it.
+    /// The cost N is 2 to the power of `ln`.
     pub ln: u32,
     pub r: u32,
     pub p: u32,
 }
 
-/// Writes the scrypt key (RFC 7914) of the inputs over `out`, which says the key's length: 1 byte
-/// or more.
+/// Writes the scrypt key (RFC 7914) of the inputs over `out`, whose length is the key's: 1 byte or
+/// more.
 ///
-/// Answers 0, or 22 if `out` has 2^32 bytes or more, otherwise 20 if `r` isn't 1 to 255, otherwise
-/// 21 if `p` isn't, otherwise 19 if the cost is out of its range or too high for `r` or for 2 GiB,
-/// otherwise 22 if `out` is empty; otherwise 8 if memory is short.
+/// Answers 0, or the first of these faults: 22 if `out` has 2^32 bytes or more, 20 if `r` isn't 1
+/// to 255, 21 if `p` isn't, 19 if the cost is out of its range or too high for `r` or for 2 GiB, 22
+/// if `out` is empty, and 8 if memory is short.
 #[unsafe(no_mangle)]
 pub extern "C" fn cred_scrypt(
     alloc: Global,
@@ -134,7 +133,7 @@ pub extern "C" fn cred_scrypt(
     }
 }
 
-/// scrypt's parameters, of which r and p have to be one of a byte.
+/// Returns scrypt's parameters, of which r and p must be 1 to 255.
 fn scrypt_params(numbers: ScryptNumbers, len: u32) -> Result<ScryptParams, ScryptError>
     ensures block_size { (result ≡ Err ScryptError.BlockSize) ↔ (IsPositiveByte numbers.r → ⊥) }
     ensures blocks { (result ≡ Err ScryptError.Blocks)

@@ -1,5 +1,5 @@
-//! The values that C keeps of a text of Argon2 between the calls for its lanes, so that each text
-//! is read once.
+//! The values that a program in C keeps of a text of Argon2 between the calls for its lanes, so
+//! that the calls read each text once.
 ghost use Rattle.std.specs.Prelude.{◌≡◌, ◌≤◌, IfSome, IsTrue, Some, length, take};
 ghost use Rattle.cred_c.specs.{Lanes.AreNumbers, Lanes.record_parameters, Readings.IsReadRecord, Readings.IsReadSetting, Readings.tag_numbers};
 ghost use Rattle.cred_phc.specs.{Ranges.scheme_fits, Tags.argon_parameters, Values.IsRecord, Values.IsSetting, Values.RecordValue, Values.SettingValue};
@@ -10,23 +10,23 @@ use crate::part_fault::PartFault;
 use crate::tag_numbers::{TagNumbers, numbers_of};
 use cred_phc::{Record, Scheme, Setting, Tag, argon2_params};
 
-/// The most bytes of a salt.
+/// The maximum length of a salt in bytes.
 const MOST_SALT: usize = 48;
 
-/// The most bytes of a tag.
+/// The maximum length of a tag in bytes.
 const MOST_TAG: usize = 64;
 
-/// A setting of Argon2, and the length that its tag is to have. Zeros follow the salt.
+/// A setting of Argon2, and the length of the tag to make under it. Zeros follow the salt.
 #[repr(C)]
 #[derive(Clone, Copy)]
 pub struct SettingReading {
     pub numbers: TagNumbers,
-    /// In bytes.
+    /// The length of the salt in bytes.
     pub salt_len: u32,
     pub salt: [u8; MOST_SALT],
 }
 
-/// A record of Argon2. Zeros stand after the tag.
+/// A record of Argon2. Zeros follow the tag.
 #[repr(C)]
 #[derive(Clone, Copy)]
 pub struct RecordReading {
@@ -35,7 +35,7 @@ pub struct RecordReading {
 }
 
 impl SettingReading {
-    /// Keeps a setting of Argon2: 0, or 2 if it is one of scrypt.
+    /// Keeps a setting of Argon2. Answers 0, or 2 for a setting of scrypt.
     pub(crate) fn keep(&mut self, setting: &Setting, tag_len: u8) -> u8
         requires low { 4 ≤ tag_len }
         requires high { tag_len ≤ 64 }
@@ -59,7 +59,7 @@ impl SettingReading {
         }
     }
 
-    /// The setting that was read, if one was.
+    /// Returns the setting that was read, if one was.
     pub(crate) fn setting(&self) -> Option<Setting>
         ensures found { (s : SettingValue) → IsSetting s → IsReadSetting self.now s
             → result ≡ Some s }
@@ -76,7 +76,7 @@ impl SettingReading {
 }
 
 impl RecordReading {
-    /// Keeps a record of Argon2: 0, or 2 if it is one of scrypt.
+    /// Keeps a record of Argon2. Answers 0, or 2 for a record of scrypt.
     pub(crate) fn keep(&mut self, stored: &Record) -> u8
         ensures numbers { AreNumbers (record_parameters stored.now) result
             self.new.setting.numbers }
@@ -92,7 +92,7 @@ impl RecordReading {
         answer
     }
 
-    /// The record that was read, if one was.
+    /// Returns the record that was read, if one was.
     pub(crate) fn record(&self) -> Option<Record>
         ensures found { (v : RecordValue) → IsRecord v → IsReadRecord self.now v
             → result ≡ Some v }
@@ -104,7 +104,7 @@ impl RecordReading {
     }
 }
 
-/// These bytes with zeros after them.
+/// Returns these bytes with zeros after them.
 fn padded<const LEN: usize>(bytes: &[u8]) -> [u8; LEN]
     requires { length bytes.now ≤ LEN }
     ensures { take (length bytes.now) result ≡ bytes.now }
@@ -114,7 +114,7 @@ fn padded<const LEN: usize>(bytes: &[u8]) -> [u8; LEN]
     cells
 }
 
-/// The scheme of Argon2 that the numbers are of.
+/// Returns the scheme of Argon2 with these numbers.
 fn scheme_of(numbers: &TagNumbers) -> Option<Scheme>
     ensures found { (scheme : Scheme) → IsTrue (scheme_fits scheme)
         → tag_numbers scheme numbers.now.tag_len ≡ Some numbers.now → result ≡ Some scheme }

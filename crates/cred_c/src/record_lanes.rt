@@ -1,5 +1,6 @@
-//! Records of Argon2 whose tags are worked in parts: checked against a password, and made under a
-//! setting. Begin and end are of the record; between them segments are worked as for any tag.
+//! Checks a password against a record of Argon2, or makes a record under a setting, with a tag that
+//! is worked in parts. The begin and the end are calls of this module. Between them the caller
+//! works the segments as for any tag.
 ghost use Rattle.std.specs.Prelude.{◌≡◌, ℕ, ◌<◌, ◌≤◌, ◌⊎◌, ◌↔◌, List, IfErr, IfOk, None, Some, MatchResult, drop, length};
 ghost use Rattle.cred_argon.specs.Parameters.{Parameters};
 ghost use Rattle.cred_c.specs.Answers.{output};
@@ -21,7 +22,7 @@ use std::alloc::Global;
 
 /// Reads a record's text, for the calls that check a password against it.
 ///
-/// Answers 0; or the number of the text's fault, 1 to 9; or 2 if it is a record of scrypt.
+/// Answers 0, the number of the text's fault, 1 to 9, or 2 for a record of scrypt.
 #[unsafe(no_mangle)]
 pub extern "C" fn cred_check_read(text: &[u8], reading: &mut RecordReading) -> u8
     ensures fault { (e : PhcError) → record_fault text.now ≡ Some e → result ≡ error_number e }
@@ -37,11 +38,11 @@ pub extern "C" fn cred_check_read(text: &[u8], reading: &mut RecordReading) -> u
     }
 }
 
-/// Reads the text of a setting, for the calls that make a record under it with a tag of `tag_len`
-/// bytes, 4 to 64.
+/// Reads the text of a setting, for the calls that make a record under this setting with a tag of
+/// `tag_len` bytes, 4 to 64.
 ///
-/// Answers 0; or the number of the text's fault, 1 to 9; otherwise 7 if `tag_len` is outside its
-/// range, otherwise 2 if it is a setting of scrypt.
+/// Answers 0, or the first of these faults: 1 to 9 for the text, 7 if `tag_len` is outside its
+/// range, and 2 for a setting of scrypt.
 #[unsafe(no_mangle)]
 pub extern "C" fn cred_hash_read(text: &[u8], tag_len: u32, reading: &mut SettingReading) -> u8
     ensures fault { (e : PhcError) → setting_fault text.now ≡ Some e → result ≡ error_number e }
@@ -62,8 +63,8 @@ pub extern "C" fn cred_hash_read(text: &[u8], tag_len: u32, reading: &mut Settin
 /// Writes the first two blocks of each lane into the first slice, for the password's tag under the
 /// setting that was read.
 ///
-/// Answers 0. If nothing was read or `first` isn't a slice, it answers 27, and otherwise 18 if the
-/// password has 2^32 bytes or more.
+/// Answers 0, or the first of these faults: 27 if nothing was read or `first` isn't a slice, and 18
+/// if the password has 2^32 bytes or more.
 #[unsafe(no_mangle)]
 pub extern "C" fn cred_read_begin(reading: &SettingReading, pw: &[u8], first: &mut [Block]) -> u8
     ensures begun { (s : SettingValue) → IsSetting s → IsReadSetting reading.now s
@@ -79,11 +80,11 @@ pub extern "C" fn cred_read_begin(reading: &SettingReading, pw: &[u8], first: &m
     }
 }
 
-/// Tells from the last slice, worked on the last pass, whether the password that the memory was
-/// begun with is that of the record that was read.
+/// Tells from the last slice, after the last pass, whether the password with which the caller began
+/// the memory is that of the record that was read.
 ///
-/// Answers 0 if it is and 10 if it isn't; or 27 if nothing was read or `last` isn't a slice,
-/// otherwise 8 if there is too little memory.
+/// Answers 0 for the record's password and 10 for any other, or the first of these faults: 27 if
+/// nothing was read or `last` isn't a slice, and 8 if there is too little memory.
 #[unsafe(no_mangle)]
 pub extern "C" fn cred_check_end(alloc: Global, reading: &RecordReading, last: &[Block]) -> u8
     ensures verdict { (v : RecordValue) → IsRecord v → IsReadRecord reading.now v
@@ -98,9 +99,9 @@ pub extern "C" fn cred_check_end(alloc: Global, reading: &RecordReading, last: &
 }
 
 /// Writes the text of the record over the front of `out` and its length into `len`, if `last` is
-/// the last slice and has been worked on the last pass.
+/// the last slice after the last pass.
 ///
-/// Answers 0; or 27 if nothing was read or `last` isn't a slice, otherwise 8 if there is too little
+/// Answers 0, 27 if nothing was read or `last` isn't a slice, or otherwise 8 if there is too little
 /// memory or 11 if `out` has too little room.
 #[unsafe(no_mangle)]
 pub extern "C" fn cred_hash_end(
@@ -171,7 +172,7 @@ fn hash_end(
     }
 }
 
-/// The number of bytes of a record's tag: 4 to 64.
+/// Returns the number of bytes of a record's tag: 4 to 64.
 fn tag_len_of(stored: &Record) -> u8
     ensures value { result ≡ length stored.now.tag }
     ensures low { 4 ≤ result }
@@ -203,7 +204,7 @@ fn begin_under(setting: &Setting, tag_len: u8, pw: &[u8], first: &mut [Block]) -
     }
 }
 
-/// The tag of the last slice, worked under a setting of Argon2.
+/// Computes the tag of the last slice, worked under a setting of Argon2.
 fn tag_from(alloc: Global, setting: &Setting, tag_len: u8, last: &[Block]) -> Result<Tag, PartFault>
     requires low { 4 ≤ tag_len }
     requires high { tag_len ≤ 64 }

@@ -1,4 +1,4 @@
-//! Records: checked against a password, and made under a setting.
+//! Checks passwords against records, and makes records under settings.
 ghost use Rattle.std.specs.Prelude.{◌≡◌, ◌<◌, ◌≤◌, ◌^◌, ◌⊎◌, ◌↔◌, None, Some, drop, length};
 ghost use Rattle.cred_c.specs.Answers.{IsRight, IsVerdict, IsWritten, output};
 ghost use Rattle.cred_phc.specs.{Errors.error_number, Faults.record_fault, Faults.setting_fault, Tags.tag};
@@ -15,8 +15,8 @@ use std::alloc::Global;
 
 /// Checks a password against a record's text.
 ///
-/// Answers 0 if it is the record's and 10 if it isn't; otherwise the number of the text's fault, 1
-/// to 9; otherwise 18 if the password has 2^32 bytes or more, or 8 if memory is short.
+/// Answers 0 for the record's password and 10 for any other, or the first of these faults: 1 to 9
+/// for the text, and last 18 if the password has 2^32 bytes or more or 8 if memory is short.
 #[unsafe(no_mangle)]
 pub extern "C" fn cred_check(alloc: Global, text: &[u8], pw: &[u8]) -> u8
     ensures fault { (e : PhcError) → record_fault text.now ≡ Some e → result ≡ error_number e }
@@ -55,9 +55,9 @@ fn check(alloc: Global, stored: &Record, pw: &[u8]) -> u8
 /// Builds a record of the password under the setting of a text, with a tag of `tag_len` bytes, 4 to
 /// 64, and writes its text over the front of `out` and its length into `len`.
 ///
-/// Answers 0; or the number of the text's fault, 1 to 9; otherwise 7 if `tag_len` is outside its
-/// range, otherwise 18 if the password has 2^32 bytes or more, otherwise 8 if memory is short or 11
-/// if `out` has too little room.
+/// Answers 0, or the first of these faults: 1 to 9 for the text, 7 if `tag_len` is outside its
+/// range, 18 if the password has 2^32 bytes or more, and last 8 if memory is short or 11 if `out`
+/// has too little room.
 #[unsafe(no_mangle)]
 pub extern "C" fn cred_hash(
     alloc: Global,
@@ -86,7 +86,7 @@ pub extern "C" fn cred_hash(
     }
 }
 
-/// The same under a setting.
+/// Writes such a record under a setting.
 fn hash(
     alloc: Global,
     setting: &Setting,

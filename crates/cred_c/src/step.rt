@@ -1,5 +1,5 @@
-//! One whole operation at a copy of an account's record, for a store that puts the record after in
-//! place of the copy if that is still there.
+//! One whole operation at a copy of an account's record, for a store that replaces the copy by the
+//! new record if the copy is still there.
 ghost use Rattle.std.specs.Prelude.{◌≡◌, ◌↔◌, IfErr, IfOk, None, OnOk, Option, Some, drop};
 ghost use Rattle.cred_book.specs.{Updates.outcome_at, declared.request.Request.Request};
 ghost use Rattle.cred_c.specs.Answers.{IsWritten, output};
@@ -15,14 +15,14 @@ use cred_phc::{PhcError, Record, Scratch};
 use cred_pool::NoGate;
 use std::alloc::Global;
 
-/// Works out a conditional update, as `cred_book::updates_are_one_history` has them: one whole
-/// operation at a copy of an account's record. Writes the reply's number, 1 to 10, into `reply`;
-/// and if the reply makes a change, the text of the record after over the front of `out` and its
-/// length into `len`, which is 0 if none is to stand.
+/// Computes a conditional update, as in `cred_book::updates_are_one_history`: one whole operation
+/// at a copy of an account's record. Writes the reply's number, 1 to 10, into `reply`. If the reply
+/// makes a change, writes the text of the new record over the front of `out` and its length into
+/// `len`. The length is 0 if the change removes the record.
 ///
-/// Answers 0; or 23 if there is no such operation, otherwise 24 if the copy isn't a record,
-/// otherwise 25 if a password has over 256 bytes, otherwise the number of the setting's fault, 1 to
-/// 9; otherwise 8 if memory is short or 11 if `out` has too little room.
+/// Answers 0, or the first of these faults: 23 if there is no such operation, 24 if the copy isn't
+/// a record, 25 if a password has over 256 bytes, 1 to 9 for the setting, and last 8 if memory is
+/// short or 11 if `out` has too little room.
 #[unsafe(no_mangle)]
 pub extern "C" fn cred_step(
     alloc: Global,
@@ -58,7 +58,7 @@ pub extern "C" fn cred_step(
     }
 }
 
-/// The request of a step, with the copy.
+/// Returns the request of a step, with the copy.
 fn begun(operation: RecordOperation, inputs: &StepInputs<'_>) -> Result<Ticket, StepFault>
     ensures asked { IfOk result (λ task. AsksFor operation inputs.now task.0) }
     ensures copy { IfOk result (λ task. IsCopy inputs.now.copy.now task.1) }
@@ -70,7 +70,7 @@ fn begun(operation: RecordOperation, inputs: &StepInputs<'_>) -> Result<Ticket, 
     Ok(Ticket::new(request, copy))
 }
 
-/// Writes what an operation does.
+/// Writes the reply and the change of an operation.
 fn put_step(alloc: Global, worked: &Worked, reply: &mut u32, out: &mut [u8], len: &mut usize) -> u8
     requires { len.old ≡ 0 }
     ensures step { IsStep (outcome_at worked.now.0 (Some worked.now.1)) reply.new
@@ -86,7 +86,7 @@ fn put_step(alloc: Global, worked: &Worked, reply: &mut u32, out: &mut [u8], len
     answer
 }
 
-/// Writes the text that is to stand in place of the copy.
+/// Writes the text that will replace the copy.
 fn put_after(
     alloc: Global,
     found: Reply,
@@ -106,7 +106,7 @@ fn put_after(
     }
 }
 
-/// The number of a reply: 1 to 12, in their order.
+/// Returns the number of a reply: 1 to 12, in their order.
 fn reply_number(reply: Reply) -> u32
     ensures { result ≡ reply_number reply }
 {

@@ -1,4 +1,4 @@
-//! The numbers of a tag: those of Argon2, and with its length if it is worked in parts.
+//! The numbers of a tag: those of Argon2, and also its length if the tag is worked in parts.
 ghost use Rattle.std.specs.Prelude.{◌≡◌, ◌↔◌, Ok, Err};
 ghost use Rattle.cred_argon.specs.Parameters.{Parameters, IsRaw};
 ghost use Rattle.cred_c.specs.{Lanes.IsNumbersFault, Lanes.StandFor, declared.part_fault.PartFault.PartFault};
@@ -11,11 +11,11 @@ use cred_argon::Params;
 #[repr(C)]
 #[derive(Clone, Copy, Debug, PartialEq, Eq)]
 pub struct Argon2Numbers {
-    /// 0, 1 or 2 for d, i and id.
+    /// 0, 1 and 2 stand for argon2d, argon2i and argon2id.
     pub kind: u32,
-    /// 16 or 19.
+    /// The version, 16 or 19.
     pub version: u32,
-    /// In KiB.
+    /// The memory in KiB.
     pub memory: u32,
     pub passes: u32,
     pub lanes: u32,
@@ -25,19 +25,19 @@ pub struct Argon2Numbers {
 #[repr(C)]
 #[derive(Clone, Copy, Debug, PartialEq, Eq)]
 pub struct TagNumbers {
-    /// 0, 1 or 2 for d, i and id.
+    /// 0, 1 and 2 stand for argon2d, argon2i and argon2id.
     pub kind: u32,
-    /// 16 or 19.
+    /// The version, 16 or 19.
     pub version: u32,
-    /// In KiB.
+    /// The memory in KiB.
     pub memory: u32,
     pub passes: u32,
     pub lanes: u32,
-    /// In bytes.
+    /// The length of the tag in bytes.
     pub tag_len: u32,
 }
 
-/// The parameters that the numbers stand for, or what is wrong with them.
+/// Returns the parameters that the numbers stand for, or the fault of the numbers.
 pub(crate) fn params_of(numbers: &TagNumbers) -> Result<Params, PartFault>
     ensures ok { (a : Parameters) → (result ≡ Ok a) ↔ StandFor numbers.now a }
     ensures err { (f : PartFault) → (result ≡ Err f) ↔ IsNumbersFault numbers.now f }
@@ -61,7 +61,7 @@ pub(crate) fn params_of(numbers: &TagNumbers) -> Result<Params, PartFault>
     }
 }
 
-/// The numbers of parameters.
+/// Returns the numbers of parameters.
 pub(crate) fn numbers_of(params: &Params) -> TagNumbers
     requires { IsRaw params.now }
     ensures { StandFor result params.now }

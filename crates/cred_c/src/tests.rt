@@ -1,7 +1,8 @@
-//! Tests that the exports which need memory get it, by the standards' vectors and the texts of
-//! other programs. c/tests has each fault, and the results of parts that are worked in their order.
+//! These tests show that the exports that need memory get it, with the standards' vectors and the
+//! texts of other programs. c/tests shows each fault, and the results of parts that are worked in
+//! their order.
 //!
-//! Of long tags and keys the tests compare the first bytes: a clause has the others.
+//! The tests compare only the first bytes of long tags and keys: a clause covers the others.
 
 use crate::lanes::cred_argon2_end;
 use crate::operation::StepInputs;
@@ -16,13 +17,13 @@ use crate::texts::cred_write;
 use cred_argon::{Block, Inputs};
 use std::alloc::Global;
 
-/// The record of `password` and `somesalt` by the reference program of Argon2.
+/// The setting and the record of `password` and `somesalt`, by the reference program of Argon2.
 const SETTING: &[u8] = b"$argon2id$v=19$m=256,t=2,p=1$c29tZXNhbHQ";
 
 const RECORD: &[u8] =
     b"$argon2id$v=19$m=256,t=2,p=1$c29tZXNhbHQ$nf65EOgLrQMR/uIPnA4rEsF5h7TKyQwu9U1bMCHGi/4";
 
-/// The same of argon2i.
+/// The same for argon2i.
 const RENEWED_SETTING: &[u8] = b"$argon2i$v=19$m=256,t=2,p=1$c29tZXNhbHQ";
 
 const RENEWED: &[u8] =
@@ -41,7 +42,7 @@ const STANDARD: [[u8; 8]; 3] = [
 /// The first bytes of the second key of RFC 7914, section 12.
 const KEY: [u8; 8] = [0xfd, 0xba, 0xbe, 0x1c, 0x9d, 0x34, 0x72, 0x00];
 
-/// RFC 9106, section 5.
+/// The inputs of RFC 9106, section 5.
 const INPUTS: Inputs<'static> = Inputs {
     pw: &[1; 32],
     salt: &[2; 16],
@@ -49,7 +50,7 @@ const INPUTS: Inputs<'static> = Inputs {
     assoc: &[4; 12],
 };
 
-/// Those of `RECORD`.
+/// The inputs of `RECORD`.
 const RECORD_INPUTS: Inputs<'static> = Inputs {
     pw: b"password",
     salt: b"somesalt",
@@ -97,7 +98,7 @@ fn records_checked(rt: HostRuntime) {
     assert_eq!(rt; answers, [0, 10, 1, 0, 0]);
 }
 
-/// A text that is made at once, and one of a tag.
+/// Writes one record with a single call, and another from a tag.
 #[test]
 fn records_made(rt: HostRuntime) {
     let (mut out, mut len) = ([b'.'; 86], 7);
@@ -126,7 +127,7 @@ const UNREAD: RecordReading = RecordReading {
     tag: [0; 64],
 };
 
-/// The results of the last calls, over a slice that nobody worked, and so of another tag.
+/// Checks the results of the last calls over a slice that nobody worked, which has another tag.
 #[test]
 fn parts_ended(rt: HostRuntime) {
     let (mut read, mut tag, mut out, mut len) = (UNREAD, [0; 32], [b'.'; 86], 7);
@@ -143,7 +144,7 @@ fn parts_ended(rt: HostRuntime) {
     assert_eq!(rt; (len, out.starts_with(SETTING)), (84, true));
 }
 
-/// The answer of a step and its reply, and whether it wrote this text.
+/// Returns the answer of a step, its reply, and whether the step wrote this text.
 fn step(alloc: Global, asked: &StepInputs<'_>, text: &[u8]) -> (u8, u32, bool) {
     let (mut out, mut len, mut reply) = ([b'.'; 96], 9, 77);
     let answer = cred_step(alloc, asked, &mut reply, &mut out, &mut len);
@@ -151,8 +152,8 @@ fn step(alloc: Global, asked: &StepInputs<'_>, text: &[u8]) -> (u8, u32, bool) {
     (answer, reply, is_written)
 }
 
-/// An operation by its number at a copy, with the password and the setting, and then the reply and
-/// the text: each operation that makes a change, and each that makes none.
+/// Takes a step for each operation that makes a change, and for each that makes none. A row has the
+/// operation's number, the copy, the password, the setting, the reply and the text.
 #[test]
 fn steps_taken(rt: HostRuntime) {
     let (right, wrong) = (b"password".as_slice(), b"Password".as_slice());

@@ -11,11 +11,11 @@ use cred_phc::{PhcError, Record, Scheme, Setting, write_record};
 use std::alloc::Global;
 
 /// Writes the text of an Argon2 record of these parts over the front of `out`, and its length into
-/// `len`. The salt has 8 to 48 bytes and the tag 4 to 64. Nothing is hashed.
+/// `len`. The salt has 8 to 48 bytes and the tag 4 to 64. The call computes no hash.
 ///
-/// Answers 0; or 12 if there is no such kind, otherwise 13 if there is no such version, otherwise 5
-/// if another number is outside its range, otherwise 6 if the salt is and 7 if the tag is;
-/// otherwise 8 if memory is short or 11 if `out` has too little room.
+/// Answers 0, or the first of these faults: 12 for a wrong kind, 13 for a wrong version, 5 if
+/// another number is outside its range, 6 if the salt's length is and 7 if the tag's is, and last 8
+/// if memory is short or 11 if `out` has too little room.
 #[unsafe(no_mangle)]
 pub extern "C" fn cred_write(
     alloc: Global,
@@ -59,7 +59,7 @@ pub extern "C" fn cred_write(
     }
 }
 
-/// The record of these parts.
+/// Builds the record of these parts.
 fn record_of_parts(scheme: Scheme, salt: &[u8], tag: &[u8]) -> Result<Record, PhcError>
     ensures { result ≡ record_of_parts scheme salt.now tag.now }
 {

@@ -1,4 +1,4 @@
--- What is read and written, on either basis.
+-- The bytes that are read and written, on either basis.
 use Rattle.std.proofs.Common.{◌≡◌, ℕ, ◌<◌, ◌≤◌, ◌+◌, ◌-◌, ◌^◌, min, List, [], ◌∷◌, ◌++◌, length, take, drop, map, Option, Some, Bool, true, false, Result, Ok, Err, OnOk, IfErr, IfOk, IfSome, subst, refl, sym, ap, ◌∙◌, ap₂, append_assoc, append-nil, arith}
 use Rattle.std.proofs.{KnownBytes.Appends-nil, KnownBytes.Appends-trans, KnownBytes.Consumes-nil, KnownBytes.Consumes-trans, Math.Nat.min-eq_left, Math.Seq.drop-append_seam}
 use Rattle.std.specs.Io.KnownBytes.{Consumes, IsAtEnd, Keeps}
@@ -108,7 +108,7 @@ module _ {R : Type 0} (remaining : R → Option (List ℕ)) (old new : Watched R
       ap₂ (λ had left. record { input = Some had; left = Some left; failed = failed_of new; log = log_on (Transcript all) (log_of new) }) had left
       ∙ ap (λ every. record { input = Some (given_of new ++ rest); left = Some rest; failed = failed_of new; log = log_on (Transcript every) (log_of new) }) cut
 
-  -- so what is told of it in that basis may be told of what it gave
+  -- so what holds of the reader on that basis holds of what it gave
   pub as_passed : (P : Reading → List ℕ → Type 0) → IfSome (left_on (Transcript all) remaining old) (P (reading_on (Transcript all) remaining old new)) → P (transcript_reading rest new) all
   as_passed P told =
       let at_all : P (reading_on (Transcript all) remaining old new) all = subst (λ known. IfSome known (P (reading_on (Transcript all) remaining old new))) (ap (λ xs. Some (drop (length xs) all)) fresh) told in
@@ -118,7 +118,7 @@ module _ {R : Type 0} (remaining : R → Option (List ℕ)) (old new : Watched R
 pub alone : {R : Type 0} (reader : Watched R) → Fits (Transcript (given_of reader)) reader
 alone reader = ([], sym (append-nil (given_of reader)), λ e. refl)
 
--- a script that was answered whole: what was taken is its answers
+-- a script whose lines all have answers: the taken bytes are these answers
 pub answers_of : {E : Type 0} (capacity : ℕ) (book accounts : Accounts) (given before now : List ℕ) (result : Result End E) → before ≡ [] →
     IfOk result (λ end. IsAnswered capacity (script_start book given (Some before)) (Some now) accounts end.lines) → OnOk result (now ≡ out capacity book given)
 answers_of capacity book accounts given before now (Ok end) fresh done = done.written ∙ ap (λ xs. xs ++ out capacity book given) fresh

@@ -1,4 +1,4 @@
--- What a byte more, or the end, makes of a script.
+-- The effect of one more byte, or of the end, on a script.
 use Rattle.std.proofs.Common.{◌≡◌, ℕ, suc, ◌<◌, List, [], ◌∷◌, ◌++◌, length, take, map, option_map, Some, refl, sym, ap, ◌∙◌, arith, slice_get, get_or, drop, append_assoc, take-append-drop, inl, inr}
 use Rattle.std.proofs.{Math.Seq.drop-cons, lemmas.Bool.cases_lt, lemmas.List.length-append, lemmas.List.length-map, lemmas.List.length-take, lemmas.List.nil_from_length, lemmas.List.take-append-le, lemmas.List.take_all, lemmas.Option.slice_get-map}
 use Rattle.cred_cli.specs.{Events.event_of, Events.most_kept, Feeding.unfinished_from, Script.events_of, Script.lines_of, Script.line_ends}

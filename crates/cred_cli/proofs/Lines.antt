@@ -96,7 +96,7 @@ no_end b other = elim (eqb_tells b 10) [
 pub line_ends-more : (front : List ℕ) (b : ℕ) → b ≢ 10 → line_ends (front ++ b ∷ []) ≡ line_ends front
 line_ends-more front b ne = let r = line_ends-append front (b ∷ []) in let none = no_end b ne in omega (arith, r, none)
 
--- a longer front has no fewer
+-- a longer front has no fewer line ends
 pub line_ends_longer : (front more : List ℕ) → line_ends front ≤ line_ends (front ++ more)
 line_ends_longer front more = let r = line_ends-append front more in omega (arith, r)
 
@@ -105,12 +105,12 @@ line_ends_longer front more = let r = line_ends-append front more in omega (arit
 pub longer : (line : List ℕ) → longest_line < length line → nat_lt longest_line (length line) ≡ true
 longer line long = grind (arith, nat_tests)
 
--- a line that is too long is refused whatever it says
+-- a line that is too long is refused, whatever it contains
 too_long : (line : List ℕ) → longest_line < length line → event_of line ≡ Bad Long
 unfolding event_of
 too_long line long = ap (λ test. if test then Bad Long else or_bad (event_of_pieces (pieces 32 line))) (longer line long)
 
--- so no more of it is kept than shows that
+-- so the kept part is enough to show that the line is too long
 pub event_of-kept : (line : List ℕ) → event_of (take most_kept line) ≡ event_of line
 event_of-kept line = elim (cases_lt longest_line (length line)) [
   | inl long ↦ too_long (take most_kept line) (rw length-take (omega (arith, long))) ∙ sym (too_long line long)

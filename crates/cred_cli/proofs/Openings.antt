@@ -1,4 +1,4 @@
--- The numbers that are open, and what is known of their begins.
+-- The open numbers, and the known facts about their begins.
 use Rattle.std.proofs.Common.{◌≡◌, ℕ, zero, suc, ◌<◌, List, [], ◌∷◌, ◌++◌, length, Option, Some, None, true, ◌&&◌, if◌then◌else◌, is_none, nat_lt, slice_get, refl, sym, ap, ◌∙◌, arith}
 use Rattle.std.proofs.lemmas.Bool.{and_parts, cond_both, or_right}
 use Rattle.std.specs.{Bool.◌==◌, Str.bytes_eq}

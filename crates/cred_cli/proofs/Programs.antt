@@ -1,4 +1,4 @@
--- How the program ends.
+-- The end of the program.
 use Rattle.std.proofs.{Common.◌≡◌, Common.ℕ, Common.◌≤◌, Common.List, Common.[], Common.length, Common.Option, Common.Some, Common.None, Common.Bool, Common.Result, Common.Ok, Common.Err, Common.OnOk, Common.IfOk, Common.IfErr, Common.IfSome, Common.inl, Common.inr, Common.refl, lemmas.Option.IfSome_then}
 use Rattle.std.specs.FinMap as map
 use Rattle.cred_book.specs.Accounts.{Accounts, most_accounts}
@@ -16,7 +16,7 @@ unbegun capacity book before failed name r unread = if_known r.input _ (λ all k
   prompt = rw unread tt;
 })
 
--- how a script ended is told of each part, as far as its bytes are known
+-- the end of a script is told of each part, as far as the part's bytes are known
 pub ends_in_parts : (capacity : ℕ) (r : Reading) (w : Writing) (old new : Accounts) (input : Option (List ℕ)) (result : Result End ScriptFault) → IfSome input (λ bytes. ScriptEnds capacity (script_start old bytes w.before) r w new result) →
     IfOk result (λ end. IfSome input (λ bytes. IsAnswered capacity (script_start old bytes w.before) w.now new end.lines))
     × OnOk result (IfSome input (λ bytes. length bytes ≤ longest_script))

@@ -1,4 +1,4 @@
--- What a run's calls of its reader find, and how many there are.
+-- The states that a run's calls on its reader find, and the number of these calls.
 use Rattle.std.proofs.Common.{◌≡◌, ℕ, ◌+◌, ◌≤◌, ◌<◌, arith, List, [], ◌∷◌, ◌++◌, length, Option, Some, None, IfSome, Result, Ok, Err, append-nil, refl, sym, ap, ◌∙◌}
 use Rattle.std.proofs.lemmas.List.{append_cancel_right, length-append}
 use Rattle.std.specs.Io.KnownBytes.{Consumes}
@@ -31,7 +31,7 @@ read_to_start capacity script name left s calls known at none = record {
   fewer = rw none tt;
 }
 
--- one call more was made, and found this
+-- one more call found this state
 pub record IsCalled (left : Option (List ℕ)) (name : ℕ) (s : Standing) (earlier calls : List Call) : Type 0 where
   pub call : Call
   pub are : calls ≡ call ∷ earlier
@@ -41,7 +41,7 @@ pub record IsCalled (left : Option (List ℕ)) (name : ℕ) (s : Standing) (earl
   pub accounts_are : call.accounts ≡ s.accounts
 
 module _ {capacity : ℕ} {script : ScriptStart} {name : ℕ} {left : Option (List ℕ)} {s : Standing} {earlier calls : List Call} (read : IsReadTo capacity script name left s earlier) (called : IsCalled left name s earlier calls) where
-  -- it is prompt, whatever comes of it
+  -- the call is prompt, whatever its result
   pub prompt_call : IsPrompt capacity script name calls
   prompt_call = rw called.are (
     record { front = read.front; came = rw (called.left_is, read.left_is) read.cut; beside = called.beside_is; stands = rw (called.written_is, called.accounts_are) read.at.place.stands },
@@ -49,7 +49,7 @@ module _ {capacity : ℕ} {script : ScriptStart} {name : ℕ} {left : Option (Li
     read.prompt,
   )
 
-  -- and where it gave bytes that are taken, the script is read behind them
+  -- if the call gave bytes that the run takes, the script is read to the place behind them
   pub read_on : {now : Option (List ℕ)} {new : Standing} (bytes : List ℕ) → HasCome read.rest bytes now → 0 < length bytes
       → GoesOn {A = Unit {0}} capacity script (λ _. IsAt capacity script (read.front ++ bytes) new) new (Ok tt) → IsReadTo capacity script name now new calls
   read_on bytes more some fed = record {
@@ -62,7 +62,7 @@ module _ {capacity : ℕ} {script : ScriptStart} {name : ℕ} {left : Option (Li
     fewer = rw (called.are, called.left_is, read.left_is) (omega (arith, some, ap length more.cut, length-append bytes more.left));
   }
 
-  -- a fault comes of it
+  -- the call ends in a fault
   pub run_breaks : {A : Type 0} {new : Standing} {done : A → Type 0} (r : Reading) (w : Writing) (e : ScriptFault) → r.log ≡ calls → w.name ≡ name → w.now ≡ new.written
       → GoesOn capacity script done new (Err e) → ScriptEnds capacity script r w new.accounts (Err e)
   run_breaks r w e log named now broken = record { done = tt; fault = rw now (broken.ended r.left); short = tt; prompt = rw (named, log) prompt_call }
@@ -74,7 +74,7 @@ run_ends {script = script} read none finishes =
     let whole : read.front ≡ script.bytes = sym (rw (none, append-nil) at read.cut) in
     finishes script (rw whole at read.at)
 
--- no call was made, and so none too early
+-- there was no call, and so none too early
 pub no_calls : (capacity : ℕ) (book : Accounts) (name : ℕ) (before known : Option (List ℕ)) (calls : List Call) → calls ≡ [] → IfSome known (λ bytes. IsPrompt capacity (script_start book bytes before) name calls)
 no_calls capacity book name before known calls none =
     if_known known (λ bytes. IsPrompt capacity (script_start book bytes before) name calls) (λ all is. rw none tt)

@@ -1,4 +1,4 @@
--- What a read makes of a script: its start, the bytes that came, and its end.
+-- The effect of a read on a script: its start, the bytes that came, and its end.
 use Rattle.std.proofs.Common.{◌≡◌, ℕ, ◌-◌, replicate, List, [], ◌++◌, take, Option, Some, None, IfSome, refl, sym, ap, ◌∙◌, append_assoc, arith}
 use Rattle.std.proofs.{KnownBytes.Appends-nil, lemmas.List.get_or-replicate, lemmas.List.length-replicate}
 use Rattle.std.specs.Io.KnownBytes.{Consumes, IsAtEnd, Keeps}
@@ -40,7 +40,7 @@ came None now rest bytes known consumed = cc
 came (Some xs) None rest bytes known consumed = absurd consumed
 came (Some xs) (Some ys) rest bytes known consumed = record { left = ys; now_is = refl; cut = cc }
 
--- none is left
+-- no byte is left
 pub came_to_end : (old now : Option (List ℕ)) (rest buffer : List ℕ) (n : ℕ) → n ≡ 0 → old ≡ Some rest → Consumes old now (take n buffer) → IsAtEnd now → rest ≡ []
 came_to_end None now rest buffer n none known consumed end = cc
 came_to_end (Some xs) None rest buffer n none known consumed end = absurd consumed
@@ -56,7 +56,7 @@ kept_left (Some xs) (Some ys) bytes front rest known kept cut =
     let same : ys ≡ rest = cc in
     rw same cut
 
--- what is known may be asked of as it is
+-- known bytes may be used as they are
 pub if_known : (known : Option (List ℕ)) (P : List ℕ → Type 0) → ((all : List ℕ) → known ≡ Some all → P all) → IfSome known P
 if_known None P h = tt
 if_known (Some all) P h = h all refl

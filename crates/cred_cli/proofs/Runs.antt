@@ -1,4 +1,4 @@
--- A line that was done, or that met a fault, and bytes that were taken in turn.
+-- A line that was done or met a fault, and bytes that the run took in turn.
 use Rattle.std.proofs.{Common.◌≡◌, Common.ℕ, Common.suc, Common.◌<◌, Common.List, Common.[], Common.◌∷◌, Common.◌++◌, Common.length, Common.take, Common.drop, Common.get_or, Common.Some, Common.Bool, Common.Result, Common.Ok, Common.Err, Common.OnOk, Common.IfErr, Common.MatchResult, Common.sym, Common.ap, Common.subst, Common.◌∙◌, Common.append_assoc, Common.append-nil, Common.slice_get, KnownBytes.Appends-trans, lemmas.Option.slice_get_within}
 use Rattle.std.specs.Io.KnownBytes.{Appends}
 use Rattle.cred_cli.specs.{declared.event.Event.Event, declared.fault.ScriptFault.ScriptFault, Feeding.Breaks, Feeding.GoesOn, Feeding.IsAt, Feeding.IsAtLine, Feeding.Standing, Feeding.Takes}

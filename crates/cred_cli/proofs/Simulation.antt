@@ -1,5 +1,4 @@
--- One event, done on the book that stands with the tickets that are open, is what the history says
--- of its place.
+-- One event on the present book and the open tickets does what the history says at its place.
 use Rattle.std.proofs.Common.{◌≡◌, ◌≢◌, ℕ, suc, ◌-◌, ◌≤◌, List, take, Option, Some, None, Bool, true, false, not, ◌&&◌, if◌then◌else◌, is_none, is_some, nat_lt, refl, sym, ap, ◌∙◌, slice_get, set, arith, inl, inr, eq-eqb}
 use Rattle.std.proofs.{Math.ListN.length-set, lemmas.Bool.cond_both, lemmas.Bool.ne_eqb, lemmas.Bool.Decides.eqb_tells, lemmas.List.get_or-set_same, lemmas.List.get_or-set_other}
 use Rattle.cred_phc.specs.Values.{RecordValue}
@@ -69,7 +68,7 @@ module _ (capacity : ℕ) (book : Accounts) (events : List Event) (i : ℕ) (slo
 
 -- ---- the events that leave the tickets
 
--- a step and what the history says
+-- a step, and the same step of the history
 abbrev Agree : Accounts → List (Option Task) → Step → Answer → Option Deed → Type 0
 Agree book slots step said deed = (step.answer ≡ said) × (step.book ≡ after book deed) × (step.slots ≡ slots)
 

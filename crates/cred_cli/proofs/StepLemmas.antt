@@ -1,4 +1,4 @@
--- What a begin and a commit do, step by step.
+-- The effects of a begin and of a commit, step by step.
 use Rattle.std.proofs.{Common.◌≡◌, Common.ℕ, Common.◌-◌, Common.List, Common.Option, Common.Some, Common.None, Common.Ok, Common.true, Common.false, Common.is_some, Common.set, Common.refl, Common.sym, Common.ap, Common.◌∙◌, lemmas.List.set-get_or}
 use Rattle.cred_phc.specs.Values.{RecordValue}
 use Rattle.cred_book.specs.{Accounts.Accounts, Commits.Begins, Commits.Commits, Commits.commit_outcome, Works.Task, Works.name_of, declared.reply.Reply.Reply, declared.request.Request.Request}

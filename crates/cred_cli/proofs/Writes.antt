@@ -13,7 +13,7 @@ front_written bytes front rest before now cut left written =
 pub front_more : (a b : Option (List ℕ)) (xs ys : List ℕ) → FrontWritten a b xs → FrontWritten a b (xs ++ ys)
 front_more a b xs ys (n, short, written) = (n, omega (arith, short, length-append xs ys), rw (take-append-le n xs ys (omega (arith, short))) written)
 
--- and so is one of the second part, behind the first
+-- a front of the second part, behind the first part, is one of the whole too
 pub front_behind : (a b c : Option (List ℕ)) (xs ys : List ℕ) → Appends a b xs → FrontWritten b c ys → FrontWritten a c (xs ++ ys)
 front_behind a b c xs ys first (n, short, written) =
     (length xs + n, omega (arith, short, length-append xs ys), rw (take-append-add xs ys n) (Appends-trans a b c xs (take n ys) first written))
@@ -22,12 +22,12 @@ front_behind a b c xs ys first (n, short, written) =
 pub cut_later : (bytes front rest : List ℕ) (n : ℕ) → bytes ≡ front ++ rest → bytes ≡ (front ++ take n rest) ++ drop n rest
 cut_later bytes front rest n cut = cut ∙ rw append_assoc (ap (λ xs. front ++ xs) (sym (take-append-drop n rest)))
 
--- and so of the bytes that were taken
+-- the cut of the taken bytes moves too
 pub taken_later : (a b c front more : List ℕ) → b ≡ a ++ front → c ≡ b ++ more → c ≡ a ++ (front ++ more)
 taken_later a b c front more taken later = later ∙ ap (λ xs. xs ++ more) taken ∙ append_assoc a front more
 
 module _ {E : Type 0} (bytes : List ℕ) where
-  -- what a write took, if it took any
+  -- the bytes that a write took, if it took any
   pub wrote : (r : Result ℕ E) (a b : Option (List ℕ)) → WriteAppends a b r bytes → Appends a b (take (result_unwrap_or r 0) bytes)
   wrote (Ok n) a b written = written
   wrote (Err e) a b kept = Appends-kept _ _ _ _ (Appends-nil a) kept
@@ -36,7 +36,7 @@ module _ {E : Type 0} (bytes : List ℕ) where
   passed (Ok n) old new taken = taken
   passed (Err e) old new kept = kept ∙ sym (append-nil old)
 
-  -- and if it took none
+  -- the write took no byte
   pub none_more : (r : Result ℕ E) (a b c : Option (List ℕ)) (front : List ℕ) → result_unwrap_or r 0 ≡ 0 → Appends a b front → WriteAppends b c r bytes → Appends a c front
   none_more r a b c front none written more = rw append-nil at (Appends-trans a b c front [] written (rw none at (wrote r b c more)))
 

@@ -1,4 +1,4 @@
--- The bytes of an answer as the code holds them, and what an event that was done leaves.
+-- The bytes of an answer as the code holds them, and the result of a done event.
 use Rattle.std.specs.Prelude.{◌≡◌, ℕ, List, Option}
 use Rattle.cred_book.specs.{Accounts.Accounts, Works.Task}
 use Rattle.cred_cli.specs.{declared.answer.AnswerLine.AnswerLine, declared.answer.AnswerLine.TheVariants.Fixed, declared.answer.AnswerLine.TheVariants.Made, Steps.Step, Texts.line_of}

@@ -27,7 +27,7 @@ run_app = with_rule (new_app (codes "run")) workers_rule
 abbrev pub one_app : Text → Rule → App
 one_app word what = with_rule (with_rule (with_rule (new_app word) what) password_rule) workers_rule
 
--- with `run` alone; `--version` is taken too
+-- the program with `run` alone, which also accepts `--version`
 abbrev pub base_app : App
 base_app = let app = new_app (codes "credbook") in
     with_subcommand

@@ -1,12 +1,12 @@
--- What stood as a reader was called.
+-- The state at a call on a reader.
 use Rattle.std.specs.Prelude.{ℕ, List, Option, refl}
 use Rattle.std.specs.Coded.{Coded, code_by, coded×, coded_list, coded_option, coded_ℕ}
 use Rattle.std.specs.FinMap as map
 use Rattle.cred_phc.specs.contracts.Record as stored
 use Rattle.cred_book.specs.Accounts.{Accounts}
 
--- the bytes that the reader had left and those that it had given, the name of the writer beside it,
--- the bytes that this one held and those that it had taken, and the keeper's book
+-- the bytes that the reader had left and had given, the name of the writer beside it, the bytes
+-- that the writer held and had taken, and the keeper's book
 pub record Call : Type 0 where
   pub left : Option (List ℕ)
   pub given : List ℕ
@@ -22,7 +22,7 @@ bytes_code = coded_option (coded_list coded_ℕ)
 abbrev pub accounts_code : Coded Accounts
 accounts_code = map.code (coded_list coded_ℕ) (coded_option stored.the_row.coded)
 
--- bytes as they are named and as they passed
+-- the named bytes, and the bytes that passed
 abbrev pub seen_code : Coded (Option (List ℕ) × List ℕ)
 seen_code = coded× bytes_code (coded_list coded_ℕ)
 

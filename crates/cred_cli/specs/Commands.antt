@@ -1,4 +1,4 @@
--- What the program does, by its words.
+-- What the program does for its words.
 use Rattle.std.specs.{Io.KnownBytes.Appends, Io.KnownBytes.Keeps, Option.ok_or, Str.bytes_eq}
 use Rattle.std.specs.Prelude.{◌≡◌, ◌⊎◌, ℕ, ◌≤◌, Bool, true, false, if◌then◌else◌, Option, Some, None, IfSome, Result, Ok, List, [], ◌∷◌, ◌++◌, length, codes, MatchBool, MatchResult}
 use Rattle.clap.specs.Words.{Row, Text, first_of}
@@ -11,18 +11,18 @@ use Rattle.cred_cli.specs.declared.exit_status.ExitStatus.TheVariants.{Done, Ref
 use Rattle.cred_cli.specs.{declared.fault.ScriptFault.ScriptFault, declared.refusal.Refusal.Refusal, declared.refusal.Refusal.TheVariants.Password}
 use Rattle.std.specs.FinMap as map
 
--- whenever more of a script on an empty book was asked for, what had come was answered
+-- at each call on the reader of a script on an empty book, the lines that had come had answers
 abbrev pub RunsPrompt : Reading → Writing → Type 0
 RunsPrompt r w = IfSome r.input (λ bytes. IsPrompt most_accounts
     (script_start map.empty bytes w.before) w.name r.log)
 
--- a script on an empty book was answered whole
+-- all lines of a script on an empty book have answers
 pub record RunsWhole (r : Reading) (w : Writing) : Type 0 where
   pub written : IfSome r.input (λ bytes. Appends w.before w.now (out most_accounts map.empty bytes))
   pub short : IfSome r.input (λ bytes. length bytes ≤ longest_script)
   pub prompt : RunsPrompt r w
 
--- or it met a fault, and its book is let go
+-- or the script met a fault, and its book is gone
 pub record RunFails (r : Reading) (w : Writing) (fault : ScriptFault) : Type 0 where
   pub stands : IfSome r.input (λ bytes. (accounts : Accounts)
       × ScriptFails most_accounts (script_start map.empty bytes w.before) r.left w.now accounts
@@ -37,17 +37,17 @@ Runs r w status = ((status ≡ status_number Done) × RunsWhole r w)
 
 -- ---- `hash` and `check`
 
--- a password that is left away is the empty one; any other has 1 to 256 bytes in base64
+-- a missing password is the empty one; any other has 1 to 256 bytes in base64
 abbrev pub password_word : Option Text → Result (List ℕ) Refusal
 password_word None = Ok []
 password_word (Some text) = ok_or (bytes_of 1 256 text) Password
 
--- what is to be hashed; the setting is judged before the password
+-- the input of `hash`; the setting is judged before the password
 abbrev pub to_hash : Text → Option Text → Result (SettingValue × List ℕ) Refusal
 to_hash setting pw =
     setting_field setting >>= λ s. password_word pw >>= λ password. Ok (s, password)
 
--- what is to be checked; the record is judged before the password
+-- the input of `check`; the record is judged before the password
 abbrev pub to_check : Text → Option Text → Result (RecordValue × List ℕ) Refusal
 to_check stored pw = record_field stored >>= λ r. password_word pw >>= λ password. Ok (r, password)
 
@@ -88,7 +88,7 @@ abbrev pub is_run : Option (Text × List Row) → Bool
 is_run None = false
 is_run (Some (word, rows)) = bytes_eq word (codes "run")
 
--- by the subcommand and its values
+-- what the program does for a subcommand and its values
 abbrev pub Acts : Option (Text × List Row) → Reading → Writing → ℕ → Type 0
 Acts None r w status = Ends Refused w status
 Acts (Some (word, rows)) r w status = MatchBool (bytes_eq word (codes "run")) (Runs r w status)

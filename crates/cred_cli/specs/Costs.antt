@@ -1,5 +1,5 @@
--- How much memory and work hashes take, and which settings and requests ask for more than is
--- allowed.
+-- The memory and the work of hashes, and the settings and requests that need more than the bounds
+-- allow.
 use Rattle.std.specs.Prelude.{ℕ, ◌+◌, ◌*◌, ◌/◌, ◌^◌, Bool, false, ◌||◌, nat_lt, Option, Some, None}
 use Rattle.cred_phc.specs.{declared.scheme.Scheme.Scheme, declared.scheme.Scheme.TheVariants.Argon2, declared.scheme.Scheme.TheVariants.Scrypt}
 use Rattle.cred_book.specs.declared.request.Request.{Request}
@@ -11,20 +11,20 @@ use Rattle.cred_cli.specs.declared.costs.CostBounds.{CostBounds}
 abbrev pub tables_kib : ℕ → ℕ → ℕ → ℕ
 tables_kib tables ln r = (tables * (r * 2 ^ ln) + 7) / 8
 
--- How many KiB a hash takes by as many threads as can work at it: m of Argon2 (RFC 9106, section
--- 3.1), whatever their number; of scrypt a table for each of its p pieces.
+-- The KiB of a hash with as many threads as can work at it. For Argon2 this is m (RFC 9106, section
+-- 3.1), whatever the number of threads. For scrypt it is a table for each of the p pieces.
 abbrev pub memory_of : Scheme → ℕ
 memory_of (Argon2 version variant m t p) = m
 memory_of (Scrypt ln r p) = tables_kib p ln r
 
--- and by one thread, which mixes the pieces in turn
+-- the KiB of a hash with one thread, which mixes the pieces in turn
 abbrev pub memory_alone : Scheme → ℕ
 memory_alone (Argon2 version variant m t p) = m
 memory_alone (Scrypt ln r p) = tables_kib 1 ln r
 
--- How many KiB a hash goes over, each as often as it is gone over: the m of Argon2 in each of its t
--- passes (RFC 9106, section 3.2); scrypt's tables twice, as they are filled and as they are mixed
--- (RFC 7914, section 5, steps 2 and 3).
+-- The KiB over which a hash passes, with each KiB counted at every pass. Argon2 passes over m in
+-- each of its t passes (RFC 9106, section 3.2). scrypt passes over its tables twice, when it fills
+-- them and when it mixes them (RFC 7914, section 5, steps 2 and 3).
 abbrev pub work_of : Scheme → ℕ
 work_of (Argon2 version variant m t p) = m * t
 work_of (Scrypt ln r p) = 2 * tables_kib p ln r
@@ -38,11 +38,11 @@ abbrev pub is_above : Option ℕ → ℕ → Bool
 is_above None cost = false
 is_above (Some most) cost = nat_lt most cost
 
--- it takes more memory than one bound, or more work than the other
+-- a hash with this scheme needs more memory or more work than these bounds allow
 abbrev pub exceeds : CostBounds → Scheme → Bool
 exceeds most scheme = is_above most.memory (memory_of scheme) || is_above most.work (work_of scheme)
 
--- the setting of the record that it would make does
+-- the setting of the record that the request would make needs more than these bounds allow
 abbrev pub request_exceeds : CostBounds → Request → Bool
 request_exceeds most (Enrol name pw setting) = exceeds most setting.scheme
 request_exceeds most (Change name pw new setting) = exceeds most setting.scheme

@@ -1,4 +1,4 @@
--- The line of an event: its word, then its fields. Each field is one that the value is read from.
+-- The line of an event: its word, then its fields. Each field is one from which its value is read.
 use Rattle.std.specs.Prelude.{◌≡◌, ℕ, List, [], ◌∷◌, Ok, codes}
 use Rattle.cred_book.specs.declared.request.Request.{Request}
 use Rattle.cred_book.specs.declared.request.Request.TheVariants.{Enrol, Verify, Change, Upgrade, Remove}

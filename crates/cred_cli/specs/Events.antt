@@ -68,7 +68,7 @@ name_and_record fields = name_and record_field fields
 abbrev pub name_and_password : List (List ℕ) → Result (List ℕ × List ℕ) Refusal
 name_and_password fields = name_and password_field fields
 
--- the setting that a line gives, or the one that is drawn; with more fields it is refused first
+-- the setting of a line, or the drawn one; more fields refuse the line first
 abbrev pub own_setting : List (List ℕ) → Option SettingValue
     → Result (Result SettingValue Refusal) Refusal
 own_setting [] (Some drawn) = Ok (Ok drawn)
@@ -111,12 +111,12 @@ abbrev pub commit_event : List (List ℕ) → Result Event Refusal
 commit_event (k ∷ []) = key_field k >>= λ key. Ok (Commit key)
 commit_event _ = Err Line
 
--- it asks for nothing: its word or the number of its fields is another
+-- the line asks for nothing: no line has this word with this number of fields
 abbrev pub is_line : Refusal → Bool
 is_line Line = true
 is_line _ = false
 
--- such a line is refused before its number is read, and any other with its number first
+-- such a line is refused before its number is read; for any other line the number is judged first
 abbrev pub begun : List ℕ → Result Request Refusal → Result Event Refusal
 begun k (Ok request) = key_field k >>= λ key. Ok (Begin key request)
 begun k (Err why) = if is_line why then Err why else (key_field k >>= λ key. Err why)
@@ -148,12 +148,11 @@ or_bad (Err why) = Bad why
 abbrev pub longest_line : ℕ
 longest_line = 1024
 
--- of which no more than this is kept while it is read: a longer line is refused whatever it goes on
--- with
+-- the maximum number of bytes that are kept of a line: a longer line is refused, whatever follows
 abbrev pub most_kept : ℕ
 most_kept = longest_line + 1
 
--- how many pieces are looked at: one more than a line may have
+-- the maximum number of pieces that are read: one more than a line may have
 abbrev pub most_pieces : ℕ
 most_pieces = 8
 

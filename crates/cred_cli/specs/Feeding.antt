@@ -1,4 +1,4 @@
--- Where a script stands after some of its bytes.
+-- The state of a script after some of its bytes.
 use Rattle.std.specs.Prelude.{◌≡◌, ℕ, suc, ◌==◌, if◌then◌else◌, Option, Some, List, [], ◌∷◌, ◌++◌, length, take, slice_get, Result, MatchResult}
 use Rattle.cred_book.specs.{Accounts.Accounts, Works.Task}
 use Rattle.cred_cli.specs.{Events.most_kept, declared.event.Event.Event, declared.fault.ScriptFault.ScriptFault, Watched.Reading, Watched.Writing}
@@ -12,7 +12,8 @@ unfinished_from line [] = line
 unfinished_from line (c ∷ cs) =
     if c == 10 then unfinished_from [] cs else unfinished_from (line ++ c ∷ []) cs
 
--- where a run stands: what is written, the keeper's accounts, the open tickets, and how far it read
+-- the state of a run: the written bytes, the keeper's accounts, the open tickets, and the progress
+-- of the reading
 pub record Standing : Type 0 where
   pub written : Option (List ℕ)
   pub accounts : Accounts
@@ -49,30 +50,30 @@ abbrev pub Breaks : ℕ → ScriptStart → Standing → ScriptFault → Type 0
 Breaks capacity script new e =
     (left : Option (List ℕ)) → ScriptFails capacity script left new.written new.accounts e
 
--- it is done so, or a fault ends the run
+-- the call ends so, or a fault ends the run
 pub record GoesOn {A : Type 0} (capacity : ℕ) (script : ScriptStart) (done : A → Type 0)
     (new : Standing) (r : Result A ScriptFault) : Type 0 where
   pub ended : MatchResult r done (Breaks capacity script new)
 
--- from wherever the next line asks for this event, it is answered too
+-- from every state in which the next line asks for this event, the line gets its answer
 abbrev pub TakesLine : ℕ → Event → Standing → Standing → Result (Unit {0}) ScriptFault → Type 0
 TakesLine capacity event old new r = (script : ScriptStart) (i : ℕ)
     → IsAtLine capacity script i old → slice_get (events_of script.bytes) i ≡ Some event
     → GoesOn capacity script (λ _. IsAtLine capacity script (suc i) new) new r
 
--- from wherever a script's next bytes are these, they are taken
+-- from every state in which a script's next bytes are these, the run takes them
 abbrev pub Takes : ℕ → List ℕ → Standing → Standing → Result (Unit {0}) ScriptFault → Type 0
 Takes capacity bytes old new r = (script : ScriptStart) (front rest : List ℕ)
     → script.bytes ≡ front ++ bytes ++ rest → IsAt capacity script front old
     → GoesOn capacity script (λ _. IsAt capacity script (front ++ bytes) new) new r
 
--- from the end of a script, its last line is answered too
+-- from the end of a script, its last line gets its answer
 abbrev pub Finishes : ℕ → Standing → Standing → Result ℕ ScriptFault → Type 0
 Finishes capacity old new r = (script : ScriptStart) → IsAt capacity script script.bytes old
     → GoesOn capacity script (λ lines. IsAnswered capacity script new.written new.accounts lines)
     new r
 
--- from the start of the script that a reader has: each line is answered, or a fault ends the run
+-- from the start of a reader's script: each line gets its answer, or a fault ends the run
 abbrev pub Plays : ℕ → Reading → Writing → Standing → Standing → Result End ScriptFault → Type 0
 Plays capacity r w old new result = (script : ScriptStart)
     → r.input ≡ Some script.bytes → IsAt capacity script [] old

@@ -1,5 +1,5 @@
--- The history that a list of events makes: which names there are, which numbers are open, what was
--- done, and the book that it leaves. The capacity is how many names the book has room for.
+-- The history of a list of events: the names, the open numbers, the deeds, and the resulting book.
+-- The capacity is the maximum number of names in the book.
 use Rattle.std.specs.{List.list_any, Str.bytes_eq}
 use Rattle.std.specs.Prelude.{ℕ, zero, suc, ◌==◌, ◌&&◌, if◌then◌else◌, Bool, true, false, not, Option, Some, None, is_none, List, [], ◌∷◌, ◌++◌, length, take, fold, nat_lt, slice_get}
 use Rattle.cred_phc.specs.Values.{RecordValue}
@@ -73,7 +73,7 @@ same_entry None None = true
 same_entry (Some a) (Some b) = same a b
 same_entry _ _ = false
 
--- after these deeds the account's record isn't the one that stood at the begin's place
+-- after these deeds the account's record differs from the one at the begin's place
 unfoldable pub is_stale : Accounts → List (Option Deed) → Opened → Bool
 is_stale book past opened =
     not (same_entry (map.get (book_after book past) (name_of opened.request))
@@ -122,7 +122,8 @@ abbrev pub show_answer : Option (Option RecordValue) → Answer
 show_answer None = Refused (Book NoAccount)
 show_answer (Some stored) = Shown stored
 
--- a stale commit does nothing; another is answered by the whole operation at its own moment
+-- a stale commit does nothing; any other commit is answered as the whole operation at its own
+-- moment
 abbrev pub commit_answer : Accounts → List (Option Deed) → Option Opened → Answer
 commit_answer book past None = Refused Idle
 commit_answer book past (Some opened) =

@@ -1,4 +1,4 @@
--- How a script ends, and what stands then.
+-- The end of a script, and the state that it leaves.
 use Rattle.std.specs.Prelude.{◌≡◌, ◌⊎◌, ℕ, suc, ◌+◌, ◌<◌, Option, Some, Bool, true, List, ◌++◌, length, take}
 use Rattle.std.specs.Io.KnownBytes.{Appends, Consumes}
 use Rattle.cred_book.specs.Accounts.{Accounts}
@@ -10,8 +10,8 @@ use Rattle.cred_cli.specs.{History.answer_at, History.book_at, Script.ScriptStar
 abbrev pub longest_script : ℕ
 longest_script = 1048576
 
--- how often the reader is called at most: once for each byte, once for a byte too many or the end,
--- and once after that
+-- the maximum number of calls on the reader: one for each byte, one for a byte too many or the end,
+-- and one after that
 abbrev pub most_calls : ℕ
 most_calls = longest_script + 2
 
@@ -19,7 +19,7 @@ most_calls = longest_script + 2
 abbrev pub FrontWritten : Option (List ℕ) → Option (List ℕ) → List ℕ → Type 0
 FrontWritten before now bytes = (n : ℕ) × (n < length bytes) × Appends before now (take n bytes)
 
--- every line is answered, and the book is that after them
+-- every line has its answer, and the book is the one after these lines
 pub record IsAnswered (capacity : ℕ) (script : ScriptStart) (now : Option (List ℕ))
     (accounts : Accounts) (lines : ℕ) : Type 0 where
   pub written : Appends script.before now (out capacity script.book script.bytes)
@@ -27,7 +27,7 @@ pub record IsAnswered (capacity : ℕ) (script : ScriptStart) (now : Option (Lis
       (length (events_of script.bytes))
   pub lines_are : lines ≡ length (events_of script.bytes)
 
--- the first i lines are answered, and the book is that after them
+-- the first i lines have answers, and the book is the one after these lines
 pub record StandsAfter (capacity : ℕ) (book : Accounts) (events : List Event) (i : ℕ)
     (before now : Option (List ℕ)) (accounts : Accounts) : Type 0 where
   pub written : Appends before now (answers_before capacity book events i)
@@ -42,8 +42,8 @@ pub record StopsIn (capacity : ℕ) (book : Accounts) (events : List Event) (i :
       ++ take n (line_of (answer_at capacity book events i)))
   pub accounts_are : accounts ≡ book_at capacity book events (suc i)
 
--- What stands after a fault; left is what the reader has left. Memory was refused to the line after
--- those that are answered, or before the first line.
+-- The state after a fault, where `left` is what the reader has left. Memory ran out for the line
+-- after the answered ones, or before the first line.
 abbrev pub ScriptFails : ℕ → ScriptStart → Option (List ℕ) → Option (List ℕ) → Accounts
     → ScriptFault → Type 0
 ScriptFails capacity script left now accounts Read =

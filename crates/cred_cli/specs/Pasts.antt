@@ -1,10 +1,9 @@
--- What a past may gain.
+-- The additions to a past.
 use Rattle.std.specs.Prelude.{◌≡◌, ℕ, List, [], ◌∷◌, ◌++◌, refl}
 use Rattle.std.proofs.Common.{sym, append-nil}
 use Rattle.cred_cli.specs.{Calls.Call, declared.past.Past.Past}
 
--- It goes on: what had passed and the calls that were logged stay where they were, and so does its
--- name.
+-- A past goes on: the bytes that had passed, the logged calls and its name stay as they were.
 pub record GoesOn (old new : Past) : Type 0 where
   pub given : (bytes : List ℕ) × (new.given ≡ old.given ++ bytes)
   pub taken : (bytes : List ℕ) × (new.taken ≡ old.taken ++ bytes)

@@ -1,11 +1,10 @@
--- What stands whenever more of a script is asked for.
+-- The state at each call on the reader of a script.
 use Rattle.std.specs.Prelude.{◌≡◌, ℕ, ◌<◌, Option, Some, None, List, [], ◌∷◌, length}
 use Rattle.std.specs.Io.KnownBytes.{Consumes}
 use Rattle.cred_cli.specs.{Calls.Call, Outcome.StandsAfter, Script.ScriptStart, Script.events_of, Script.line_ends}
 
--- As the call was made, each whole line of the bytes that had come was done and answered, and
--- nothing else was: the keeper's book is the one after them, and the writer of this name holds
--- their answers.
+-- At the call, exactly the whole lines of the bytes that had come were done and answered. The
+-- keeper's book is the one after these lines, and the writer of this name holds their answers.
 pub record IsPromptAt (capacity : ℕ) (script : ScriptStart) (name : ℕ) (call : Call) : Type 0 where
   pub front : List ℕ
   pub came : Consumes (Some script.bytes) call.left front
@@ -18,12 +17,12 @@ abbrev pub left_length : Option (List ℕ) → ℕ
 left_length None = 0
 left_length (Some bytes) = length bytes
 
--- fewer are left than at the last of these calls, if there was one: so that call gave a byte
+-- fewer bytes are left than at the last of these calls, if there was one, so that call gave a byte
 abbrev pub HasFewer : Option (List ℕ) → List Call → Type 0
 HasFewer left [] = Unit {0}
 HasFewer left (last ∷ earlier) = left_length left < left_length last.left
 
--- so it was at every call, of which the last one stands first; and each but the last gave a byte
+-- every call found this state, and each call but the last gave a byte; the last call stands first
 abbrev pub IsPrompt : ℕ → ScriptStart → ℕ → List Call → Type 0
 IsPrompt capacity script name [] = Unit {0}
 IsPrompt capacity script name (call ∷ earlier) = IsPromptAt capacity script name call

@@ -1,4 +1,4 @@
--- What a script is answered.
+-- The answers to a script.
 use Rattle.std.specs.Prelude.{ℕ, zero, suc, ◌==◌, if◌then◌else◌, List, [], ◌∷◌, ◌++◌, length, map, Option}
 use Rattle.cred_book.specs.Accounts.{Accounts}
 use Rattle.cred_cli.specs.{declared.event.Event.Event, Events.event_of, History.answer_at, Texts.line_of}
@@ -30,11 +30,11 @@ answers_before capacity book events zero = []
 answers_before capacity book events (suc i) =
     answers_before capacity book events i ++ line_of (answer_at capacity book events i)
 
--- what is written for a script
+-- the output for a script
 abbrev pub out : ℕ → Accounts → List ℕ → List ℕ
 out capacity book bytes = answers_before capacity book (events_of bytes) (length (events_of bytes))
 
--- how many lines end in these bytes
+-- the number of line ends in these bytes
 abbrev pub line_ends : List ℕ → ℕ
 line_ends [] = 0
 line_ends (c ∷ cs) = if c == 10 then suc (line_ends cs) else line_ends cs

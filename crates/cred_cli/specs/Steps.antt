@@ -1,4 +1,4 @@
--- How one event is done on the book that stands, with the tickets that are open.
+-- One event on the present book, with the open tickets.
 use Rattle.std.specs.Prelude.{◌≡◌, ℕ, ◌-◌, if◌then◌else◌, true, Bool, Option, Some, None, List, nat_lt, slice_index_or, slice_set}
 use Rattle.cred_phc.specs.Values.{RecordValue}
 use Rattle.cred_book.specs.{Accounts.Accounts, Commits.commit_outcome, Works.Task, Works.name_of, declared.reply.Reply.Reply, declared.request.Request.Request}

@@ -1,4 +1,4 @@
--- What the open tickets have to do with the history.
+-- The relation of the open tickets to the history.
 use Rattle.std.specs.Prelude.{◌≡◌, ℕ, ◌≤◌, Option, Some, None, List, length}
 use Rattle.std.specs.FinMap as map
 use Rattle.cred_book.specs.{Accounts.Accounts, Works.Task, Works.name_of}

@@ -1,4 +1,4 @@
--- What is seen of a watched reader or writer.
+-- What proofs see of a watched reader or writer.
 use Rattle.std.specs.Prelude.{◌≡◌, ℕ, Bool, true, false, List, [], ◌++◌, Option, Some, None, Result, MatchResult, drop, length, map, take}
 use Rattle.std.specs.Io.KnownBytes.{Appends, Consumes}
 use Rattle.cred_cli.specs.{Calls.Call, declared.watched.Watched.Watched}
@@ -16,23 +16,23 @@ failed_of watched = watched.failed
 abbrev pub ended_of : {X : Type 0} → Watched X → Bool
 ended_of watched = watched.ended
 
--- the transcript: all the bytes that calls on it gave, whatever it is
+-- the transcript: all the bytes that calls on the reader gave, whatever the reader is
 abbrev pub given_of : {X : Type 0} → Watched X → List ℕ
 given_of watched = watched.past.given
 
--- all the bytes that calls on it took, whatever it is
+-- all the bytes that calls on the writer took, whatever the writer is
 abbrev pub taken_of : {X : Type 0} → Watched X → List ℕ
 taken_of watched = watched.past.taken
 
--- the calls on it that were logged, the last one first
+-- the logged calls on the reader, the last one first
 abbrev pub log_of : {X : Type 0} → Watched X → List Call
 log_of watched = watched.past.calls
 
--- the name under which a log tells of it; no clause says which that is
+-- the name of a reader or a writer in a log; no clause says which name that is
 abbrev pub name_of : {X : Type 0} → Watched X → ℕ
 name_of watched = watched.past.name
 
--- no call on it yet
+-- there was no call yet
 pub record IsNew {X : Type 0} (watched : Watched X) : Type 0 where
   pub calls : calls_of watched ≡ 0
   pub failed : failed_of watched ≡ false
@@ -41,8 +41,8 @@ pub record IsNew {X : Type 0} (watched : Watched X) : Type 0 where
   pub taken : taken_of watched ≡ []
   pub log : log_of watched ≡ []
 
--- each call on it is in its log, as it was new before; and its past is still its own, since no other
--- can be shown to have its name
+-- each call on the reader is in its log, as the reader was new before; its past is still its own,
+-- since a proof can show of no other that it has this name
 pub record IsLogged {X : Type 0} (old new : Watched X) : Type 0 where
   pub calls : length (log_of new) ≡ calls_of new
   pub named : name_of new ≡ name_of old
@@ -51,12 +51,12 @@ pub record IsLogged {X : Type 0} (old new : Watched X) : Type 0 where
 abbrev pub Passes : {E : Type 0} → List ℕ → List ℕ → Result ℕ E → List ℕ → Type 0
 Passes old new result buf = MatchResult result (λ n. new ≡ old ++ take n buf) (λ _. new ≡ old)
 
--- What it gave in between is what its contract says was taken off.
+-- The bytes that the reader gave in between are those that its contract says were taken off.
 abbrev pub GivesAsContracted : {R : Type 0} → (R → Option (List ℕ)) → Watched R → Watched R → Type 0
 GivesAsContracted remaining old new = (bytes : List ℕ) × (given_of new ≡ given_of old ++ bytes)
     × Consumes (remaining (inner_of old)) (remaining (inner_of new)) bytes
 
--- What it took in between is what its contract says that it holds more.
+-- The bytes that the writer took in between are those that its contract adds to what it holds.
 abbrev pub TakesAsContracted : {W : Type 0} → (W → Option (List ℕ)) → Watched W → Watched W → Type 0
 TakesAsContracted contents old new = (bytes : List ℕ) × (taken_of new ≡ taken_of old ++ bytes)
     × Appends (contents (inner_of old)) (contents (inner_of new)) bytes
@@ -69,8 +69,8 @@ pub record IsWritten {W : Type 0} (contents : W → Option (List ℕ)) (old new 
 
 -- ---- the basis on which the bytes are known
 
--- The contracts of the reader and the writer, where these name them; or the transcript of the calls,
--- whatever they are: of a reader that gives these bytes in all.
+-- The contracts of the reader and the writer, if these name the bytes; or the transcript of the
+-- calls on any reader, which gives these bytes in all.
 pub data Basis : Type 0 where
   Contract : Basis
   Transcript : List ℕ → Basis
@@ -85,7 +85,7 @@ abbrev pub held_on : Basis → {W : Type 0} → (W → Option (List ℕ)) → Wa
 held_on Contract contents writer = contents (inner_of writer)
 held_on (Transcript all) contents writer = Some (taken_of writer)
 
--- what stood as a reader was called
+-- the state at a call on a reader
 abbrev pub call_on : Basis → Call → Call
 call_on Contract call = call
 call_on (Transcript all) call =
@@ -95,11 +95,11 @@ abbrev pub log_on : Basis → List Call → List Call
 log_on Contract calls = calls
 log_on (Transcript all) calls = map (call_on (Transcript all)) calls
 
--- these bytes may be what a reader gives later: none if it was at its end
+-- a reader may give these bytes later: none if the reader was at its end
 abbrev pub MayFollow : List ℕ → {R : Type 0} → Watched R → Type 0
 MayFollow rest reader = ended_of reader ≡ true → rest ≡ []
 
--- what a reader gave is the front of what it gives in all
+-- the bytes that a reader gave are a front of those that it gives in all
 abbrev pub Fits : Basis → {R : Type 0} → Watched R → Type 0
 Fits Contract reader = Unit {0}
 Fits (Transcript all) reader =
@@ -107,8 +107,8 @@ Fits (Transcript all) reader =
 
 -- ---- a reader and a writer before and after a call
 
--- what a reader had, what it has left, whether a call on it failed by now, and the calls that were
--- logged
+-- the bytes that a reader had and has left, whether a call on the reader has failed, and the logged
+-- calls
 pub record Reading : Type 0 where
   pub input : Option (List ℕ)
   pub left : Option (List ℕ)
@@ -136,7 +136,7 @@ transcript_reading rest new = record {
   log = log_on (Transcript (given_of new ++ rest)) (log_of new);
 }
 
--- what a writer held, what it holds now, whether a call on it failed by now, and its name
+-- the bytes that a writer held and holds now, whether a call on the writer has failed, and its name
 pub record Writing : Type 0 where
   pub before : Option (List ℕ)
   pub now : Option (List ℕ)
@@ -155,6 +155,6 @@ writing_on basis contents old new = record {
 abbrev pub writing : {W : Type 0} → (W → Option (List ℕ)) → Watched W → Watched W → Writing
 writing contents old new = writing_on Contract contents old new
 
--- by its transcript
+-- by the writer's transcript
 abbrev pub transcript_writing : {W : Type 0} → Watched W → Watched W → Writing
 transcript_writing old new = writing_on (Transcript []) (λ _. None) old new

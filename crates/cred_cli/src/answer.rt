@@ -23,8 +23,8 @@ use std::io::Write;
 use std::sync::Wait;
 use std::thread::Threads;
 
-/// The bytes of an answer with its line end. Only a record's text is allocated; the others are
-/// fixed, so that no change and no refused line can lack memory for its answer.
+/// The bytes of an answer with its line end. Only a record's text needs an allocation. The other
+/// answers are fixed, so no change and no refused line can lack memory for its answer.
 #[derive(Drop)]
 pub enum AnswerLine {
     Fixed(&'static [u8]),
@@ -32,14 +32,14 @@ pub enum AnswerLine {
 }
 
 impl AnswerLine {
-    /// The answer to a refused line.
+    /// Returns the answer to a refused line.
     pub fn bad(why: Refusal) -> AnswerLine
         ensures { line_bytes result ≡ line_of (Refused why) }
     {
         AnswerLine::Fixed(why.line())
     }
 
-    /// The text of a record.
+    /// Returns the text of a record.
     pub fn shown(alloc: Global, stored: &Record) -> Result<AnswerLine, AllocError>
         ensures { IfOk result (λ line. line_bytes line ≡ line_of (Shown (Some stored.now))) }
     {
@@ -73,7 +73,8 @@ impl AnswerLine {
     }
 }
 
-/// Applies the event to the keeper's book and the open tickets. Without memory the book stays.
+/// Applies the event to the keeper's book and the open tickets. If memory runs out, the book stays
+/// as it was.
 pub(crate) fn do_event<T: Threads + Wait + Sync, K: Keeper>(
     tools: &Tools<'_, T>,
     keeper: &mut K,
@@ -144,8 +145,8 @@ fn commit<T: Threads + Wait + Sync, K: Keeper>(
     Ok(AnswerLine::Fixed(reply_line(&reply)))
 }
 
-/// The reply's word with the line end. The text is a constant, so that a change needs no memory for
-/// its answer.
+/// Returns the reply's word with the line end. The text is a constant, so that a change needs no
+/// memory for its answer.
 pub fn reply_line(reply: &Reply) -> &'static [u8]
     ensures { result.now ≡ reply_line reply.now }
 {
@@ -176,7 +177,7 @@ fn refused(refusal: BookError) -> Result<AnswerLine, AllocError>
     }
 }
 
-/// A record's text with its line end.
+/// Returns a record's text with its line end.
 pub(crate) fn record_line(alloc: Global, stored: &Record) -> Result<Vec<u8>, AllocError>
     ensures { IfOk result (λ line. line.items ≡ line_of (Shown (Some stored.now))) }
 {

@@ -8,7 +8,7 @@ ghost use Rattle.cred_cli.specs.Arguments.{credbook, needed_rule, one_app, passw
 use clap::{Arg, ArgMatches, Command, Error};
 use std::alloc::{AllocError, Global};
 
-const ABOUT: &str = "Answers scripts on a book of password records, hashes and checks";
+const ABOUT: &str = "Answers scripts on a book of password records, and hashes or checks passwords";
 
 const RUN_ABOUT: &str = "Answers a script from standard input, on an empty book";
 
@@ -24,7 +24,7 @@ static HASH: HelpTexts = HelpTexts {
 };
 
 static CHECK: HelpTexts = HelpTexts {
-    about: "Says whether a password is the record's: yes, or no with status 4",
+    about: "Prints yes if a password is the record's, or no with status 4",
     usage: "credbook check [OPTIONS] <RECORD> [PASSWORD]",
 };
 
@@ -44,12 +44,12 @@ A salt has to be fresh for each record: equal salts show which accounts have
 equal passwords.
 
 Exit statuses:
-  0  done, whatever lines of a script were refused; `check` said yes
+  0  done, even if lines of a script were refused, or `check` printed yes
   1  a word, a setting, a record or a password was refused, or help was asked
      for
   2  reading or writing failed, or the script has over 1048576 bytes
   3  out of memory
-  4  `check` said no
+  4  `check` printed no
 
 Commonest causes of a refusal:
   line      a blank line, a comment, a capital letter, or two spaces in a row
@@ -59,7 +59,7 @@ Commonest causes of a refusal:
   password  base64 with '=', or plain text
 docs/ERRORS.md has them all, by word.";
 
-/// The values of the words; `clap`'s error if they don't parse.
+/// Returns the values of the words, or `clap`'s error if the words don't parse.
 pub(crate) fn matches_of<'a>(alloc: Global, words: &'a [&'a str]) -> Result<ArgMatches<'a>, Error>
     ensures matches { IfOk result (λ m. subcommand_rows_of m
         ≡ subcommand_of credbook (map (λ s. s.now) words.entry.now)) }
@@ -68,14 +68,14 @@ pub(crate) fn matches_of<'a>(alloc: Global, words: &'a [&'a str]) -> Result<ArgM
     credbook(alloc)?.try_get_matches_from(words)
 }
 
-/// The text that was given for this argument.
+/// Returns the text of this argument.
 pub(crate) fn value<'a>(matches: &ArgMatches<'a>, id: &str) -> Option<&'a str>
     ensures { option_map (λ s. s.now) result ≡ first_of id.now (rows_of (found_of matches.now)) }
 {
     matches.get_str(id)
 }
 
-/// The number of workers, whose range `clap` has checked.
+/// Returns the number of workers, whose range `clap` has checked.
 pub(crate) fn workers_of(matches: &ArgMatches<'_>) -> u8 {
     matches.get_one("workers").unwrap_or(1)
 }
@@ -96,8 +96,8 @@ fn credbook<'a>(alloc: Global) -> Result<Command<'a>, AllocError>
     )
 }
 
-/// The command with a subcommand on one setting or record. The subcommand is made here, so that no
-/// second command lives while the caller may end early.
+/// Adds a subcommand on one setting or record to the command. This function builds the subcommand,
+/// so that no second command lives while the caller may end early.
 fn with_one<'a>(
     alloc: Global,
     command: Command<'a>,
@@ -137,7 +137,7 @@ fn run<'a>(alloc: Global) -> Result<Command<'a>, AllocError>
         .arg(workers(alloc))
 }
 
-/// A subcommand on one setting or record, and a password.
+/// Builds a subcommand on one setting or record, and a password.
 fn of_one<'a>(
     alloc: Global,
     word: &'a str,
@@ -158,7 +158,7 @@ fn of_one<'a>(
     with_arg(command, workers(alloc))
 }
 
-/// The command with an argument of its own.
+/// Adds an argument to the command.
 fn with_arg<'a>(command: Command<'a>, arg: Arg<'a>) -> Result<Command<'a>, AllocError>
     requires local { ((out-Command command).has_globals ≡ false) × (arg.global ≡ false) }
     ensures app { IfOk result (λ c. app_of c
@@ -194,7 +194,7 @@ fn workers<'a>(alloc: Global) -> Arg<'a>
     Arg::new(alloc, "workers")
         .long("workers")
         .value_name("N")
-        .help("How many threads may hash at once, from 1 to 64")
+        .help("The maximum number of threads, from 1 to 64")
         .value_parser(clap::value_parser!(u8).range(1..=64))
         .default_value("1")
 }

@@ -6,8 +6,8 @@ ghost use Rattle.cred_cli.specs.Costs.{exceeds, is_above, memory_alone, memory_o
 use cred_book::Request;
 use cred_phc::{Scheme, Setting};
 
-/// The memory of a hash of this setting in KiB, with as many threads as can share it: `m` for
-/// Argon2, and 128 `r` `p` 2^`ln` bytes for scrypt. A hash needs a little more.
+/// Returns the memory of a hash of this setting in KiB, with as many threads as can share it: `m`
+/// for Argon2, and 128 `r` `p` 2^`ln` bytes for scrypt. A hash needs a little more.
 pub fn memory_of(setting: &Setting) -> u64
     ensures { result ≡ memory_of setting.now.scheme }
 {
@@ -17,8 +17,8 @@ pub fn memory_of(setting: &Setting) -> u64
     }
 }
 
-/// The same memory with one thread, which has one of scrypt's tables at a time: 128 `r` 2^`ln`
-/// bytes.
+/// Returns the memory of such a hash with one thread, which has one of scrypt's tables at a time:
+/// 128 `r` 2^`ln` bytes.
 pub fn memory_alone(setting: &Setting) -> u64
     ensures { result ≡ memory_alone setting.now.scheme }
 {
@@ -28,7 +28,7 @@ pub fn memory_alone(setting: &Setting) -> u64
     }
 }
 
-/// The KiB of so many tables of scrypt's.
+/// Returns the KiB of so many of scrypt's tables.
 fn tables_kib(tables: u8, ln: u8, r: u8) -> u64
     requires cost { ln ≤ 24 }
     requires room { r * 2 ^ ln ≤ 2 ^ 24 }
@@ -38,8 +38,8 @@ fn tables_kib(tables: u8, ln: u8, r: u8) -> u64
     (u64::from(tables) * rows + 7) / 8
 }
 
-/// The work of a hash of this setting in KiB, each counted at every pass over it: `m` `t` of
-/// Argon2, and twice the memory of scrypt's tables, which are filled and then mixed.
+/// Returns the work of a hash of this setting in KiB, with each KiB counted at every pass over it:
+/// `m` `t` of Argon2, and twice the memory of scrypt's tables, which are filled and then mixed.
 pub fn work_of(setting: &Setting) -> u64
     ensures { result ≡ work_of setting.now.scheme }
 {
@@ -59,7 +59,7 @@ pub struct CostBounds {
 }
 
 impl CostBounds {
-    /// Any costs are allowed.
+    /// Allows any costs.
     pub fn none() -> CostBounds
         ensures { result ≡ no_bounds }
     {
@@ -70,7 +70,7 @@ impl CostBounds {
     }
 }
 
-/// Whether a hash of this setting needs more memory or more work than is allowed.
+/// Whether a hash of this setting needs more memory or more work than these bounds allow.
 pub fn exceeds(most: &CostBounds, setting: &Setting) -> bool
     ensures { result ≡ exceeds most.now setting.now.scheme }
 {
@@ -86,8 +86,8 @@ fn is_above(most: Option<u64>, cost: u64) -> bool
     }
 }
 
-/// Whether the record that the request would make has a setting that needs more than is
-/// allowed.
+/// Whether the record that the request would make has a setting that needs more than these bounds
+/// allow.
 pub fn request_exceeds(most: &CostBounds, request: &Request) -> bool
     ensures { result ≡ request_exceeds most.now request.now }
 {

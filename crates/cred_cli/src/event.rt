@@ -12,13 +12,13 @@ use arrayvec::ArrayVec;
 use cred_book::{Name, Request};
 use cred_phc::{Pieces, Record};
 
-/// The longest line in bytes, its end not counted.
+/// The length of the longest line in bytes, without its end.
 pub(crate) const LONGEST_LINE: usize = 1024;
 
-/// The maximum number of pieces that are read of a line: one more than a good line may have.
+/// The maximum number of pieces that are read from a line: one more than a good line may have.
 const MOST_PIECES: usize = 8;
 
-/// An operation with its fields, or why the line asks for none.
+/// An operation with its fields, or the reason why the line asks for none.
 #[derive(Clone, Copy)]
 pub(crate) enum Event {
     Account(Name),
@@ -30,7 +30,7 @@ pub(crate) enum Event {
 }
 
 impl Event {
-    /// The operation that the line asks for.
+    /// Returns the operation that the line asks for.
     #[tactic(auto, unfolding(crate::specs::Events::event_of))]
     pub(crate) fn of_line(line: &[u8]) -> Event
         ensures event { result ≡ event_of line.now }
@@ -111,8 +111,8 @@ fn begin_event(fields: &[&[u8]]) -> Result<Event, Refusal>
     }
 }
 
-/// The event that begins a request under this number. A line with another word or number of fields
-/// is refused before its number is read; otherwise the number is judged first.
+/// Returns the event that begins a request under this number. Refuses a line with another word or
+/// number of fields before its number, and otherwise judges the number first.
 fn begun(key: &[u8], request: Result<Request, Refusal>) -> Result<Event, Refusal>
     requires { IfOk request (λ request. is_for_current request ≡ true) }
     ensures event { result ≡ begun key.now request }

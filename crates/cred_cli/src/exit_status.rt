@@ -6,20 +6,20 @@ ghost use Rattle.cred_cli.specs.Statuses.{status_number};
 /// The end of the program.
 #[derive(Clone, Copy)]
 pub(crate) enum ExitStatus {
-    /// Everything was done; a checked record is the password's.
+    /// The program did everything, or the checked record is the password's.
     Done,
     /// The words, or a setting, a record or a password among them, were refused.
     Refused,
     /// A read or a write failed, or a script was too long.
     Failed,
-    /// Memory was refused.
+    /// Memory ran out.
     OutOfMemory,
-    /// A checked record isn't the password's.
+    /// The checked record isn't the password's.
     No,
 }
 
 impl ExitStatus {
-    /// The exit status: 0 to 4, in their order.
+    /// Returns the exit status: 0 to 4, in their order.
     pub(crate) fn number(self) -> u8
         ensures { result ≡ status_number self }
     {

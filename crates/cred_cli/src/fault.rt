@@ -15,7 +15,7 @@ pub enum ScriptFault {
     /// The writer failed, or took no byte.
     #[error("the writer failed, or took no byte")]
     Write,
-    /// No memory for the script.
+    /// Memory ran out.
     #[error("out of memory")]
     Memory,
     /// The script has over 1048576 bytes.
@@ -32,7 +32,7 @@ impl From<AllocError> for ScriptFault {
 }
 
 impl ScriptFault {
-    /// The number of the error, from 1 to 4.
+    /// Returns the number of the error, from 1 to 4.
     pub fn number(self) -> u8
         ensures { result ≡ error_number self }
     {
@@ -44,7 +44,7 @@ impl ScriptFault {
         }
     }
 
-    /// The name of the error in lower case, as `toolong`.
+    /// Returns the name of the error in lower case, as `toolong`.
     pub fn word(self) -> &'static str
         ensures { result.now ≡ error_word self }
     {

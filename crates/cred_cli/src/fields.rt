@@ -1,5 +1,5 @@
-//! The fields of a line. A function refuses more or fewer fields than it reads with `Line`, and
-//! otherwise with the fault of the first bad field from the left.
+//! The fields of a line. A function refuses more or fewer fields than it reads as `Line`. Otherwise
+//! it refuses them with the fault of the first bad field from the left.
 
 ghost use Rattle.std.specs.Prelude.{◌≡◌, ◌≤◌, IfOk, IfSome, map, true};
 ghost use Rattle.cred_phc.specs.Ranges.{is_current};
@@ -54,7 +54,7 @@ pub fn stored(text: &[u8]) -> Result<Record, Refusal>
     parse_record(text).map_err(|fault| Refusal::Text(fault))
 }
 
-/// A name alone.
+/// Reads a name alone.
 pub fn only_name(fields: &[&[u8]]) -> Result<Name, Refusal>
     ensures { result ≡ only_name (map (λ s. s.now) fields.now) }
 {
@@ -64,7 +64,7 @@ pub fn only_name(fields: &[&[u8]]) -> Result<Name, Refusal>
     }
 }
 
-/// A name and a record.
+/// Reads a name and a record.
 pub fn name_and_record(fields: &[&[u8]]) -> Result<(Name, Record), Refusal>
     ensures { result ≡ name_and_record (map (λ s. s.now) fields.now) }
 {
@@ -78,7 +78,7 @@ pub fn name_and_record(fields: &[&[u8]]) -> Result<(Name, Record), Refusal>
     }
 }
 
-/// A name and its password.
+/// Reads a name and its password.
 pub fn name_and_password(fields: &[&[u8]]) -> Result<(Name, Password), Refusal>
     ensures { result ≡ name_and_password (map (λ s. s.now) fields.now) }
 {
@@ -92,7 +92,7 @@ pub fn name_and_password(fields: &[&[u8]]) -> Result<(Name, Password), Refusal>
     }
 }
 
-/// A name, a password and a setting, or the drawn setting if the line gives none.
+/// Reads a name, a password and a setting, or takes the drawn setting if the line gives none.
 pub fn name_password_setting(
     drawn: Option<Setting>,
     fields: &[&[u8]],
@@ -111,8 +111,8 @@ pub fn name_password_setting(
     Ok((account, pw, setting))
 }
 
-/// The setting that a line gives after its other fields, or the drawn one. Too many fields refuse
-/// the line before any other is read.
+/// Returns the setting that a line gives after its other fields, or the drawn one. Refuses too many
+/// fields before it reads any.
 fn own_setting(own: &[&[u8]], drawn: Option<Setting>) -> Result<Result<Setting, Refusal>, Refusal>
     requires { IfSome drawn (λ s. is_current s.scheme ≡ true) }
     ensures read { result ≡ own_setting (map (λ s. s.now) own.now) drawn }
@@ -128,8 +128,8 @@ fn own_setting(own: &[&[u8]], drawn: Option<Setting>) -> Result<Result<Setting, 
     }
 }
 
-/// An operation on an account's record, from its word and the fields after it. Without a setting in
-/// the fields it has the drawn one.
+/// Reads an operation on an account's record from its word and the fields after it. Without a
+/// setting in the fields the operation has the drawn one.
 pub fn request(drawn: Option<Setting>, word: &[u8], fields: &[&[u8]]) -> Result<Request, Refusal>
     requires { IfSome drawn (λ s. is_current s.scheme ≡ true) }
     ensures request { result ≡ request_of drawn word.now (map (λ s. s.now) fields.now) }

@@ -28,7 +28,8 @@ impl Model for Key {
 }
 
 impl Key {
-    /// The number of a decimal text without a leading zero, if it is one of 1 to 64.
+    /// Returns the number of a decimal text without a leading zero, if the number is one of 1 to
+    /// 64.
     #[tactic(auto, unfolding(crate::specs::Events::key_of))]
     pub(crate) fn parse(text: &[u8]) -> Option<Key>
         ensures value { result ≡ key_of text.now }
@@ -43,7 +44,7 @@ impl Key {
         })
     }
 
-    /// The number's place in a table of 64.
+    /// Returns the number's place in a table of 64.
     pub(crate) fn index(self) -> usize
         ensures place { result ≡ self - 1 }
         ensures below { result < 64 }

@@ -1,4 +1,5 @@
-//! Laws of the definitions of a history and of a line, which show that they say what they should.
+//! Laws of the definitions of a history and of a line. They show that these definitions say what
+//! they should.
 
 ghost use Rattle.std.specs.List.{join_with_byte};
 ghost use Rattle.std.specs.Prelude.{◌≡◌, ◌+◌, ◌≤◌, ◌++◌, ℕ, List, Some, length, take};
@@ -27,17 +28,17 @@ pub fn history_is_a_front()
         → take j (deeds_before capacity book events i) ≡ deeds_before capacity book events j }
 {}
 
-/// The law that a line that asks for something is its event's word and fields with one space
-/// between, each field one that the value is read from.
+/// The law that a line that asks for something is the word and the fields of its event, with one
+/// space between. Each field is one that its value is read from.
 #[tactic(auto, using(crate::proofs::EventLines::event_line))]
 pub fn line_is_its_events()
     ensures { (line : List ℕ) → (words : List (List ℕ)) × (line ≡ join_with_byte 32 words)
         × IsLineOf (event_of line) words }
 {}
 
-/// The law that a prompt call on a reader found what was written before and then the answers to the
-/// whole lines of the bytes that had come, with the book after them, whatever these bytes are; and
-/// that there are no more prompt calls than bytes, and one.
+/// The law that a prompt call on a reader found the earlier output, then the answers to the whole
+/// lines of the bytes that had come, and the book after these lines, whatever these bytes are. It
+/// also bounds the number of prompt calls by the number of bytes plus one.
 pub fn prompt_calls_are_answered()
     ensures stands { (capacity : ℕ) (book accounts : Accounts) (front rest before now : List ℕ)
         (name : ℕ) (call : Call) → call.left ≡ Some rest → call.written ≡ Some now

@@ -1,8 +1,9 @@
-//! The library of the program `credbook`: the script engine, with lines that ask for operations on
-//! a book and an answer line for each, and the program's words.
+//! The library of the program `credbook`: the script engine and the program's words. Each line of a
+//! script asks for an operation on a book, and gets an answer line.
 //!
-//! [`run_script`] runs a script on any keeper of a book, and [`command`] is the program: a script
-//! on an empty book, or one record made or judged. The book itself is `cred_book`'s.
+//! [`run_script`] runs a script on any keeper of a book. [`command`] is the program: it runs a
+//! script on an empty book, or makes or checks one record. The crate `cred_book` has the book
+//! itself.
 #![tactic(auto)]
 
 mod answer;

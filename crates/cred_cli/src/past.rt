@@ -1,4 +1,4 @@
-//! The calls on a reader or a writer, as proofs read them. A past takes no memory, and does nothing
+//! The calls on a reader or a writer, as proofs see them. A past takes no memory, and does nothing
 //! at run time.
 
 ghost use Rattle.std.specs.{Prelude.◌≡◌, Prelude.ℕ, Prelude.List, Prelude.[], Borrow.ftrue, Coded.coded_list};
@@ -6,9 +6,9 @@ ghost use Rattle.cred_cli.specs.Calls.{Call, call_code};
 
 use std::marker::Model;
 
-/// The bytes that a reader gave and a writer took, in their order, the calls that were logged, the
-/// last one first, and a name for who holds it. No clause says which name that is, so that only the
-/// holder can be shown to have it.
+/// The bytes that a reader gave and a writer took, in their order; the logged calls, the last one
+/// first; and a name for the holder of the past. No clause says which name that is, so a proof can
+/// show of nobody but the holder that it has this name.
 #[derive(Drop)]
 pub struct Past {
     pub ghost given: { List ℕ },
@@ -28,19 +28,19 @@ pub(crate) trait Note {
     /// The past with the addition.
     ghost noted: { Self → Past → Past };
 
-    /// Nothing that the past had is lost.
+    /// The past loses nothing.
     ghost goes_on: { (n : Self) (past : Past) → GoesOn past (noted n past) };
 }
 
 impl Past {
-    /// The past of no call, under some name.
+    /// Builds the past of no call, under some name.
     pub(crate) fn new() -> Past
         ensures { (result.given ≡ []) × (result.taken ≡ []) × (result.calls ≡ []) }
     {
         Past {}
     }
 
-    /// The past with this note.
+    /// Returns the past with this note.
     pub(crate) fn and<N: Note>(&self, note: &N) -> Past
         ensures { result ≡ N.noted note.now self.now }
     {

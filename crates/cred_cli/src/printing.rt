@@ -27,7 +27,7 @@ pub(crate) fn print<W: Write, F: Write>(
     }
 }
 
-/// Names the fault on `faults`, and gives its status.
+/// Writes the fault to `faults`, and returns its status.
 pub(crate) fn failed<F: Write>(faults: &mut F, fault: ScriptFault) -> ExitStatus
     ensures { result ≡ status_of fault }
 {
@@ -38,7 +38,7 @@ pub(crate) fn failed<F: Write>(faults: &mut F, fault: ScriptFault) -> ExitStatus
     }
 }
 
-/// Says on `faults` why a value is refused.
+/// Writes to `faults` why a value is refused.
 pub(crate) fn refused<F: Write>(faults: &mut F, why: Refusal) -> ExitStatus
     ensures { result ≡ ExitStatus.Refused }
 {

@@ -1,5 +1,4 @@
-//! The program as a process: on the words of its command line, and with a status that the shell
-//! sees.
+//! The program as a process, with the words of its command line and a status for the shell.
 
 ghost use Rattle.std.specs.{Prelude.◌≡◌, Prelude.◌⊎◌, Prelude.MatchResult, Process.exit_status};
 ghost use Rattle.cred_cli.specs.Statuses.{status_number};
@@ -15,8 +14,8 @@ use std::thread::Threads;
 use std::{env, io};
 
 /// Runs [`command`] on the words of the process's command line, and returns its status to the
-/// shell: 1 for a word that isn't UTF-8, which is named on `faults`, and 3 if memory for the words
-/// runs out.
+/// shell. The status is 1 for a word that isn't UTF-8, which `faults` reports, and 3 if memory for
+/// the words runs out.
 pub fn run_program<R, I, O, F>(rt: &R, input: I, output: O, faults: &mut F) -> ExitCode
 where
     R: Env + AllocGlobal + Threads + Wait + Sync,
@@ -35,7 +34,7 @@ where
     exit_code(&ended)
 }
 
-/// The status of the command, if its words are UTF-8 and memory for them suffices.
+/// Returns the status of the command, if its words are UTF-8 and memory for them suffices.
 fn exit_code(ended: &io::Result<u8>) -> ExitCode
     ensures { MatchResult ended.now (λ status. exit_status result ≡ status)
         (λ _. (exit_status result ≡ status_number ExitStatus.Refused)

@@ -21,14 +21,15 @@ use std::io::{Read, Write};
 use std::sync::Wait;
 use std::thread::Threads;
 
-/// Runs the program on the words after its name, and returns its exit status. No call was made on
-/// the reader or the writer before.
+/// Runs the program on the words after its name, and returns its exit status. The caller has made
+/// no call on the reader or the writer.
 ///
-/// `run` runs a script on an empty book: 0 if it was answered whole, 2 after the faults `Read`,
-/// `Write` and `TooLong`. `hash` prints the record of a password: 0. `check` prints `yes`, 0, or
-/// `no`, 4. A bad setting, record or password, and words that don't parse, are 1; a failed write is
-/// 2; running out of memory is 3. Only `run` calls the reader. `faults` gets the cause of the end,
-/// as `credbook: read`, or `clap`'s text. A failure of `faults` changes nothing.
+/// `run` runs a script on an empty book, with status 0 if it answers the whole script, and 2 after
+/// the faults `Read`, `Write` and `TooLong`. `hash` prints the record of a password, with status 0.
+/// `check` prints `yes` with status 0, or `no` with status 4. A bad setting, record or password,
+/// and words that don't parse, have status 1, a failed write has 2, and lack of memory has 3. Only
+/// `run` calls the reader. `faults` gets the cause of the end, such as `credbook: read`, or
+/// `clap`'s text. A failure of `faults` changes nothing.
 pub fn command<T: Threads + Wait + Sync, R: Read, W: Write, F: Write>(
     rt: &T,
     alloc: Global,

@@ -1,4 +1,4 @@
-//! The progress of reading a script.
+//! The progress of a script's reading.
 
 ghost use Rattle.std.specs.Prelude.{◌≡◌, [], ◌∷◌, ◌++◌, ◌≤◌, take};
 ghost use Rattle.cred_cli.specs.{Events.most_kept, Outcome.longest_script};
@@ -6,11 +6,11 @@ ghost use Rattle.cred_cli.specs.{Events.most_kept, Outcome.longest_script};
 use crate::event::LONGEST_LINE;
 use std::marker::Model;
 
-/// The longest script in bytes.
+/// The size of the longest script in bytes.
 pub(crate) const LONGEST_SCRIPT: u64 = 1048576;
 
-/// The maximum number of bytes that are kept of a line: one more than a good line may have, since a
-/// longer one is refused whatever follows.
+/// The maximum number of bytes that are kept of a line: one more than a good line may have. A
+/// longer line is refused, whatever follows.
 const KEPT: usize = LONGEST_LINE + 1;
 
 /// The line that is being read, as far as it is kept.
@@ -70,7 +70,7 @@ pub(crate) struct Progress {
     pub(crate) start: LineStart,
     /// The number of answered lines.
     pub(crate) lines: u64,
-    /// The number of bytes that were taken.
+    /// The number of bytes that were read.
     pub(crate) taken: u64,
 
     ghost fewer_lines: { lines ≤ taken },

@@ -26,7 +26,7 @@ pub enum Refusal {
     Costly,
     /// The text of a setting or a record has this fault.
     Text(PhcError),
-    /// The book refuses.
+    /// The book refuses the operation.
     Book(BookError),
 }
 
@@ -63,7 +63,7 @@ impl Refusal {
         }
     }
 
-    /// The answer with its line end: a constant, so that a refused line takes no memory.
+    /// Returns the answer with its line end: a constant, so that a refused line takes no memory.
     pub fn line(self) -> &'static [u8]
         ensures { result.now ≡ line_of (Refused self) }
     {

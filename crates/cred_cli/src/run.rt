@@ -1,5 +1,4 @@
-//! A script that is being run: its bytes are read and taken in turn, and each whole line is
-//! answered.
+//! A running script: reads its bytes in turn, and answers each whole line.
 
 ghost use Rattle.std.specs.Prelude.{◌≡◌, ◌+◌, ◌≤◌, false, true, [], ◌∷◌, length, Some, IfErr, IfSome, OnOk};
 ghost use Rattle.cred_cli.specs.{Events.IsSound, Outcome.HasCause, Outcome.longest_script, declared.progress.Progress.Progress};
@@ -23,7 +22,7 @@ use std::thread::Threads;
 /// The size of one read in bytes.
 const CHUNK: usize = 4096;
 
-/// Answers the lines that the reader gives, to its end.
+/// Answers the lines that the reader gives, to the reader's end.
 pub(crate) fn answer_all<T: Threads + Wait + Sync, K: Keeper, R: Read, W: Write>(
     tools: &Tools<'_, T>,
     keeper: &mut K,
@@ -81,7 +80,7 @@ pub(crate) struct Run {
 }
 
 impl Run {
-    /// Reads one more byte. At a line end it answers the line.
+    /// Reads one more byte. At a line end, answers the line.
     pub(crate) fn take_byte<T: Threads + Wait + Sync, K: Keeper, W: Write>(
         &mut self,
         tools: &Tools<'_, T>,
@@ -134,7 +133,7 @@ impl Run {
         Ok(())
     }
 
-    /// Answers a last line that has no end, when no further byte comes, and counts the lines.
+    /// Answers a last line without an end when no further byte comes, and counts the lines.
     pub(crate) fn finish<T: Threads + Wait + Sync, K: Keeper, W: Write>(
         &mut self,
         tools: &Tools<'_, T>,

@@ -1,4 +1,4 @@
-//! A whole script: read to its end, each line done and answered in turn.
+//! A whole script, whose lines are done and answered in turn.
 
 ghost use Rattle.cred_cli.specs.{Scripts.RunsScript, Scripts.run_state, Watched.IsNew};
 
@@ -19,17 +19,17 @@ pub struct End {
     pub lines: u64,
 }
 
-/// Reads a script of at most 1048576 bytes to its end, does what each line asks of the keeper's
-/// book, and writes an answer line for each, whole, before the reader is called again. Each call of
-/// the reader but the last gives a byte, so it isn't called after its end. At most `workers`
-/// threads hash. No call was made on the reader or the writer before. The writer is one that holds
-/// nothing back, as it is never flushed.
+/// Reads a script of at most 1048576 bytes to its end, and does each line's operation on the
+/// keeper's book. Writes a whole answer line for each line before the next call on the reader. Each
+/// call on the reader but the last gives a byte, so no call follows the reader's end. At most
+/// `workers` threads hash. The caller has made no call on the reader or the writer. No call flushes
+/// the writer, so the writer must hold nothing back.
 ///
-/// The contract's one word, `RunsScript`, has a name for each of its parts. Whatever the reader and
-/// the writer are, a pipe or a terminal: where the script ends well, the bytes that the writer took
-/// are the answers to the lines of the bytes that the reader gave (`answers`), and the reader was at
-/// its end (`end`). After a fault, and at each call of the reader, `transcript` says which lines are
-/// answered. Of a reader or a writer whose own contract names its bytes, they are the same bytes
+/// The contract's one word, `RunsScript`, has a name for each of its parts. The reader and the
+/// writer may be a pipe or a terminal. If the script ends well, the bytes that the writer accepted
+/// are the answers to the lines of the bytes that the reader gave (`answers`), and the reader was
+/// at its end (`end`). After a fault, and at each call of the reader, `transcript` says which lines
+/// have answers. If the contract of a reader or a writer names its bytes, these are the same bytes
 /// (`gives`, `takes`).
 ///
 /// Errors: `Read` or `Write` if such a call failed; `Memory` if memory ran out; `TooLong` if the

@@ -46,7 +46,7 @@ pub(crate) fn hash<T: Threads + Sync, W: Write, F: Write>(
     }
 }
 
-/// Prints whether the record is one of the password.
+/// Prints whether the record is the password's.
 pub(crate) fn check<T: Threads + Sync, W: Write, F: Write>(
     tools: &Tools<'_, T>,
     values: &ArgMatches<'_>,

@@ -7,7 +7,7 @@ use cred_book::Ticket;
 use std::alloc::{AllocError, Global};
 use std::marker::Model;
 
-/// A place for each of 64 numbers.
+/// A place for each of the 64 numbers.
 #[derive(Drop)]
 pub(crate) struct Tickets {
     slots: Vec<Option<Ticket>>,

@@ -15,7 +15,7 @@ pub struct Tools<'a, T> {
 }
 
 impl<'a, T> Tools<'a, T> {
-    /// Hashing with these tools, without a gate.
+    /// Returns these tools for hashing, without a gate.
     pub fn hashing(&self) -> Hashing<'a, T, NoGate>
         ensures { result.workers ≡ self.now.workers }
     {

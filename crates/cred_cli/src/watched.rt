@@ -1,5 +1,5 @@
-//! A reader or a writer that counts the calls on it, and remembers whether one failed. Proofs
-//! also see all the bytes that passed.
+//! A reader or a writer that counts its calls, and remembers whether one failed. Proofs also see
+//! all bytes that passed.
 
 ghost use Rattle.std.specs.Prelude.{◌≡◌, ◌+◌, ◌-◌, ◌^◌, ◌<◌, ◌∷◌, min, true, length, IfOk, OnOk, OnErr};
 ghost use Rattle.std.specs.{Io.ReadsAtMost, Io.WritesAtMost, Io.KnownBytes.Keeps, Io.KnownBytes.ReadConsumes, Io.KnownBytes.WriteAppends};
@@ -84,7 +84,7 @@ impl<K: Keeper, R: Read, W: Write> Note for Called<'_, K, R, W> {
 }
 
 impl<X> Watched<X> {
-    /// Watches `inner`, on which no call was made yet.
+    /// Watches `inner`, which has had no call yet.
     pub fn new(inner: X) -> Watched<X>
         ensures new { IsNew result }
         ensures inner { inner_of result ≡ inner }
@@ -98,14 +98,14 @@ impl<X> Watched<X> {
         }
     }
 
-    /// The number of calls, which stays at `u64::MAX`.
+    /// Returns the number of calls, which stays at `u64::MAX`.
     pub fn calls(&self) -> u64
         ensures { result ≡ calls_of self.now }
     {
         self.calls
     }
 
-    /// Whether a call failed or, in writing, took none of one or more bytes.
+    /// Whether a call failed, or a write accepted none of one or more bytes.
     pub fn failed(&self) -> bool
         ensures { result ≡ failed_of self.now }
     {
@@ -119,7 +119,7 @@ impl<X> Watched<X> {
         self.ended
     }
 
-    /// The reader or writer itself.
+    /// Returns the reader or writer itself.
     pub fn into_inner(self) -> X
         ensures { result ≡ inner_of self }
     {

@@ -1,4 +1,4 @@
-//! Writing a text whole.
+//! Writes whole texts.
 
 ghost use Rattle.std.specs.{Prelude.◌≡◌, Prelude.◌++◌, Prelude.IfErr, Prelude.OnOk, Io.KnownBytes.Appends};
 ghost use Rattle.cred_cli.specs.{Steps.WriteFails, Watched.TakesAsContracted, Watched.failed_of, Watched.inner_of, Watched.name_of, Watched.taken_of};
@@ -9,8 +9,8 @@ use std::io::Write;
 
 /// Writes all the bytes, in as many calls as the writer needs.
 ///
-/// Errors: `Write` if a call fails, an interrupted one included, or takes no byte; a proper prefix
-/// of the bytes is written then.
+/// Errors: `Write` if a call fails, is interrupted or accepts no byte. A proper prefix of the bytes
+/// is written then.
 pub fn write_whole<W: Write>(writer: &mut Watched<W>, bytes: &[u8]) -> Result<(), ScriptFault>
     ensures done { OnOk result
         (Appends (W.contents (inner_of writer.old)) (W.contents (inner_of writer.new)) bytes.now) }

@@ -1,5 +1,5 @@
--- The text of marks and a record is read back as these, and what stands at a name in a book with
--- its marks.
+-- The text of marks and a record, which is read back as these, and the cell of a name in a book
+-- with its marks.
 use Rattle.std.proofs.Common.{◌≡◌, ℕ, List, [], ◌∷◌, ◌++◌, map, length, Bool, true, false, cond, ◌||◌, ◌&&◌, T, Option, Some, None, is_some, unwrap_or, Ok, inl, inr, refl, sym, ap, subst, ◌∙◌}
 use Rattle.std.proofs.lemmas.{List.length-map}
 use Rattle.std.specs.{Option.option_map, Ordering.eq_by_cmp, Ordering.is_eq, Cmp.Lexicographic.nat_list_cmp_total}
@@ -61,7 +61,7 @@ bare_first v s is = elim s as (λ s. s ≡ v.setting.scheme → (text : List ℕ
 begun : (text rest : List ℕ) → text ≡ 36 ∷ rest → read_cell text ≡ with_mark unmarked (read_record text)
 begun text rest is = subst (λ t. read_cell t ≡ with_mark unmarked (read_record t)) (sym is) refl
 
--- what is read as a record has no mark
+-- a text that is read as a record has no mark
 pub old_read : (text : List ℕ) (v : RecordValue) → IsRecordText text v → read_record text ≡ Ok v → read_cell text ≡ Ok (cell (Some v) unmarked)
 old_read text v of e = elim of [
   | inl is ↦ let first = dollar_first v v.setting.scheme refl in begun text first.0 (is ∙ first.1) ∙ ap (with_mark unmarked) e
@@ -155,7 +155,7 @@ module _ (book : Accounts) (marks : List ℕ → Mark) (name : List ℕ) (m : Ma
       by_tie true mark o = refl
       by_tie false mark o = refl
 
-  -- a name is taken out
+  -- a name is removed
   pub cells_less : cells_of (fin.remove book name) (marked marks name m) ≡ fin.remove (cells_of book marks) name
   cells_less = same_rows _ _ (λ q.
       get_cells (marked marks name m) (fin.remove book name) q
@@ -177,7 +177,7 @@ module _ (book : Accounts) (marks : List ℕ → Mark) (name : List ℕ) (m : Ma
       ap (λ b. cells_of b (marked marks name m)) (sym (row_again book name None (no_some _ absent))) ∙ cells_less
       ∙ row_again (cells_of book marks) name None (no_some _ (has_cell marks book name ∙ absent))
 
--- a row that was put is taken out again
+-- a row that was put is removed again
 pub removed_again : {V : Type 0} (rows : fin.FinMap name_cmp V) (name : List ℕ) (now : V) → fin.contains_key rows name ≡ false → fin.remove (fin.insert rows name now) name ≡ rows
 removed_again rows name now absent = row_over rows name (Some now) None ∙ row_again rows name None (no_some _ absent)
 

@@ -1,4 +1,4 @@
--- What the statements that change an account do to the table, at Ok and over a crash.
+-- The effect of the statements that change an account on the table, at Ok and over a crash.
 use Rattle.std.proofs.Common.{◌≡◌, ◌⊎◌, inl, inr, ℕ, ℤ, List, [], ◌∷◌, ◌++◌, map, filter, flat_map, Bool, true, false, cond, ◌&&◌, Some, None, Option, is_some, unwrap_or, IsTrue, Ok, Err, Result, refl, sym, ap, subst, ◌∙◌}
 use Rattle.std.proofs.lemmas.Bool.{and_parts, cond_both, not-true}
 use Rattle.std.specs.{List.list_all, List.Sorted.IsPermutation, Ordering.is_eq, Ordering.eq_by_cmp, Cmp.eq_by_cmp_equiv}
@@ -95,7 +95,7 @@ module _ (beside : List Table) (quiet : AreQuiet beside) (limit : Option ℕ) (m
   abbrev trees : Trees
   trees = db.trees
 
-  -- what stands at the name is taken out, and this is put at that name or another
+  -- the row of the name is removed, and this row is put at that name or another
   rewrites : fin.contains_key book name ≡ true → (more : Row) (one two : Term) (other : List ℕ) (v : Cell) → fin.contains_key (fin.remove book name) other ≡ false
       → ((r : Row) (l : Line) → Says r l → l.name ≡ name → fin.get book name ≡ Some l.stored
       → (value : Value) × Tells value v × IsTrue (is_name other) × (◌≡◌ {A = Row} (eval one ((Text name ∷ more) ∷ r ∷ []) ∷ eval two ((Text name ∷ more) ∷ r ∷ []) ∷ []) (Text other ∷ value ∷ [])))

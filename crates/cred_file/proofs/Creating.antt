@@ -1,4 +1,4 @@
--- What CREATE TABLE does to an empty database.
+-- The effect of CREATE TABLE on an empty database.
 use Rattle.std.proofs.Common.{◌≡◌, ◌⊎◌, inl, inr, ℕ, [], false, if◌then◌else◌, Option, None, Ok, refl, sym, ap, subst, ◌∙◌}
 use Rattle.std.specs.FinMap as fin
 use Rattle.sqlite.specs.{Command.TheVariants.CreateTable, Change.created, Change.next_tree, Does.Tally, Does.Does, Does.lacks_sequence, Effect.Database}
@@ -13,7 +13,7 @@ use Rattle.cred_file.proofs.{Changes.same_value, Changes.went, Keeping.IsSettled
 made_book : IsBookSchema (book_schema [])
 made_book = record { tables = inl refl; indexes = refl; views = refl }
 
--- it makes the table, with no row
+-- the statement creates the table, without a row
 does_create : (limit : Option ℕ) (mode : Mode) (db after : Database) (tally : Tally) → db.schema ≡ no_schema
     → Does limit mode [] db create_text None CreateTable (Ok (tally, after)) → (after.schema ≡ book_schema []) × StandsFor (after.trees 0) fin.empty
 does_create limit mode db after tally has does =

@@ -1,4 +1,4 @@
--- The accounts of two books, as those of one are added to the other and taken out again.
+-- The accounts of two books, when those of one are added to the other and removed again.
 use Rattle.std.proofs.Common.{◌≡◌, ◌⊎◌, inl, inr, ◌+◌, ◌≤◌, ℕ, List, [], ◌∷◌, ◌++◌, length, Bool, true, false, cond, T, Option, Some, None, is_some, refl, sym, ap, subst, ◌∙◌, arith}
 use Rattle.std.proofs.lemmas.Bool.{cond_both}
 use lib.Ieee.Fits.{and_l, and_r}

@@ -1,4 +1,4 @@
--- What the statements do to a connection that keeps a book.
+-- The effect of the statements on a connection that keeps a book.
 use Rattle.std.proofs.Common.{is_some, arith, ◌≤◌, ◌≡◌, ◌⊎◌, inl, inr, ℕ, List, [], ◌∷◌, append-nil, true, false, if◌then◌else◌, cond, ◌+◌, Some, None, Option, Ok, Err, Result, IsTrue, refl, sym, ap, subst, subst₂, ◌∙◌}
 use Rattle.std.specs.FinMap as fin
 use Rattle.std.specs.{FinMap.len-insert, Cmp.Lexicographic.nat_list_cmp_total}

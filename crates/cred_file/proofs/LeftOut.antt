@@ -1,4 +1,4 @@
--- What a row that is left out says of all rows.
+-- The consequences of a row that is left out for all rows.
 use Rattle.std.proofs.Common.{◌≡◌, inl, inr, ℤ, List, [], ◌∷◌, ◌++◌, append_assoc, length, filter, get_or, Bool, true, false, cond, not, Some, None, Option, ◌||◌, ◌&&◌, refl, sym, ap, subst, subst₂, ◌∙◌, ◌≤◌, ◌+◌, arith, length-append}
 use Rattle.std.proofs.{lemmas.Bool.and_from, lemmas.Bool.or_left, lemmas.Bool.or_parts, lemmas.Bool.or_right, lemmas.List.get_or_at}
 use Rattle.std.proofs.{lemmas.List.Elements.filter-append, lemmas.List.Folds.list_any-append}

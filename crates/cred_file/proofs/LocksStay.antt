@@ -1,4 +1,4 @@
--- A lock stays whatever records are put.
+-- A lock stays whatever records the account gets.
 use Rattle.std.proofs.Common.{◌≡◌, ℕ, List, Bool, true, false, cond, ◌||◌, Option, Some, None, is_some, unwrap_or, refl, sym, ap, ◌∙◌}
 use Rattle.std.specs.{Option.option_map, Option.option_or, Ordering.eq_by_cmp, Cmp.Equal-is, Cmp.Lexicographic.nat_list_cmp_total}
 use Rattle.std.specs.FinMap as fin

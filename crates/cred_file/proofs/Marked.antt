@@ -1,4 +1,4 @@
--- What the entries of a tree of marks say of a name, and what a write among them does.
+-- The mark of a name by the entries of a tree of marks, and the effect of a write to the tree.
 use Rattle.std.proofs.lemmas.Bool.{cond_both}
 use Rattle.std.proofs.Common.{◌≡◌, ◌⊎◌, inl, inr, ℕ, List, [], ◌∷◌, Bool, true, false, cond, ◌||◌, T, Option, Some, None, is_some, unwrap_or, refl, sym, ap, subst, ◌∙◌}
 use Rattle.std.specs.{Ordering.eq_by_cmp}
@@ -27,7 +27,7 @@ module _ (es : List (List ℕ × Mark)) (sorted : T (fin.is_sorted name_cmp es))
   pub has : (q : List ℕ) → is_some (lookup (is_at (name_cmp q)) es) ≡ fin.contains_key marks q
   has q = sym (ap is_some (found q))
 
-  -- a mark put among these, or taken away
+  -- a mark added to these entries, or removed
   pub written : (later : List (List ℕ × Mark)) → T (fin.is_sorted name_cmp later) → (key : List ℕ) (row : Option Mark)
       → ((q : List ℕ) → lookup (is_at (name_cmp q)) later ≡ cond (is_at (name_cmp key) q) row (lookup (is_at (name_cmp q)) es))
       → mark_at (fin.from_sorted later) ≡ marked (mark_at marks) key (unwrap_or row unmarked)
@@ -103,7 +103,7 @@ one_held marks after given rest left k m was is held keeps q has = elim (was q h
 pub all_held : (marks given : Marks) (rest : List (List ℕ × Mark)) → AreHeld marks given rest → rest ≡ [] → HasRoom marks given
 all_held marks given rest was none q has = elim (was q has) [ inl in_rest ↦ absurd (let e = ap (λ es. is_some (fin.find name_cmp q es)) (sym none) ∙ in_rest in cc) | inr there ↦ there ]
 
--- a mark that is given has room, with the one that was there too
+-- a given mark has room, beside the one that was there
 by_key : (b : Bool) → (b ≡ false → ⊥) → b ≡ true
 by_key true never = refl
 by_key false never = absurd (never refl)

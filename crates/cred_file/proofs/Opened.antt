@@ -1,4 +1,4 @@
--- The book that is opened from files is that of the database which they hold.
+-- The book that is opened from files is the book of the files' database.
 use Rattle.std.proofs.Common.{◌≡◌, ap, subst, ◌∙◌}
 use Rattle.cred_file.specs.Cells.{Cells}
 use Rattle.cred_file.specs.{Keeps.HoldsBook, Opening.IsFound, Table.StandsFor}

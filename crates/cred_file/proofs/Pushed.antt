@@ -1,4 +1,4 @@
--- A row more of a draft.
+-- One more row of a draft.
 use Rattle.std.proofs.Common.{◌≡◌, ℤ, List, [], ◌∷◌, ◌++◌, true, false, Some, None, Option, refl, sym, ap, subst, ◌∙◌}
 use Rattle.std.proofs.lemmas.{Bool.or_from, List.Folds.list_any-append, List.Sorted.IsPermutation-sym, List.Sorted.IsPermutation-to_front}
 use Rattle.std.specs.{List.list_any, Ordering.is_eq, Ordering.is_lt, Ordering.int_cmp, Cmp.int_cmp_total, declared.cmp.Ordering.Ordering}

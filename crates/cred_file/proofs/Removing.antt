@@ -1,4 +1,4 @@
--- What is left of a book where a name is taken out of it or renamed.
+-- The rest of a book after the removal or the renaming of a name.
 use Rattle.std.proofs.Common.{◌≡◌, ◌≤◌, ◌+◌, ◌-◌, ℕ, List, Bool, true, false, cond, Option, Some, None, is_some, unwrap_or, refl, sym, ap, subst, ◌∙◌, arith}
 use Rattle.std.specs.Ordering.{eq_by_cmp}
 use Rattle.std.specs.Cmp.{Equal-is, eq_by_cmp_equiv}
@@ -55,7 +55,7 @@ module _ {V : Type 0} (book : fin.FinMap name_cmp V) where
       swapped q true false e f = refl
       swapped q true true e f = absurd (let both = sym is ∙ sym (tied_row name q e) ∙ tied_row other q f ∙ no_some _ absent in cc)
 
--- the record is put at the other name, and then the name is taken out
+-- the record is put at the other name, and then the name is removed
 pub renamed_is : (book : Accounts) (name other : List ℕ) (stored : Option RecordValue) → fin.get book name ≡ Some stored → fin.contains_key book other ≡ false → fin.remove (fin.insert book other stored) name ≡ renamed book name other
 renamed_is book = moved_is book None
 

@@ -1,4 +1,4 @@
--- What the query of all rows answers, and that it changes nothing.
+-- The answer of the query of all rows, which changes nothing.
 use Rattle.std.proofs.Common.{◌≡◌, ◌+◌, ◌<◌, inl, inr, arith, List, [], ◌∷◌, map, length, get_or, IsTrue, false, refl, sym, ap, subst, subst₂, ◌∙◌}
 use Rattle.std.proofs.lemmas.{List.Concat.flat_map_single, List.length-map, List.get_or-map, List.Elements.All-map, List.Sorted.All-permutation, List.Sorted.IsPermutation-map, List.Sorted.IsPermutation-sym}
 use Rattle.std.specs.{List.All, List.Sorted.IsPermutation, List.Sorted.IsSorted, Ordering.is_lt}

@@ -1,4 +1,5 @@
--- The order of the rows plays no part: so a row more or less can stand in front of the others.
+-- The order of the rows doesn't matter, so an added or a removed row can stand in front of the
+-- others.
 use Rattle.std.proofs.Common.{◌≡◌, ℕ, ℤ, List, [], ◌∷◌, map, length, filter, Bool, true, false, cond, not, ◌||◌, ◌&&◌, Some, refl, sym, ap, subst, ◌∙◌, arith, inl, inr}
 use Rattle.std.proofs.{lemmas.Bool.or_parts, lemmas.Bool.or_from, lemmas.Bool.true≢false, lemmas.List.length-map}
 use Rattle.std.proofs.lemmas.List.Sorted.{length_permutation, list_any-IsPermutation}

@@ -1,4 +1,4 @@
--- What rows that are read one at a time say of the table.
+-- The facts about the table from rows that are read one at a time.
 use Rattle.std.proofs.Common.{◌≡◌, List, [], ◌∷◌, ◌++◌, append_assoc, Ok, None, Option, inl, inr, ◌≤◌, refl, sym, ap, subst, ◌∙◌}
 use Rattle.std.specs.{List.Sorted.IsPermutation, Prelude.ℤ, Prelude.map}
 use Rattle.sqlite.specs.{Order.Row, Held.Held, Held.state, Store.Ghosts, Given.HasGiven, Listing.understood, Listing.IsSourceOf, Listing.reads_listing}

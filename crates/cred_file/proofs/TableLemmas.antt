@@ -1,4 +1,4 @@
--- What the lines of a table say of its rows and of the book.
+-- The facts about a table's rows and its book from the table's lines.
 use Rattle.std.proofs.Common.{◌≡◌, ℕ, ℤ, List, [], ◌∷◌, map, Bool, true, ◌||◌, is_some, refl, sym, ap, ◌∙◌}
 use Rattle.std.specs.{List.AllZip, List.list_any, Ordering.is_eq, Ordering.eq_by_cmp, Cmp.Equal-is, Cmp.eq_by_cmp_equiv, Cmp.Lexicographic.nat_list_cmp_total}
 use Rattle.std.specs.FinMap as fin

@@ -1,4 +1,4 @@
--- What the texts mean.
+-- The meaning of the texts.
 use Rattle.std.proofs.Common.{◌≡◌, ℕ, inl, inr, pos, negsuc, List, [], ◌∷◌, codes, false, None, Ok, refl, sym, subst}
 use Rattle.sqlite.specs.Term.{Term, lit, col, op2}
 use Rattle.sqlite.specs.Command.TheVariants.{Insert, Select, CreateTable, Update, Delete}

@@ -1,4 +1,4 @@
--- What happens to the table within a transaction, and as it is committed.
+-- The table within a transaction, and at its commit.
 use Rattle.std.proofs.Common.{◌≡◌, ◌⊎◌, inl, inr, ℕ, List, true, false, OnErr, Ok, Err, Result, refl, sym, ap, subst, ◌∙◌}
 use Rattle.sqlite.specs.{Order.Row, Tree.Trees, Effect.Database, Listing.understood}
 use Rattle.sqlite_schema.specs.declared.command.Command.{Command}

@@ -1,5 +1,4 @@
--- What the table holds of an account: its record, if there is one, and its marks; and the text in
--- which both stand.
+-- What the table holds of an account: its record, if any, and its marks; and the text of both.
 use Rattle.std.specs.Prelude.{ℕ, ◌==◌, ◌||◌, ◌&&◌, not, Bool, false, cond, if◌then◌else◌, List, [], ◌∷◌, ◌++◌, map, Option, Some, None, is_some, unwrap_or, Result, Ok, Err}
 use Rattle.std.specs.FinMap as fin
 use Rattle.std.specs.Ordering.{eq_by_cmp}
@@ -27,11 +26,11 @@ blank = cell None unmarked
 abbrev pub is_blank : Cell → Bool
 is_blank c = not (is_some c.stored) && not (is_marked c.mark)
 
--- a new record ends that the old one must change; a lock stays
+-- a new record ends the mark that the old one must change, but a lock stays
 abbrev pub renewed : Mark → Mark
 renewed m = record { locked = m.locked; must_change = false }
 
--- the same of a new record that comes with marks of its own
+-- the mark after a new record that comes with marks of its own
 abbrev pub renewed_with : Mark → Mark → Mark
 renewed_with given m =
     record { locked = given.locked || m.locked; must_change = given.must_change }
@@ -83,7 +82,7 @@ AllMarks = List ℕ → Mark
 unfoldable pub cells_of : Accounts → AllMarks → Cells
 cells_of book marks = fin.from_sorted (map (λ e. (e.0, cell e.1 (marks e.0))) (fin.entries book))
 
--- what stands at a name; where it isn't there, nothing
+-- the cell of a name; a blank cell if the book lacks the name
 abbrev pub cell_in : Cells → List ℕ → Cell
 cell_in cells name = unwrap_or (fin.get cells name) blank
 
@@ -93,11 +92,11 @@ mark_in cells name = (cell_in cells name).mark
 abbrev pub stored_in : Cells → List ℕ → Option RecordValue
 stored_in cells name = (cell_in cells name).stored
 
--- what stands at a name once it gets this record, or none
+-- the cell of a name after it gets this record, or none
 abbrev pub renewal : Cells → List ℕ → Option RecordValue → Cell
 renewal cells name stored = cell stored (renewed (mark_in cells name))
 
--- what stands there once it gets this mark
+-- the cell of a name after it gets this mark
 abbrev pub marking : Cells → List ℕ → Mark → Cell
 marking cells name m = cell (stored_in cells name) m
 
@@ -108,6 +107,6 @@ Marks = fin.FinMap name_cmp Mark
 abbrev pub mark_at : Marks → AllMarks
 mark_at marks name = unwrap_or (fin.get marks name) unmarked
 
--- this one is the name's, and others stay
+-- this mark is the name's, and other marks stay
 abbrev pub marked : AllMarks → List ℕ → Mark → AllMarks
 marked marks name m q = cond (eq_by_cmp name_cmp q name) m (marks q)

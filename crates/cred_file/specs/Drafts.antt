@@ -21,7 +21,7 @@ EndsAt rows None = rows ≡ []
 EndsAt rows (Some id) =
     (front : List Row) × (row : Row) × (rows ≡ front ++ row ∷ []) × (column row 0 ≡ Int id)
 
--- the rows so far stand for the book, and the last of them has this id, above which is none
+-- the rows so far stand for the book, and the last row has this id, which is the highest
 pub record IsDraftOf (rows : List Row) (book : Cells) (last : Option ℤ) : Type 0 where
   pub stands : StandsFor rows book
   pub below : (id : ℤ) → is_past last id ≡ true → list_any (has_rowid id) rows ≡ false
@@ -37,7 +37,7 @@ pub record IsAdded (row : Row) (book : Cells) (last : Option ℤ) (after : Cells
   pub book_is : after ≡ fin.insert book line.name line.stored
   pub next_is : next ≡ Some line.id
 
--- why a row is not added: it says no line, or there is no place for what it says
+-- why a row is not added: the row says no line, or there is no place for the line
 abbrev pub IsNotAdded : Row → Cells → Option ℤ → OpenFault → Type 0
 IsNotAdded row book last (fault.NoName id) =
     (column row 0 ≡ Int id) × (is_no_name (column row 1) ≡ true)

@@ -1,4 +1,4 @@
--- What a change makes of a book, and what the calls answer that make one.
+-- The effect of a change on a book, and the answers of the calls that make a change.
 use Rattle.std.specs.Prelude.{◌≡◌, ℕ, ◌+◌, ◌≤◌, ◌<◌, ◌||◌, Bool, List, ◌++◌, ⊤, nat_lt, Option, None, unwrap_or, Result, Ok, Err, true, false}
 use Rattle.std.specs.FinMap as fin
 use Rattle.cred_phc.specs.Values.{RecordValue}
@@ -18,7 +18,7 @@ renamed book name other =
 abbrev pub joined : Accounts → Accounts → Accounts
 joined book more = fin.from_entries (fin.entries more ++ fin.entries book)
 
--- accounts are added, and others have the records of these
+-- the first accounts with the second ones added, and with the records of the third ones
 abbrev pub taken_in : Accounts → Accounts → Accounts → Accounts
 taken_in book added changed = joined (joined book added) changed
 
@@ -32,11 +32,11 @@ moved cells name other =
 abbrev pub joined_cells : Cells → Cells → Cells
 joined_cells cells more = fin.from_entries (fin.entries more ++ fin.entries cells)
 
--- added accounts have the marks that are given
+-- added accounts have their given marks
 abbrev pub with_added : Cells → Accounts → Marks → Cells
 with_added cells added given = joined_cells cells (cells_of added (mark_at given))
 
--- changed ones have these with their new record, and their lock stays
+-- changed accounts have these marks with their new record, and their lock stays
 abbrev pub with_changed : Cells → Accounts → Marks → Cells
 with_changed cells changed given = joined_cells cells
     (cells_of changed (λ name. renewed_with (mark_at given name) (mark_in cells name)))
@@ -58,7 +58,7 @@ abbrev pub AreApart : {V : Type 0} → fin.FinMap name_cmp V → Accounts → Ty
 AreApart book more =
     (name : List ℕ) → fin.contains_key more name ≡ true → fin.contains_key book name ≡ false
 
--- it gives records to accounts that are there, or to new ones
+-- the change gives records to existing accounts, or to new ones
 abbrev pub IsOfRecords : Cells → Attempt → Type 0
 IsOfRecords cells (attempt.Put name stored) = ⊤
 IsOfRecords cells (attempt.TakeIn added changed marks) = AreApart cells added
@@ -75,7 +75,7 @@ Becomes old new after (Err _) = new ≡ old
 abbrev pub has_room_for : ℕ → Accounts → List ℕ → Bool
 has_room_for room book name = fin.contains_key book name || nat_lt (fin.len book) room
 
--- the entry stands from now on; memory runs out only if it would have been put
+-- the entry is in the book from now on; memory runs out only if the entry would have been put
 abbrev pub PutsEntry : ℕ → Accounts → Accounts → List ℕ → Option RecordValue
     → Result (Unit {0}) BookError → Type 0
 PutsEntry room old new name stored (Ok _) =
@@ -86,7 +86,7 @@ PutsEntry room old new name stored (Err error.Memory) =
     (has_room_for room old name ≡ true) × (new ≡ old)
 PutsEntry room old new name stored (Err _) = ⊥
 
--- the name is taken out; memory runs out only if it is there
+-- the name is removed; memory runs out only if the name is there
 abbrev pub Deletes : Accounts → Accounts → List ℕ → Result (Unit {0}) BookError → Type 0
 Deletes old new name (Ok _) = (fin.contains_key old name ≡ true) × (new ≡ fin.remove old name)
 Deletes old new name (Err error.NoAccount) = (fin.contains_key old name ≡ false) × (new ≡ old)
@@ -98,8 +98,8 @@ abbrev pub MayRename : Accounts → List ℕ → List ℕ → Type 0
 MayRename book name other =
     (fin.contains_key book name ≡ true) × (fin.contains_key book other ≡ false)
 
--- The record stands at the other name; both are in memory for a moment, so there has to be room.
--- Memory runs out only if there is.
+-- The record is at the other name. Both names are in memory for a moment, so the book must have
+-- room for one more. Memory runs out only if there is room.
 abbrev pub Renames : ℕ → Accounts → Accounts → List ℕ → List ℕ
     → Result (Unit {0}) BookError → Type 0
 Renames room old new name other (Ok _) =
@@ -119,7 +119,7 @@ abbrev pub Meet : Accounts → Accounts → Type 0
 Meet book more =
     (name : List ℕ) × (fin.contains_key more name ≡ true) × (fin.contains_key book name ≡ true)
 
--- all names of the one are in the other, or one is missing there
+-- all names of the first are in the second, or one is missing there
 abbrev pub AreThere : {V W : Type 0} → fin.FinMap name_cmp V → fin.FinMap name_cmp W → Type 0
 AreThere book changed =
     (name : List ℕ) → fin.contains_key changed name ≡ true → fin.contains_key book name ≡ true
@@ -128,7 +128,7 @@ abbrev pub Misses : Accounts → Accounts → Type 0
 Misses book changed = (name : List ℕ) × (fin.contains_key changed name ≡ true)
     × (fin.contains_key book name ≡ false)
 
--- Accounts may be added whose names are new, and others changed that are there.
+-- The accounts to add have new names, and the accounts to change exist.
 abbrev pub MayTakeIn : Accounts → Accounts → Accounts → Type 0
 MayTakeIn book added changed = AreApart book added × AreThere book changed
 

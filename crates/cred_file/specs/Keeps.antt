@@ -1,4 +1,4 @@
--- When a connection keeps a book, and what a crash leaves of it.
+-- When a connection keeps a book, and what a crash leaves of the book.
 use Rattle.std.specs.Prelude.{◌≡◌, ◌⊎◌, ℕ, ◌≤◌, List, true, false, Option, Some, None}
 use Rattle.std.specs.FinMap as fin
 use Rattle.sqlite.specs.{Schema.Schema, Tree.Trees, State.State, State.HasCleanDisk, Held.Held, Held.state, Store.Ghosts}
@@ -28,13 +28,13 @@ pub record IsTableOf (s : State) (book : Cells) : Type 0 where
   pub autocommit : s.in_transaction ≡ false
   pub left : LeavesOnly s (λ b. b ≡ book)
 
--- whichever book of this kind the old table stands for, the new one stands for what this makes of
--- it
+-- if the old table stands for a book of this kind, the new one stands for the result of this
+-- function on it
 abbrev pub Makes : State → State → (Cells → Type 0) → (Cells → Cells) → Type 0
 Makes old new Fits after =
     (book : Cells) → Fits book → IsTableOf old book → IsTableOf new (after book)
 
--- likewise a crash leaves the book as it was, or what this makes of it
+-- a crash likewise leaves the book as it was, or the result of this function on it
 abbrev pub MayMake : State → State → (Cells → Type 0) → (Cells → Cells) → Type 0
 MayMake old new Fits after =
     (book : Cells) → Fits book → IsTableOf old book
@@ -47,7 +47,7 @@ Lacks name book = fin.contains_key book name ≡ false
 abbrev pub Has : List ℕ → Cells → Type 0
 Has name book = fin.contains_key book name ≡ true
 
--- the one name is there, and the other isn't beside it
+-- the first name is there, and the second isn't
 abbrev pub IsRenamable : List ℕ → List ℕ → Cells → Type 0
 IsRenamable name other book = Has name book × Lacks other (fin.remove book name)
 
@@ -55,13 +55,13 @@ IsRenamable name other book = Has name book × Lacks other (fin.remove book name
 abbrev pub MayBegin : State → State → Type 0
 MayBegin old new = (db : Trees) → new.may_leave db → old.may_leave db ⊎ HoldsBook db fin.empty
 
--- the book, or with the change that was under way as the database failed
+-- the book as it was, or with the change that was under way when the database failed
 abbrev pub IsOrWith : Cells → Option Lost → Cells → Type 0
 IsOrWith book None b = b ≡ book
 IsOrWith book (Some l) b = (b ≡ book) ⊎ (b ≡ after_attempt book l.attempt)
 
--- If the disk has returned what was written: the table is the book's until a change is lost, and a
--- crash leaves the book, or the book with the lost change. Neither has too many accounts.
+-- If the disk has returned the written bytes, the table is the book's until a change is lost, and a
+-- crash leaves the book, or the book with the lost change. Neither book has too many accounts.
 pub record Keeps {S : Type 0} (g : Ghosts S) (conn : Held S) (book : Cells)
     (lost : Option Lost) : Type 0 where
   pub table : HasCleanDisk (state g conn) → lost ≡ None → IsTableOf (state g conn) book

@@ -1,4 +1,4 @@
--- What contracts see of a kept book.
+-- A kept book as contracts see it.
 use Rattle.std.specs.{Prelude.ℕ, Prelude.List, Prelude.Option, Prelude.refl, Coded.Coded, Coded.code_by, Coded.coded×, Coded.coded_option}
 use Rattle.sqlite.specs.Held.{Held, held_code}
 use Rattle.cred_book.specs.Accounts.{Accounts}
@@ -9,8 +9,8 @@ use Rattle.cred_file.specs.contracts.marks.Marks as marked
 use Rattle.cred_file.specs.declared.fault.Lost.{Lost}
 use Rattle.cred_file.specs.contracts.fault.Lost as loss
 
--- the book as the answers so far have told it, its marks, the change that was under way as the
--- database failed, and the connection to the database that keeps them
+-- the book as the answers so far have told it, its marks, the change that was under way when the
+-- database failed, and the connection to the database
 pub record Kept (S : Type 0) : Type 0 where
   pub book : Accounts
   pub marks : Marks
@@ -21,7 +21,7 @@ pub record Kept (S : Type 0) : Type 0 where
 abbrev pub cells : {S : Type 0} → Kept S → Cells
 cells k = cells_of k.book (mark_at k.marks)
 
--- the mark of a name; of one that the book doesn't have, none
+-- the mark of a name; none for a name that the book lacks
 abbrev pub mark_of : {S : Type 0} → Kept S → List ℕ → Mark
 mark_of k name = mark_in (cells k) name
 

@@ -21,7 +21,7 @@ abbrev pub is_no_name : Value → Bool
 is_no_name (Text t) = not (is_name t)
 is_no_name _ = true
 
--- it has this fault
+-- the reading of a text has this fault
 abbrev pub is_refused : PhcError → Result Cell PhcError → Bool
 is_refused why (Ok stored) = false
 is_refused why (Err e) = error_number e == error_number why
@@ -72,27 +72,27 @@ AreAtFault rows fault.Memory = ⊤
 AreAtFault rows (fault.Database e) = (e ≡ corrupt) × HasBadIds rows
 AreAtFault rows _ = ⊥
 
--- memory ran out, or the database failed: nothing is said against the tables and rows
+-- memory ran out, or the database failed: neither is a fault of the tables and rows
 abbrev pub IsForWant : OpenFault → Type 0
 IsForWant fault.Memory = ⊤
 IsForWant (fault.Database e) = ⊤
 IsForWant _ = ⊥
 
--- what is seen and what is committed are as before
+-- the visible and the committed database are as before
 pub record IsAsBefore (old new : State) : Type 0 where
   pub now : new.now ≡ old.now
   pub committed : new.committed ≡ old.committed
   pub mode : new.in_transaction ≡ old.in_transaction
   pub is_open : new.is_open ≡ old.is_open
 
--- the book is the one that the rows stand for, and nothing has changed
+-- the rows stand for this book, and nothing has changed
 pub record IsFound (old new : State) (book : Cells) : Type 0 where
   pub schema : IsBookSchema old.now.schema
   pub stands : StandsFor (old.now.trees 0) book
   pub same : IsAsBefore old new
 
--- The schema is another, or the table's rows are at fault, and nothing has changed; or the database
--- failed as it was asked for them.
+-- The schema isn't a book's, or the table's rows are at fault, and nothing has changed; or the
+-- database failed when it should read the schema and the rows.
 abbrev pub IsUnopened : State → State → OpenFault → Type 0
 IsUnopened old new why =
     ((why ≡ fault.NoBook) × (IsBookSchema old.now.schema → ⊥) × IsAsBefore old new)

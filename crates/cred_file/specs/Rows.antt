@@ -1,4 +1,4 @@
--- Which names the statements are for that write a row.
+-- The names for which a statement writes a row.
 use Rattle.std.specs.Prelude.{◌≡◌, ℕ, List, Bool, true, false}
 use Rattle.std.specs.FinMap as fin
 use Rattle.cred_file.specs.Cells.{Cells}

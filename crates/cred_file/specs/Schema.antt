@@ -1,4 +1,4 @@
--- The one table of a kept book, and what may stand beside it.
+-- The one table of a kept book, and the tables that may stand beside it.
 use Rattle.std.specs.Prelude.{◌≡◌, ◌⊎◌, ℕ, List, [], ◌∷◌, None, codes, true, false}
 use Rattle.sqlite.specs.{Collation.TheVariants.Binary, declared.types.Value.TheVariants.Null, Table.Table, Schema.Schema}
 use Rattle.sqlite.specs.Kind.TheVariants.{Any, Text}
@@ -68,7 +68,7 @@ key_index = record {
   is_unique = true;
 }
 
--- ANALYZE notes here how many rows there are of a name. No command of a book reads or writes it.
+-- ANALYZE notes here the number of rows of a name. No command of a book reads or writes this table.
 abbrev pub statistics_text : List ℕ
 statistics_text = codes "CREATE TABLE sqlite_stat1(tbl,idx,stat)"
 

@@ -14,7 +14,8 @@ pub record Line : Type 0 where
   pub name : List ℕ
   pub stored : Cell
 
--- NULL is an account with no record and no mark, and a text is the cell that it is read as
+-- NULL stands for an account with no record and no mark, and a text for the cell as which it is
+-- read
 abbrev pub Tells : Value → Cell → Type 0
 Tells Null c = c ≡ blank
 Tells (Text t) c = read_cell t ≡ Ok c

@@ -16,8 +16,8 @@ pub record IsUnderWay (s : State) (first book : Cells) : Type 0 where
   pub inside : s.in_transaction ≡ true
   pub left : LeavesOnly s (λ b. b ≡ first)
 
--- whichever book of this kind the table stood for within the transaction, it stands for what this
--- makes of it
+-- if the table stood for a book of this kind within the transaction, it now stands for the result
+-- of this function on it
 abbrev pub MakesWithin : State → State → (Cells → Type 0) → (Cells → Cells) → Type 0
 MakesWithin old new Fits after =
     (first book : Cells) → Fits book → IsUnderWay old first book
@@ -33,11 +33,11 @@ abbrev pub marks_with : (List ℕ → Mark → Mark) → AllMarks → Accounts �
 marks_with f marks more name =
     cond (fin.contains_key more name) (f name (marks name)) (marks name)
 
--- likewise where the name is nothing to the change
+-- the marks likewise, if the change doesn't depend on the name
 abbrev pub changed_marks : (Mark → Mark) → AllMarks → Accounts → AllMarks
 changed_marks f marks more = marks_with (λ _. f) marks more
 
--- a new account has the mark that is given; one that exists gets it with its new record
+-- a new account has its given mark; an existing one gets that mark with its new record
 abbrev pub added_mark : Marks → List ℕ → Mark → Mark
 added_mark given name m = mark_at given name
 
@@ -54,7 +54,7 @@ abbrev pub AgreeOn : Accounts → AllMarks → AllMarks → Type 0
 AgreeOn more marks other =
     (name : List ℕ) → fin.contains_key more name ≡ true → marks name ≡ other name
 
--- there is room for each mark that is given
+-- there is room for each given mark
 abbrev pub HasRoom : Marks → Marks → Type 0
 HasRoom marks given =
     (name : List ℕ) → fin.contains_key given name ≡ true → fin.contains_key marks name ≡ true

@@ -1,4 +1,5 @@
-//! Whether a database has the one table of a book, alone or beside the statistics of ANALYZE.
+//! Checks whether a database has the one table of a book, alone or beside the statistics of
+//! ANALYZE.
 
 ghost use Rattle.std.specs.Prelude.{◌≡◌, ◌≢◌, [], ◌∷◌, IfOk, MatchBool};
 ghost use Rattle.cred_file.specs.Schema.{AreBookTables, HasAccountKey, HasNoKey, HasNoRules, IsBookSchema, IsPlainText, IsUntyped, account, key_index, name_column, record_column, statistics, statistics_column};

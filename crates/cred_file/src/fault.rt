@@ -1,4 +1,4 @@
-//! Faults of a database that keeps no book, and the change that is lost as a database fails.
+//! Faults of a database that keeps no book, and the change that is lost when a database fails.
 
 ghost use Rattle.std.specs.Prelude.{◌≡◌};
 ghost use Rattle.cred_file.specs.declared.fault.Attempt.TheVariants as Attempt;
@@ -10,13 +10,13 @@ use cred_phc::{PhcError, Record};
 use sqlite::Error;
 use std::fmt;
 
-/// Why a book isn't begun or opened. A row is named by its row id, as
-/// `SELECT rowid, * FROM account` shows it.
+/// The reason why a book isn't created or opened. A fault names a row by its row id, as `SELECT
+/// rowid, * FROM account` shows it.
 #[derive(Clone, Copy, Debug, PartialEq, Eq)]
 pub enum OpenFault {
-    /// No book is begun: the database has tables already.
+    /// No book is created: the database has tables already.
     NotEmpty,
-    /// The database holds no book: it lacks the one table that a book has.
+    /// The database holds no book: it lacks a book's one table.
     NoBook,
     /// This row has no valid name.
     NoName(i64),
@@ -27,13 +27,13 @@ pub enum OpenFault {
     Twice(i64),
     /// The table has more than 2^24 rows.
     TooMany,
-    /// No memory for a book.
+    /// Memory ran out.
     Memory,
-    /// The database failed, or refused, or its row ids aren't those of a table.
+    /// The database failed or refused a statement, or its row ids aren't those of a table.
     Database(Error),
 }
 
-/// The change that was under way as the database failed: it may be kept or not.
+/// The change that was under way when the database failed. The change may or may not be kept.
 #[derive(Debug, Drop)]
 pub struct Lost {
     /// The error of the database.
@@ -45,7 +45,7 @@ pub struct Lost {
 /// A change of a book that was attempted.
 #[derive(Drop)]
 pub enum Attempt {
-    /// The record of a name is set, or removed; its lock stays.
+    /// The record of a name is set or removed, and its lock stays.
     Put {
         name: Name,
         stored: Option<Record>,
@@ -94,7 +94,7 @@ impl Lost {
         Lost { error, attempt }
     }
 
-    /// The loss of one account's new record.
+    /// Returns the loss of one account's new record.
     pub(crate) fn put(error: Error, name: Name, stored: Option<Record>) -> Lost
         ensures { result ≡ record { error = error; attempt = Attempt.Put name stored } }
     {

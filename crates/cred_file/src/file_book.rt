@@ -1,4 +1,4 @@
-//! A book that is kept in the table of a database.
+//! A book in the table of a database.
 
 mod batch;
 mod copy;
@@ -26,12 +26,12 @@ use std::marker::Model;
 use std::sync::Wait;
 
 /// A book of at most 2^24 accounts with their marks, in a table. As long as the disk returns the
-/// written bytes, a crash between calls leaves this book.
+/// written bytes, a crash between two calls leaves this book.
 ///
-/// The marks change nothing here but themselves: a caller looks at them before it answers.
+/// The marks don't change what this type does: a caller looks at the marks before it answers.
 ///
-/// If the database fails, the change that was under way is lost: it may be kept or not. After that
-/// the book accepts no other change, and `lost` describes the lost one.
+/// If the database fails, the change that was under way is lost: it may or may not be kept. After
+/// that the book accepts no other change, and `lost` describes the lost one.
 #[derive(Drop)]
 pub struct FileBook<S: Alter> {
     alloc: Global,
@@ -56,7 +56,7 @@ impl<S: Alter> Model for FileBook<S> {
 }
 
 impl<S: Alter> FileBook<S> {
-    /// Begins an empty book in an empty database.
+    /// Creates an empty book in an empty database.
     ///
     /// Errors: `NotEmpty` if a table exists already; `Database`. The connection comes back.
     pub fn create(
@@ -88,7 +88,7 @@ impl<S: Alter> FileBook<S> {
         }
     }
 
-    /// Opens the book that a database holds. Nothing is changed.
+    /// Opens the book that a database holds, and changes nothing.
     ///
     /// Errors: `NoBook` if the database lacks the one table of a book; `NoName`, `NoRecord` and
     /// `Twice` with the id of the faulty row; `TooMany` for more than 2^24 rows;
@@ -125,21 +125,21 @@ impl<S: Alter> FileBook<S> {
         }
     }
 
-    /// The book, as the answers so far describe it.
+    /// Returns the book, as the answers so far describe it.
     pub fn book(&self) -> &Register
         ensures { result.now ≡ self.now.book }
     {
         &self.book
     }
 
-    /// The marks of its accounts.
+    /// Returns the marks of the book's accounts.
     pub fn marks(&self) -> &Marks
         ensures { result.now ≡ self.now.marks }
     {
         &self.marks
     }
 
-    /// The marks of a name; none if the book doesn't have it.
+    /// Returns the marks of a name, or no marks if the book doesn't have the name.
     pub fn mark_of(&self, name: &Name) -> Mark
         ensures { result ≡ mark_in (cells self.now) name.now }
     {
@@ -149,15 +149,15 @@ impl<S: Alter> FileBook<S> {
         self.marks.at(name)
     }
 
-    /// The change that was under way as the database failed, if it did.
+    /// Returns the change that was under way when the database failed, if it failed.
     pub fn lost(&self) -> Option<&Lost>
         ensures { option_map (λ l. l.now) result ≡ self.now.lost }
     {
         self.lost.as_ref()
     }
 
-    /// A law: the table is the book's until a change is lost, and a crash leaves the book, or the
-    /// book with the lost change.
+    /// The law of a kept book: the table is the book's until a change is lost, and a crash leaves
+    /// the book, or the book with the lost change.
     pub fn keeps(&self)
         ensures { Keeps S.Store self.now.conn (cells self.now) self.now.lost }
     {

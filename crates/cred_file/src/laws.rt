@@ -1,5 +1,5 @@
-//! Laws of a book that is opened from files, and of one in which a name was changed. A law is
-//! a function that does nothing.
+//! Laws of a book that is opened from files, and of a book in which a name was changed. A law is a
+//! function that does nothing.
 
 ghost use Rattle.std.specs.Prelude.{◌≡◌, ◌++◌, false, List, Ok, Some, true, ℕ};
 ghost use Rattle.cred_phc.specs.{Reading.read_record, Text.IsRecordText, Text.record_text, Values.IsRecord, Values.RecordValue};
@@ -13,9 +13,10 @@ ghost use Rattle.sqlite.specs.{Files.HoldsDatabase, Held.Held, Held.state, Start
 
 use sqlite::Alter;
 
-/// If files hold a database and `Connection::open_from` opens them, the book that `FileBook::open`
-/// then finds is the one of that database. The first three premises are clauses of the one,
-/// `opened` and `found`, and the fourth is the clause `found` of the other.
+/// If files hold a database and `Connection::open_from` opens these files, the book that
+/// `FileBook::open` then finds is that of the database. The first three premises are the clauses
+/// `opened` and `found` of `Connection::open_from`, and the fourth is the clause `found` of
+/// `FileBook::open`.
 pub fn files_hold_the_book<S: Alter>()
     ensures { (image : _) (old new : Held S) (book : Cells)
         → Opens (state S.Store old) → IsLive (state S.Store old)
@@ -24,8 +25,8 @@ pub fn files_hold_the_book<S: Alter>()
         → (db : Trees) → HoldsDatabase image db → HoldsBook db book }
 {}
 
-/// A renamed account no longer exists under its old name: a ticket that was begun there is
-/// answered `NoAccount`.
+/// A renamed account no longer exists under its old name: a ticket that was begun there gets the
+/// answer `NoAccount`.
 #[tactic(auto, using(crate::proofs::Removing::gone))]
 pub fn a_renamed_name_is_gone()
     ensures { (book : Accounts) (name other : List ℕ) → fin.contains_key book name ≡ true
@@ -33,8 +34,8 @@ pub fn a_renamed_name_is_gone()
         → fin.contains_key (renamed book name other) name ≡ false }
 {}
 
-/// A lock stays, whatever records are put: only a change of marks, a removal and a renaming take it
-/// from its name.
+/// A lock stays whatever records the account gets: only a change of its marks, its deletion or its
+/// renaming ends the lock at the name.
 #[tactic(auto, using(crate::proofs::LocksStay::lock_stays))]
 pub fn a_lock_stays()
     ensures { (cells : Cells) (change : Attempt) (name : List ℕ) → IsOfRecords cells change
@@ -42,14 +43,15 @@ pub fn a_lock_stays()
         → (mark_in (after_attempt cells change) name).locked ≡ true }
 {}
 
-/// The text of marks and a record is read as these.
+/// The text of marks and a record is read as these marks and this record.
 #[tactic(auto, using(crate::proofs::CellLaws::read_marked))]
 pub fn marks_are_read_back()
     ensures { (m : Mark) (v : RecordValue) → IsRecord v
         → read_cell (mark_text m ++ record_text v) ≡ Ok (cell (Some v) m) }
 {}
 
-/// A row that an older program wrote has no mark: its text is read as the record that it was.
+/// A row that an older program wrote has no mark: its text is read as the record that the program
+/// wrote.
 #[tactic(auto, using(crate::proofs::CellLaws::old_read))]
 pub fn old_rows_are_unmarked()
     ensures { (text : List ℕ) (v : RecordValue) → IsRecordText text v → read_record text ≡ Ok v

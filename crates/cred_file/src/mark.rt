@@ -3,18 +3,18 @@
 ghost use Rattle.std.specs.Prelude.{◌≡◌};
 ghost use Rattle.cred_file.specs.Cells.{is_marked, renewed, renewed_with, unmarked};
 
-/// An administrator's mark on an account, beside its record. In a book's table the mark precedes
-/// the record's text, as `!` and `~`.
+/// An administrator's mark on an account, beside the account's record. In a book's table the mark
+/// precedes the record's text, as `!` and `~`.
 #[derive(Clone, Copy, Debug, PartialEq, Eq)]
 pub struct Mark {
     /// No password opens the account.
     pub locked: bool,
-    /// The password opens it, and is to be changed.
+    /// The password opens the account, and must be changed.
     pub must_change: bool,
 }
 
 impl Mark {
-    /// Neither of them.
+    /// Returns no marks.
     pub fn none() -> Mark
         ensures { result ≡ unmarked }
     {
@@ -24,14 +24,14 @@ impl Mark {
         }
     }
 
-    /// Whether it is any of them.
+    /// Whether the account has any mark.
     pub fn is_marked(self) -> bool
         ensures { result ≡ is_marked self }
     {
         self.locked || self.must_change
     }
 
-    /// The mark after the record is replaced: a lock stays.
+    /// Returns the mark after a new record replaces the old one: a lock stays.
     pub fn renewed(self) -> Mark
         ensures { result ≡ renewed self }
     {
@@ -41,7 +41,8 @@ impl Mark {
         }
     }
 
-    /// The mark after the record is replaced by one that comes with a mark: a lock stays.
+    /// Returns the mark after a new record with a mark of its own replaces the old one: a lock
+    /// stays.
     pub fn renewed_with(self, given: Mark) -> Mark
         ensures { result ≡ renewed_with given self }
     {

@@ -10,7 +10,7 @@ use std::alloc::{AllocError, Global};
 use std::collections::{BTreeMap, btree_map};
 use std::marker::Model;
 
-/// A map from names to their marks. A name that isn't there has none.
+/// A map from names to their marks. A name that isn't in the map has no mark.
 #[derive(Drop)]
 pub struct Marks {
     marks: BTreeMap<Name, Mark>,
@@ -34,7 +34,7 @@ impl Model for Marks {
 }
 
 impl Marks {
-    /// A map in which no name is marked.
+    /// Creates a map in which no name is marked.
     pub fn new(alloc: Global) -> Marks
         ensures { result ≡ map.empty }
     {
@@ -43,7 +43,7 @@ impl Marks {
         }
     }
 
-    /// The mark of a name.
+    /// Returns the mark of a name.
     pub fn at(&self, name: &Name) -> Mark
         ensures { result ≡ mark_at self.now name.now }
     {
@@ -53,7 +53,8 @@ impl Marks {
         }
     }
 
-    /// The names with their marks, in the order of the names. A name that is there may have none.
+    /// Returns the names with their marks, in the order of the names. A name in the map may have no
+    /// mark.
     pub fn iter(&self) -> btree_map::Iter<'_, Name, Mark>
         ensures { result ≡ map.entries self.now }
     {
@@ -92,7 +93,7 @@ impl Marks {
         Ok(())
     }
 
-    /// Sets the mark of a name for which there is room, if it needs any.
+    /// Sets the mark of a name for which the map has reserved room, if the mark needs any.
     pub(crate) fn set(&mut self, name: &Name, mark: Mark)
         requires { is_marked mark ≡ true → map.contains_key self.old name.now ≡ true }
         ensures marks { mark_at self.new ≡ marked (mark_at self.old) name.now mark }
@@ -115,7 +116,7 @@ impl Marks {
         }
     }
 
-    /// Ends that a record must change, which needs no memory.
+    /// Removes the mark that a record must change, which needs no memory.
     pub(crate) fn renew(&mut self, name: &Name)
         ensures { mark_at self.new
             ≡ marked (mark_at self.old) name.now (renewed (mark_at self.old name.now)) }
@@ -127,7 +128,7 @@ impl Marks {
         self.set(name, mark);
     }
 
-    /// Puts the mark of a name, which needs memory only if the name has one.
+    /// Puts the mark of a name, which needs memory only if the name gets a mark.
     pub fn put(&mut self, name: &Name, mark: Mark) -> Result<(), AllocError>
         ensures { OnOk result (mark_at self.new ≡ marked (mark_at self.old) name.now mark) }
     {

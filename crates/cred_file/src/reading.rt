@@ -48,7 +48,7 @@ impl Draft {
         }
     }
 
-    /// The book, once all rows are added.
+    /// Returns the book, once all rows are added.
     pub(crate) fn into_book(self) -> (Register, Marks)
         ensures book { result ≡ (self.book, self.marks) }
         ensures few { fin.len result.0 ≤ register_capacity }
@@ -114,7 +114,7 @@ fn read_entry(row: &Row) -> Result<RowContent, OpenFault>
     }
 }
 
-/// The value of a column; NULL past the last one.
+/// Returns the value of a column, or NULL past the last column.
 fn value_at(row: &Row, at: usize) -> ValueRef<'_>
     ensures { owned result ≡ column row.now at }
 {
@@ -140,8 +140,8 @@ fn read_name(value: ValueRef<'_>) -> Option<Name>
     }
 }
 
-/// NULL means no record and no mark, which is no fault. The fault is that of the text; another
-/// value has none.
+/// Reads NULL as no record and no mark, which is no fault. A fault is that of the text. A value of
+/// another type has no such fault.
 fn read_stored(value: ValueRef<'_>) -> Result<(Option<Record>, Mark), Option<PhcError>>
     ensures { MatchResult result (λ c. Tells (owned value.entry) (cell c.0 c.1))
         (λ why. is_no_record why (owned value.entry) ≡ true) }
@@ -156,7 +156,7 @@ fn read_stored(value: ValueRef<'_>) -> Result<(Option<Record>, Mark), Option<Phc
     }
 }
 
-/// The marks at the front of a text, and the record after them, if there is one.
+/// Reads the marks at the front of a text, and the record after them, if there is one.
 fn read_text(text: &[u8]) -> Result<(Option<Record>, Mark), PhcError>
     ensures { result_map_both (λ c. cell c.0 c.1) (λ e. e) result ≡ read_cell text.now }
 {
@@ -184,7 +184,8 @@ fn begins(byte: u8, text: &[u8]) -> bool
     }
 }
 
-/// The text after this byte, if it begins with it.
+/// Returns the text after this byte if the text begins with this byte, and otherwise the whole
+/// text.
 fn past(byte: u8, text: &[u8]) -> &[u8]
     ensures { result.now ≡ past byte text.now }
 {

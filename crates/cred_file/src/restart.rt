@@ -11,11 +11,11 @@ use sqlite::{Alter, Connection};
 use sqlite_trees::store::Reopen;
 use std::alloc::Global;
 
-/// Stops the machine and opens the book again, over a disk that can be made to crash: for proofs
-/// about restarts, and for tests. The book is then the kept one, or the kept one with the lost
+/// Stops the machine and opens the book again, over a disk that a test can crash. Proofs about
+/// restarts and tests use this. The book is then the kept one, or the kept one with the lost
 /// change.
 ///
-/// `None` if the disk failed, or memory was refused, before the database was open. After that the
+/// Returns `None` if the disk failed or memory ran out before the database was open. After that the
 /// tables and rows are never a reason to refuse the book.
 pub fn crash_and_open<S: Alter + Reopen + Drop>(
     alloc: Global,
@@ -29,9 +29,9 @@ pub fn crash_and_open<S: Alter + Reopen + Drop>(
     reopen(alloc, book.close().into_store())
 }
 
-/// Crashes the machine, and opens the book that its disk holds then; `None` as for
-/// `crash_and_open`. A store whose disk always returned what was written must come from the store's
-/// own `open` or `create`, as a closed book's does.
+/// Crashes the machine, and opens the book that its disk then holds. Returns `None` as
+/// `crash_and_open` does. A store whose disk always returned the written bytes must come from the
+/// store's own `open` or `create`, as the store of a closed book does.
 pub fn reopen<S: Alter + Reopen + Drop>(
     alloc: Global,
     mut store: S,

@@ -4,13 +4,13 @@ ghost use Rattle.std.specs.Prelude.{◌≡◌};
 ghost use Rattle.cred_file.specs.Failures.{put_text};
 ghost use Rattle.cred_file.specs.Rows.{is_update};
 
-/// A statement that writes a record's text, or NULL, in the row of a name. It takes the name and
-/// the value.
+/// A statement that writes a record's text, or NULL, in the row of a name. Its parameters are the
+/// name and the value.
 #[derive(Clone, Copy)]
 pub(crate) enum RowStatement {
-    /// Adds the row, of a name that doesn't exist.
+    /// Adds the row of a new name.
     Insert,
-    /// Changes the row, of a name that exists.
+    /// Changes the row of an existing name.
     Update,
 }
 

@@ -22,7 +22,8 @@ use sqlite::types::ValueRef;
 use sqlite::{Alter, Connection, Error};
 use std::alloc::{AllocError, Global};
 
-/// The text of an account, for its row: its marks, and its record; empty without any of them.
+/// Writes the text of an account for its row: the marks and then the record, or nothing without any
+/// of them.
 pub(crate) fn text_of(
     alloc: Global,
     stored: &Option<Record>,
@@ -39,7 +40,7 @@ pub(crate) fn text_of(
     Ok(text)
 }
 
-/// The marks alone.
+/// Writes the marks alone.
 fn mark_text(alloc: Global, mark: Mark) -> Result<Vec<u8>, AllocError>
     ensures { IfOk result (λ text. text.items ≡ mark_text mark) }
 {
@@ -53,7 +54,7 @@ fn mark_text(alloc: Global, mark: Mark) -> Result<Vec<u8>, AllocError>
     Ok(text)
 }
 
-/// The value in the row: the text, or NULL for no record and no mark.
+/// Returns the value in the row: the text, or NULL for no record and no mark.
 pub(crate) fn value_of<'a>(text: &'a [u8], stored: &Option<Record>, mark: Mark) -> ValueRef<'a>
     requires { IsTextOf text.now (cell stored.now mark) }
     ensures { Tells (owned result) (cell stored.now mark) }
@@ -129,7 +130,7 @@ pub(crate) fn create_table<S: Alter>(conn: &mut Connection<S>) -> Result<usize, 
     )
 }
 
-/// The book that the rows of the table hold.
+/// Reads the book that the rows of the table hold.
 pub(crate) fn read_table<S: Alter>(
     alloc: Global,
     conn: &mut Connection<S>,
@@ -153,7 +154,7 @@ pub(crate) fn read_table<S: Alter>(
     Ok(book)
 }
 
-/// The rows are read one at a time, so that they take no memory beside the book.
+/// Reads the rows one at a time, so that they take no memory beside the book.
 fn read_rows<S: Alter>(
     alloc: Global,
     conn: &mut Connection<S>,

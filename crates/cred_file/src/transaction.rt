@@ -1,4 +1,4 @@
-//! Adding accounts, and replacing the records of others, in one transaction.
+//! Adds accounts, and replaces the records of others, in one transaction.
 
 ghost use Rattle.std.specs.Prelude.{◌≡◌, ◌⊎◌, ◌≤◌, ◌+◌, cond, false, List, None, ℕ, OnErr, OnOk};
 ghost use Rattle.std.specs.FinMap as fin;
@@ -19,7 +19,8 @@ use sqlite::types::ValueRef;
 use sqlite::{Alter, Connection, Error, ErrorCode, Transaction};
 use std::alloc::Global;
 
-/// Accounts that are taken in together: new ones, and new records of others, with these marks.
+/// Accounts that one transaction adds or changes: new accounts, and new records of others, with
+/// these marks.
 #[derive(Clone, Copy)]
 pub(crate) struct Batch<'a> {
     pub(crate) added: &'a Register,
@@ -27,10 +28,11 @@ pub(crate) struct Batch<'a> {
     pub(crate) marks: &'a Marks,
 }
 
-/// Adds accounts to the book, and their rows to the table, and replaces the records of others, all
-/// by one transaction. The book has the replaced records and the marks once they are written: so
-/// nothing can fail after that. After an error it has some of the new accounts, no replaced record
-/// and no other mark, and a crash leaves a table with none of the changes, or with all.
+/// Adds accounts to the book and their rows to the table, and replaces the records of others, all
+/// in one transaction. The book gets the replaced records and the marks after the database has
+/// them, so nothing can fail after that. After an error the book has some of the new accounts, but
+/// no replaced record and no new mark. A crash leaves a table with none of the changes, or with all
+/// of them.
 pub(crate) fn take_together<S: Alter>(
     alloc: Global,
     conn: &mut Connection<S>,
@@ -89,7 +91,7 @@ fn finish<S: Alter>(tx: Transaction<'_, S>) -> Result<(), Error>
     tx.commit()
 }
 
-/// Adds the accounts in turn, in the order of their names, with the marks that are given.
+/// Adds the accounts in the order of their names, with the given marks.
 fn enter_each<S: Alter>(
     alloc: Global,
     tx: &mut Transaction<'_, S>,
@@ -115,7 +117,8 @@ fn enter_each<S: Alter>(
     Ok(())
 }
 
-/// Adds a name, with a record or none, in the book, and then its row, with its mark.
+/// Adds a name with a record, or without one, to the book, and then adds its row with its mark to
+/// the table.
 fn enter_one<S: Alter>(
     alloc: Global,
     tx: &mut Transaction<'_, S>,
@@ -173,8 +176,8 @@ fn write_stored<S: Alter>(
     Ok(())
 }
 
-/// Replaces the records in the rows of these accounts, in the order of their names, with the marks
-/// that are given; a lock stays.
+/// Replaces the records in the rows of these accounts in the order of their names, with the given
+/// marks. A lock stays.
 fn update_each<S: Alter>(
     alloc: Global,
     tx: &mut Transaction<'_, S>,
@@ -226,7 +229,7 @@ fn mark_added(marks: &mut Marks, added: &Register, given: &Marks)
     }
 }
 
-/// Sets the marks that come with new records of accounts, which can't fail; a lock stays.
+/// Sets the marks that come with new records of accounts, which can't fail. A lock stays.
 fn mark_changed(marks: &mut Marks, changed: &Register, given: &Marks)
     requires { HasRoom marks.old given.now }
     ensures { mark_at marks.new

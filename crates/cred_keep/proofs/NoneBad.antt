@@ -1,4 +1,4 @@
--- No line is bad where there are none.
+-- Without lines there is no bad line.
 use Rattle.std.proofs.Common.{◌≡◌, ◌==◌, true, List, [], length, inl, inr, sym, ◌∙◌}
 use Rattle.std.proofs.{lemmas.Bool.Decides.eqb_tells, lemmas.List.nil_from_length}
 use Rattle.cred_admin.specs.declared.import.BadLine.{BadLine}

@@ -1,4 +1,4 @@
--- What an import makes of what its lines come to.
+-- The effect of an import from the result of its lines.
 use Rattle.std.proofs.Common.{◌≡◌, false, ℕ, ◌+◌, ◌<◌, List, IfSome, Err, subst}
 use Rattle.std.specs.FinMap as map
 use Rattle.cred_book.specs.Accounts.{Accounts, register_capacity}

@@ -1,4 +1,4 @@
--- What is told on each basis is told by the transcripts.
+-- The facts on each basis follow from the transcripts.
 use Rattle.std.proofs.Common.{◌≡◌, ℕ, List, [], ◌++◌, Option, false, refl, subst}
 use Rattle.cred_cli.specs.Watched.{Basis, MayFollow, Reading, Transcript, Writing, ended_of, given_of, reading_on, transcript_reading, transcript_writing, writing_on}
 use Rattle.cred_cli.specs.declared.watched.Watched.{Watched}

@@ -1,4 +1,4 @@
--- What an import makes of a kept book.
+-- The effect of an import on a kept book.
 use Rattle.std.specs.Prelude.{◌≡◌, ℕ, ◌+◌, ◌≤◌, ◌<◌, true, false, List, [], ◌++◌, length, codes, decimal, IfSome, Result, Ok, Err}
 use Rattle.std.specs.FinMap as map
 use Rattle.cred_book.specs.Accounts.{Accounts, register_capacity}
@@ -12,20 +12,20 @@ use Rattle.cred_keep.specs.declared.import.CountsForm.TheVariants.{Hidden, Plain
 use Rattle.cred_keep.specs.{declared.import.Effect.Effect, declared.import.Effect.TheVariants.Made, declared.import.Effect.TheVariants.Foretold}
 use Rattle.cred_keep.specs.{declared.import.Imported.Imported, declared.import.Importing.Importing}
 
--- the marks of a book that takes in accounts with these; a lock stays
+-- the marks of a book after it takes in accounts with these marks; a lock stays
 abbrev pub given_marks : AllMarks → Accounts → Accounts → AllMarks → AllMarks
 given_marks marks added changed given =
     marks_with (λ name. renewed_with (given name))
     (marks_with (λ name m. given name) marks added) changed
 
--- The book with these accounts, and with these records at others, each with the mark that is given.
--- A dry run changes nothing.
+-- The book with these new accounts, and with these records at others, each with its given mark. A
+-- dry run changes nothing.
 abbrev pub book_after : Effect → MarkedBook → Accounts → Accounts → AllMarks → MarkedBook
 book_after Made book added changed given = marked_book (taken_in book.accounts added changed)
     (given_marks book.marks added changed given)
 book_after Foretold book added changed given = book
 
--- they are taken in if there is room for them, and otherwise all stays
+-- the book takes the accounts in if there is room for them, and otherwise stays as it was
 abbrev pub Takes : Effect → MarkedBook → MarkedBook → Accounts → Accounts → AllMarks
     → Result (Unit {0}) ImportFault → Type 0
 Takes effect old new added changed given (Ok _) =
@@ -37,8 +37,8 @@ Takes effect old new added changed given (Err fault.Memory) = new ≡ old
 Takes effect old new added changed given (Err fault.Read) = ⊥
 Takes effect old new added changed given (Err (fault.Lines bad)) = ⊥
 
--- how many accounts are new, how many have another record, and how many lines name one that is
--- there and stays, or aren't good
+-- the text of these counts: new accounts, accounts with another record, lines whose account exists
+-- and stays, and bad lines
 abbrev pub counts_text : CountsForm → ℕ → ℕ → ℕ → ℕ → List ℕ
 counts_text Hidden added changed kept bad = []
 counts_text Plain added changed kept bad = decimal added ++ codes " added, " ++ decimal changed
@@ -48,8 +48,8 @@ counts_text Json added changed kept bad = codes "{\"added\":" ++ decimal added
     ++ codes ",\"updated\":" ++ decimal changed ++ codes ",\"there\":" ++ decimal kept
     ++ codes ",\"bad\":" ++ decimal bad ++ codes "}\n"
 
--- No line is bad, or the bad ones are left out; what the others come to is taken in, with their
--- marks; and what is told of it is so.
+-- No line is bad, or the import leaves the bad lines out. The book takes in what the other lines
+-- come to, with their marks, and the told counts are right.
 pub record TakesAll (how : Importing) (old new : MarkedBook) (t : Tally) (made : Imported)
     : Type 0 where
   pub good : how.bad ≡ Refused → t.bad ≡ []
@@ -63,8 +63,9 @@ pub record TakesAll (how : Importing) (old new : MarkedBook) (t : Tally) (made :
   pub text : made.text.items
       ≡ counts_text how.counts made.added made.changed made.kept (length made.bad.items)
 
--- What the lines come to is taken in; or some lines are bad, there would be too many accounts, a call
--- on the reader failed, or none did and there was no memory, and the book is as it was.
+-- The book takes in what the lines come to. Or some lines are bad, there would be too many
+-- accounts, a call on the reader failed, or none failed and memory ran out; then the book is as it
+-- was.
 abbrev pub Imports : Importing → Reading → MarkedBook → MarkedBook → Result Imported ImportFault
     → Type 0
 Imports how r old new (Ok made) =

@@ -1,4 +1,4 @@
--- What an order makes of a kept book.
+-- The effect of an order on a kept book.
 use Rattle.std.specs.Io.KnownBytes.{Appends, Keeps}
 use Rattle.std.specs.Prelude.{◌≡◌, Bool, true, false, Option, Some, None, Result, Ok, Err}
 use Rattle.cred_book.specs.Accounts.{register_capacity}
@@ -28,7 +28,7 @@ abbrev pub command_end : Result Status Fault → Result OrderResult Failure
 command_end (Ok status) = Ok (order_result.Answered status)
 command_end (Err e) = Err (failure.Command e)
 
--- the counts of an import are written; one that failed writes nothing
+-- the counts of an import are written; a failed import writes nothing
 abbrev pub EndsImport : Result Imported ImportFault → Writing → Result OrderResult Failure → Type 0
 EndsImport (Ok made) w (Ok e) =
     Appends w.before w.now made.text.items × (e ≡ order_result.Imported made)
@@ -36,7 +36,7 @@ EndsImport (Ok made) w (Err e) = (w.failed ≡ true)
     × FrontWritten w.before w.now made.text.items × (e ≡ failure.Command fault.Write)
 EndsImport (Err why) w ended = Keeps w.before w.now × (ended ≡ Err (failure.Import why))
 
--- once a change is lost, it is the database that failed
+-- if a change is lost, the fault is the database's
 abbrev pub unless_lost : Option Lost → Result OrderResult Failure → Result OrderResult Failure
 unless_lost None ended = ended
 unless_lost (Some l) ended = Err failure.Database
@@ -69,7 +69,7 @@ abbrev pub status_of_error : Error → Status
 status_of_error (sqlite.SqliteFailure c) = status_of_code c
 status_of_error _ = Database
 
--- that of a book that isn't begun or opened
+-- the exit status if no book is created or opened
 abbrev pub status_of_open : OpenFault → Status
 status_of_open open_fault.Memory = Memory
 status_of_open (open_fault.Database e) = status_of_error e
@@ -77,7 +77,7 @@ status_of_open _ = Database
 
 -- ---- what it does
 
--- a command, of which this holds at its end, ends so
+-- the end of a command with this property becomes this end of an order
 abbrev pub Commands : (Result Status Fault → Type 0) → Result OrderResult Failure → Type 0
 Commands Holds ended = (r : Result Status Fault) × Holds r × (ended ≡ command_end r)
 
@@ -100,20 +100,20 @@ Performs (Lines line) s ended =
 Performs (Import how) s ended = (r : Result Imported ImportFault)
     × Imports how s.reading s.old s.new r × EndsImport r s.writing ended
 
--- as it ends for the shell: Ok means that no change is lost
+-- how the order ends for the shell: Ok means that no change is lost
 abbrev pub Ends : Order → Seen → Option Lost → Result OrderResult Failure → Type 0
 Ends order s lost ended =
     (r : Result OrderResult Failure) × Performs order s r × (ended ≡ unless_lost lost r)
 
--- how an order leaves the book that it is done on: it ends so, and the table stands for the book
--- until a change is lost
+-- how an order leaves its book: the order ends so, and the table stands for the book until a change
+-- is lost
 pub record Leaves {S : Type 0} (g : Ghosts S) (order : Order) (s : Seen) (kept : Kept S)
     (ended : Result OrderResult Failure) : Type 0 where
   pub ends : Ends order s kept.lost ended
   pub keeps : IsKept g kept.conn (cells kept) kept.lost
 
--- the book that a database holds is opened, the order is done on it, once, and the connection comes
--- back as the order left it
+-- the order is done once on the opened book of a database, and the connection comes back as the
+-- order left it
 pub record IsServed {S : Type 0} (g : Ghosts S) (order : Order) (r : Reading) (w : Writing)
     (old new : Held S) (status : Status) : Type 0 where
   pub opened : Kept S
@@ -125,7 +125,7 @@ pub record IsServed {S : Type 0} (g : Ghosts S) (order : Order) (r : Reading) (w
   pub closed : new ≡ kept.conn
   pub told : status ≡ status_of_end ended
 
--- it holds none, and nothing is changed
+-- the database holds no book, and nothing changes
 pub record IsRefused {S : Type 0} (g : Ghosts S) (old new : Held S) (status : Status) : Type 0 where
   pub why : OpenFault
   pub unopened : HasCleanDisk (state g new) → IsUnopened (state g old) (state g new) why

@@ -1,4 +1,4 @@
-//! Reading a book to its end, and copying one into another database.
+//! Reads a book to its end, and copies a book into another database.
 
 ghost use Rattle.std.specs.Prelude.{◌≡◌, false, IfErr, IfOk};
 ghost use Rattle.std.specs.FinMap as map;
@@ -19,8 +19,8 @@ pub enum CopyFault {
     Target(OpenFault),
 }
 
-/// Reads all accounts of the database's book, and returns their number. Nothing is changed, and
-/// the connection comes back.
+/// Reads all accounts of the database's book, and returns their number. Changes nothing, and the
+/// connection comes back.
 ///
 /// Errors: those of `FileBook::open`.
 pub fn count_accounts<S: Alter>(
@@ -44,9 +44,9 @@ pub fn count_accounts<S: Alter>(
     }
 }
 
-/// Copies the book of one database with its marks into another, which is empty, by one transaction,
-/// and returns the number of accounts. The target's table stands for the source's book, and a crash
-/// leaves it. The source isn't changed. Both connections come back.
+/// Copies a database's book and marks into an empty database in one transaction, and returns the
+/// number of accounts. The target's table then stands for the source's book, and a crash leaves
+/// this book. The source doesn't change. Both connections come back.
 ///
 /// Errors: `Source` with the error of `FileBook::open`; `Target` with that of
 /// `FileBook::create_copy`.
@@ -74,10 +74,10 @@ pub fn copy_book<S: Alter, D: Alter>(
     }
 }
 
-/// Copies a kept book with its marks into an empty database, by one transaction, and returns the
+/// Copies a kept book and its marks into an empty database in one transaction, and returns the
 /// number of accounts.
 ///
-/// Errors: `Target` with that of `FileBook::create_copy`.
+/// Errors: `Target` with the error of `FileBook::create_copy`.
 pub fn copy_into<S: Alter, D: Alter>(
     alloc: Global,
     book: &FileBook<S>,

@@ -1,4 +1,4 @@
-//! Importing the lines of a passwd-file, all or none.
+//! Imports the lines of a passwd-file, all or none.
 
 ghost use Rattle.std.specs.Prelude.{◌≡◌, IfErr, IfOk, false, length, string_bytes};
 ghost use Rattle.cred_admin.specs.{Marked.kept_book, Seen.FitsSince};
@@ -17,9 +17,9 @@ use std::io::Read;
 /// The treatment of bad lines in an import.
 #[derive(Clone, Copy, Debug, PartialEq, Eq)]
 pub enum BadLines {
-    /// Bad lines are refused, and the import changes nothing.
+    /// The import refuses bad lines, and changes nothing.
     Refused,
-    /// Bad lines are left out.
+    /// The import leaves bad lines out.
     LeftOut,
 }
 
@@ -27,7 +27,7 @@ pub enum BadLines {
 #[derive(Clone, Copy, Debug, PartialEq, Eq)]
 pub enum Effect {
     Made,
-    /// None: it only tells the changes that it would make.
+    /// None: the import only reports the changes that it would make.
     Foretold,
 }
 
@@ -60,17 +60,17 @@ pub struct Imported {
     pub changed: usize,
     /// The number of lines whose account exists and stays as it is.
     pub kept: u64,
-    /// The bad lines that are left out, in their order.
+    /// The bad lines that were left out, in their order.
     pub bad: Vec<BadLine>,
     /// The text of these counts.
     pub text: Vec<u8>,
 }
 
-/// Imports the lines of the reader, by one transaction of the database: a crash leaves the
-/// book without them, or with all good ones.
+/// Imports the lines of the reader in one transaction of the database: a crash leaves the book
+/// without these lines, or with all good ones.
 ///
-/// Errors: `Lines` with all bad lines, unless they are left out; `Full` if the book would have
-/// over 2^24 accounts; `Read`; `Memory`. The book is as it was.
+/// Errors: `Lines` with all bad lines, unless the options leave them out; `Full` if the book would
+/// have over 2^24 accounts; `Read`; `Memory`. The book is then as it was.
 pub(crate) fn import<S: Alter, R: Read>(
     alloc: Global,
     book: &mut FileBook<S>,

@@ -1,6 +1,6 @@
 //! The orders of the program `credkeep`, which work on an open book. The program itself, with its
-//! words, its file and its terminal, is the crate `credkeep`, and the book in its database is
-//! `cred_file`'s.
+//! words, its file and its terminal, is the crate `credkeep`. The crate `cred_file` has the book in
+//! its database.
 #![tactic(auto)]
 
 mod copy;

@@ -1,4 +1,4 @@
-//! Orders on a kept book, and doing them.
+//! The orders on a kept book.
 
 ghost use Rattle.std.specs.Prelude.{◌≡◌, ◌⊎◌, ℕ, List, false, true};
 ghost use Rattle.cred_cli.specs.Watched.{Basis, IsNew, MayFollow, reading, reading_on, transcript_reading, transcript_writing, writing, writing_on};
@@ -37,10 +37,10 @@ pub enum Order {
     Import { how: Importing },
 }
 
-/// Opens the book of a database, and does an order on it; the connection comes back. If the
-/// database holds no book, `faults` says why, and nothing is read or written. No call was made on
-/// the reader or the writer before. Only a call of these two may wait: else every body returns, and
-/// is bound by this.
+/// Opens the book of a database, and does an order on it. The connection comes back. If the
+/// database holds no book, `faults` says why, and the order reads and writes nothing. The caller
+/// has made no call on the reader or the writer. Only a call of these two may wait: otherwise every
+/// body returns, so these clauses bind it.
 ///
 /// `faults` also gets the fault that ended the order, the reason why a password may be wrong, or
 /// the lines that an import left out. A failure of `faults` changes nothing. The status is

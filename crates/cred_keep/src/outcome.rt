@@ -19,7 +19,7 @@ pub enum OrderResult {
 }
 
 impl OrderResult {
-    /// The exit status of the result.
+    /// Returns the exit status of the result.
     pub fn status(&self) -> Status
         ensures { result ≡ status_of_order_result self.now }
     {
@@ -37,12 +37,12 @@ pub enum Failure {
     Command(Fault),
     /// An import met this fault.
     Import(ImportFault),
-    /// The database failed; the book's `lost` is the change that was under way.
+    /// The database failed. The book's `lost` is the change that was under way.
     Database,
 }
 
 impl Failure {
-    /// The exit status of the fault.
+    /// Returns the exit status of the fault.
     pub fn status(&self) -> Status
         ensures { result ≡ status_of_failure self.now }
     {

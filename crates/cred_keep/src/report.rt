@@ -13,7 +13,7 @@ use sqlite::{Error, ErrorCode};
 use std::io;
 use std::io::Write;
 
-/// The maximum number of accounts that are named when their changes were lost together.
+/// The maximum number of accounts that a message names when their changes were lost together.
 const MOST_NAMED: usize = 64;
 
 /// The rule for names, in the words of refusals.
@@ -44,8 +44,8 @@ pub(crate) fn tell_end<F: Write>(
     }
 }
 
-/// Writes the remarks on the result of an order: why a password may be wrong, if the book says no
-/// to it, and the lines that an import left out. A failure of `faults` changes nothing.
+/// Writes the remarks on the result of an order: the reason why a refused password may be wrong,
+/// and the lines that an import left out. A failure of `faults` changes nothing.
 fn advise<F: Write>(faults: &mut F, order_result: &OrderResult) {
     let _ = match order_result {
         OrderResult::Answered(Status::No(Some(Hint::CarriageReturn))) => writeln!(
@@ -111,7 +111,8 @@ fn tell_lost<F: Write>(faults: &mut F, lost: &Lost) -> io::Result<()> {
     }
 }
 
-/// Names the accounts whose records were to be replaced together, unless they are too many.
+/// Names the accounts whose records an update would have replaced together, unless there are too
+/// many.
 fn tell_lost_changes<F: Write>(faults: &mut F, changed: &Register) -> io::Result<()> {
     write!(faults, "the changes of")?;
     for (name, _) in changed.iter().take(MOST_NAMED) {
@@ -157,8 +158,8 @@ fn tell_why<F: Write>(faults: &mut F, why: LineFault) -> io::Result<()> {
         LineFault::Book(refusal) => write!(faults, "{refusal}"),
         LineFault::Locked => write!(
             faults,
-            "its record is locked, by !, ~, * or a field as nologin: --disable-locked drops it, \
-             and --keep-locked keeps one behind ! or ~"
+            "its record is locked, by !, ~, * or a field such as nologin: --disable-locked drops \
+             it, and --keep-locked keeps one behind ! or ~"
         ),
         LineFault::Costly => write!(
             faults,
@@ -167,7 +168,7 @@ fn tell_why<F: Write>(faults: &mut F, why: LineFault) -> io::Result<()> {
     }
 }
 
-/// Writes why no book was begun or opened, and returns the exit status.
+/// Writes why no book was created or opened, and returns the exit status.
 pub fn refuse<F: Write>(faults: &mut F, why: &OpenFault) -> Status
     ensures { result ≡ status_of_open why.now }
 {
@@ -216,7 +217,7 @@ fn tell_database<F: Write>(faults: &mut F, error: Error) -> io::Result<()> {
         Error::SqliteFailure(ErrorCode::DatabaseCorrupt | ErrorCode::NotADatabase) => {
             writeln!(
                 faults,
-                "credkeep: the file is damaged, or no book's: {error}"
+                "credkeep: the file is damaged, or holds no book: {error}"
             )
         }
         Error::SqliteFailure(ErrorCode::CannotOpen) => {

@@ -1,4 +1,4 @@
--- What calls on a scribe add to the lines that are answered, one after another.
+-- The lines that calls on a scribe answer, call after call.
 use Rattle.std.proofs.Common.{◌≡◌, ◌⊎◌, inl, inr, ℕ, suc, zero, ◌+◌, length, List, [], ◌∷◌, ◌++◌, Option, Some, None, refl, sym, ap, ◌∙◌, subst, append_assoc, append-nil}
 use Rattle.std.proofs.{Math.Logic.∥∥₁_elim, Math.Logic.∥∥₁_map, Math.Logic.∥∥₁_prop, lemmas.List.length-append, lemmas.List.length-map, lemmas.List.map-append}
 use Rattle.std.proofs.lemmas.List.Elements.{All-append, All-nil, All-push, All-weaker}
@@ -91,7 +91,7 @@ module _ (First Then Last : List Entry → List ℕ → Type 0) where
 
 -- ---- what needs no hash
 
--- it is counted at any reading, since nothing is counted of it
+-- such a line is counted at any reading, since nothing of it is counted
 quick_at : (now : ℕ) (limits : Option Limits) (book : MarkedBook) (ask : Ask) → IsQuick ask → IsCountedAt now limits limits book ask
 quick_at now None book (Quick ask) quick = refl
 quick_at now (Some l) book (Quick ask) quick = (tt, refl)

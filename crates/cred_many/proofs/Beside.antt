@@ -1,4 +1,4 @@
--- A line leaves the accounts alone that it doesn't name, with their marks.
+-- A line leaves alone the accounts that it doesn't name, with their marks.
 use Rattle.std.proofs.Common.{◌≡◌, ◌≢◌, ℕ, List, [], All, Bool, true, false, cond, nat_lt, Option, Some, None, refl, ◌∙◌, arith}
 use Rattle.cred_phc.specs.Values.{RecordValue}
 use Rattle.cred_book.specs.{Names.name_cmp, Works.makes_change, Works.name_of, Works.new_record, Works.whole, declared.request.Request.Request}

@@ -1,4 +1,4 @@
--- A commit that doesn't find the record changed is the whole operation.
+-- A commit is the whole operation unless the record has changed.
 use Rattle.std.proofs.Common.{◌≡◌, ℕ, List, sym, subst, Option, Some, None, IfSome, Bool, true, false, if◌then◌else◌, unwrap_or, inl, inr, refl, ap, ◌∙◌}
 use Rattle.cred_phc.specs.Values.{RecordValue}
 use Rattle.cred_book.specs.{Works.Task, Works.is_for_current, Works.makes_change, Works.name_of, Works.new_record, Works.same, Works.whole, declared.reply.Reply.Reply, declared.request.Request.Request}
@@ -76,21 +76,21 @@ module _ (book : MarkedBook) (r : Request) where
 -- ---- a commit
 
 module _ (book new : MarkedBook) (work : Task) (v : Verdict) (is : HeedsMarks book new work v) where
-  -- it is the whole operation
+  -- the commit is the whole operation
   pub commits_whole : is_outdated v ≡ false → (v, new) ≡ tried book work.0
   commits_whole current = elim is [
     | inl done ↦ done
     | inr out ↦ let said : is_outdated v ≡ true = ap is_outdated out.told in absurd cc
   ]
 
-  -- or it changes nothing
+  -- or the commit changes nothing
   pub commits_still : is_outdated v ≡ true → new ≡ book
   commits_still outdated = elim is [
     | inl done ↦ let said : is_outdated v ≡ false = ap (λ o. is_outdated o.0) done ∙ tried_current book work.0 in absurd cc
     | inr out ↦ out.same_book
   ]
 
-  -- the record isn't the one that was copied
+  -- the record differs from the copy
   pub commits_moved : is_outdated v ≡ true → same (record_at book (name_of work.0)) work.1 ≡ false
   commits_moved outdated = elim is [
     | inl done ↦ let said : is_outdated v ≡ false = ap (λ o. is_outdated o.0) done ∙ tried_current book work.0 in absurd cc
@@ -133,7 +133,7 @@ done_reset _ capacity book later work stored found job reset made put = absurd c
 
 -- ---- a wrong password
 
--- it makes no change
+-- a wrong password makes no change
 wrong_reply : (b : Bool) (r : Reply) → effect_by b (Told r) ≡ effect.Wrong → makes_change r ≡ false
 wrong_reply true reply.No is = refl
 wrong_reply true reply.Wrong is = refl
@@ -180,7 +180,7 @@ told_effect (Login name pw setting) book new work v is kept commits current =
     ap (effect_by true) (ap (λ o. o.0) (commits_whole book new work v commits current ∙ ap (tried book) same))
 told_effect _ book new work v is kept commits current = absurd cc
 
--- it is counted under the name that is asked about
+-- a commit is counted under the name that the line asks about
 pub commit_at : (ask : Ask) (book new : MarkedBook) (work : Task) (v : Verdict) (old later : Option Limits) (now : ℕ) → hashed_for ask ≡ Some work.0 → is_reset ask ≡ false → HeedsMarks book new work v → is_outdated v ≡ false
     → HasEffect now old later (name_of work.0) (effect_by (is_try ask) v) → IsCountedAt now old later book ask
 commit_at ask book new work v old later now is kept commits current has = of ask is (told_effect ask book new work v is kept commits current) has

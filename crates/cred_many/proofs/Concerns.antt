@@ -1,4 +1,4 @@
--- A line that doesn't name an account does the same whatever mark the account has.
+-- A line that doesn't name an account has the same effect whatever mark the account has.
 use Rattle.std.proofs.Common.{◌≡◌, ◌≢◌, ℕ, suc, List, [], ◌∷◌, ◌++◌, All, Bool, true, false, cond, if◌then◌else◌, not, ◌&&◌, nat_lt, Option, Some, None, refl, sym, ap, ◌∙◌, arith}
 use Rattle.cred_phc.specs.Values.{RecordValue}
 use Rattle.cred_book.specs.{Accounts.Accounts, Names.name_cmp, Works.makes_change, Works.name_of, Works.new_record, Works.whole, declared.reply.Reply.Reply, declared.request.Request.Request}
@@ -43,7 +43,7 @@ module _ (capacity : ℕ) (book : MarkedBook) (name : List ℕ) (m : Mark) where
   abbrev other : MarkedBook
   other = with_mark book name m
 
-  -- what is done comes to the same but for the mark
+  -- the results are the same but for the mark
   abbrev Same : {A : Type 0} → A × MarkedBook → A × MarkedBook → Type 0
   Same x y = x ≡ (y.0, with_mark y.1 name m)
 

@@ -36,7 +36,7 @@ module _ (book : MarkedBook) (work : Task) (found : Reply) (stored : Option Reco
   marks_stay : marked book.marks (name_of work.0) (renewed (book.marks (name_of work.0))) ≡ book.marks
   marks_stay = marked_same book.marks (name_of work.0) _ (plain ∙ sym (ap renewed plain))
 
-  -- the answer and the book, where this is the reply and the record after
+  -- the answer and the book after this reply and this record
   abbrev out : Reply × Option RecordValue → Bool → Verdict × MarkedBook
   out o changes = (Told o.0, marked_book (fin.insert book.accounts (name_of work.0) o.1) (marks_after book (name_of work.0) changes))
 
@@ -125,7 +125,7 @@ module _ (capacity : ℕ) (s : Service) (limits : Option Limits) (book : MarkedB
   came_more None all one = tt
   came_more (Some bytes) all one = All-push (IsLine s bytes) list e all one
 
-  -- nothing is counted of it, since nothing was counted at its name
+  -- nothing of the line is counted, since nothing was counted at its name
   counted_more : IfSome limits IsSettled → AreCounted capacity limits book (list ++ e ∷ [])
   counted_more settled = are_counted_push capacity limits book list e (g.counted settled)
       (change_counted limits here e.ask work found stored settled job kept (ap (λ o. o.0) (sym tries)) book.accounts is clear)
@@ -144,7 +144,7 @@ module _ (capacity : ℕ) (s : Service) (limits : Option Limits) (book : MarkedB
     judged = All-push (λ (e : Entry). IsNotSentAway e.ask) list e g.judged (hash_judged e.ask work.0 job);
   }
 
--- a record that is replaced changes no mark where none was
+-- replacing a record changes no mark if there was none
 marks_kept : (marks : List ℕ → Mark) (changed : Accounts) → ((q : List ℕ) → fin.contains_key changed q ≡ true → marks q ≡ unmarked) → changed_marks renewed marks changed ≡ marks
 marks_kept marks changed plain =
     let at : (q : List ℕ) → changed_marks renewed marks changed q ≡ marks q = λ q. by_there q (fin.contains_key changed q) refl in
@@ -181,7 +181,7 @@ answered_together capacity s old now book later changed es lines left rest came 
     goes_far (HasAnswered capacity s old book was left came limits) (HasAnswered capacity s now later f rest came limits) IsNotSentAway (passed_of limits)
     (adds_together capacity s old now book later changed es lines left rest came limits text written failed was f none g whole closed same told is) served
 
--- a line is taken into a group, or not
+-- a line joins a group, or doesn't
 pub pushed_together : {E : Type 0} (capacity : ℕ) (s : Service) (limits : Option Limits) (book : MarkedBook) (changed now : Accounts) (works more : List (Entry × Task)) (text longer : List ℕ) (w : Entry × Task) (found : Reply) (stored : Option RecordValue) (name : List ℕ) (r : Result (Unit {0}) E)
     → IsGroup capacity s limits book changed (entries_of works) text → is_clear limits name ≡ true → hashed_for w.0.ask ≡ Some w.1.0 → is_reset w.0.ask ≡ false → judgement book.accounts w.1 ≡ (found, stored, true)
     → name ≡ name_of w.1.0 → book.marks name ≡ unmarked → length works < most_together → IfSome s.input (λ bytes. IsLine s bytes w.0)

@@ -16,7 +16,7 @@ module _ {J : Type 0} where
   leads_on got [] sent m l may = subst (λ (p : Progress J). MayFollow p m × (after p m ≡ after sent m)) (sym l) (may, refl)
   leads_on got (x ∷ xs) sent m l may = (l.0, leads_on (after got x) xs sent m l.1 may)
 
-  -- once the end was received, all that was sent was
+  -- after the end was received, all sent messages were
   all_arrived : (got : Progress J) (messages : List (Message J)) (sent : Progress J)
       → got.ended ≡ true → Leads got messages sent → got ≡ sent
   unfolding Leads
@@ -26,7 +26,7 @@ module _ {J : Type 0} where
   all_arrived got (Hashed h ∷ xs) sent over l = all_arrived got xs sent over l.1
   all_arrived got (NoMemory h ∷ xs) sent over l = all_arrived got xs sent over l.1
 
-  -- what came of a hash is no message of the reader
+  -- the result of a hash is no message of the reader
   pub is_report : (line : Entry) (m : Message J) → IsOf line m → IsReport m
   is_report line (Hashed h) is = λ p. (tt, refl)
   is_report line (NoMemory h) is = λ p. (tt, refl)
@@ -97,7 +97,7 @@ module _ {J : Type 0} where
         refl,
       )
 
-  -- a report of a thread that hashes moves nothing of the lines
+  -- a report of a thread that hashes changes nothing about the lines
   pub reports : (n pass : ℕ) (k : Known J) (m : Message J) → IsReport m → Pushes InOrder n pass k m (λ w. w ≡ k)
   reports n pass k m is items views _ h at = (
     k,

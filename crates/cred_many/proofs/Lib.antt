@@ -1,5 +1,5 @@
--- Lemmas: lines that came, what was seen of records, commits, changes together, names in a row, what is told, what a lock bars, what a writer takes, and a history
--- that goes on.
+-- Lemmas about lines that came, seen changes of records, commits, changes together, names in a row,
+-- what answers tell, what a lock bars, what a writer takes, and a history that goes on.
 pub mod Adding
 pub mod Beside
 pub mod Clear

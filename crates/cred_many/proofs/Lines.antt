@@ -15,7 +15,7 @@ pub long_read : (drawn : SettingValue) (line : List ℕ) → nat_lt longest_line
 unfolding tagged_of
 long_read drawn line long = rw long refl
 
--- no more of a line is kept than shows that it is too long
+-- the kept part of a line is enough to show that the line is too long
 tagged_of-kept : (drawn : SettingValue) (line : List ℕ) → tagged_of drawn (take most_kept line) ≡ tagged_of drawn line
 tagged_of-kept drawn line = elim (cases_lt longest_line (length line)) [
   | inl long ↦ sym (long_read drawn (take most_kept line) (longer _ (rw length-take (omega (arith, long))))) ∙ long_read drawn line (longer line long)
@@ -35,7 +35,7 @@ asked_at s n (l ∷ ls) (suc i) line is =
     let next : suc n + i ≡ n + suc i = omega arith in
     asked_at s (suc n) ls i line is ∙ ap (λ m. Some (entry_of m s.most (drawn_setting s m) line)) next
 
--- so what is kept of the line is read as the line
+-- so the kept part of the line is read as the line
 pub kept_came : (s : Service) (input : Option (List ℕ)) (at : Place) (most : CostBounds) (drawn : SettingValue) → most ≡ s.most → drawn ≡ drawn_setting s at.number
     → IfSome input (λ all. IsWholeLine all at) → IfSome input (λ all. IsLine s all (entry_of at.number most drawn at.start))
 kept_came s None at most drawn same is came = tt
@@ -47,7 +47,7 @@ kept_came s (Some all) at most drawn same is (line, there, kept, ended) =
     entry_kept : entry_of at.number most drawn (take most_kept line) ≡ entry_of at.number most drawn line
     entry_kept = ap (λ t. record { number = at.number; tag = t.0; ask = within most t.1 }) (tagged_of-kept drawn line)
 
--- and a line without its end as it is refused
+-- and a line without its end comes as a refused one
 pub cut_came : (s : Service) (input : Option (List ℕ)) (number : ℕ) → IfSome input (λ all. IsCutLine all number) → IfSome input (λ all. IsLine s all (cut_line number))
 cut_came s input number came = IfSome_then input came (λ all here.
     unended_last (λ e. cut_line e.number) all (asked_from s 0 (lines_of all)) number here.2
@@ -71,7 +71,7 @@ module _ (input : Option (List ℕ)) (at : Place) (ended : NothingIsLeft input a
   whole_front : (all : List ℕ) (known : input ≡ Some all) → (ended all known).front ≡ all
   whole_front all known = sym ((ended all known).cut ∙ append-nil (ended all known).front)
 
-  -- so has the last one, without its end, and then all have
+  -- the last line, without its end, has come too, and then all have
   pub with_last : 0 < length at.start → IfSome input (λ all. IsCutLine all at.number × (at.number + 1 ≡ length (lines_of all)))
   with_last some = if_known input _ (λ all known.
       let here = ended all known in
@@ -151,7 +151,7 @@ line_ends-short (c ∷ cs) = elim (eqb_tells c 10) [
   | inr w ↦ rw w.0 (let r = line_ends-short cs in omega (arith, r))
 ]
 
--- what is given and what is handed on grow alike
+-- the given lines and those that are handed on grow alike
 pub counted : (given more handed now next : ℕ) → handed ≡ given → now ≡ handed + more → next ≡ given + more → now ≡ next
 counted given more handed now next same on is = on ∙ ap (λ n. n + more) same ∙ sym is
 

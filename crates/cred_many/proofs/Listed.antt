@@ -9,11 +9,11 @@ use Rattle.cred_many.specs.Names.{is_listed, marked_page, page, spaced, spaced_m
 abbrev pub Entries : Type 0
 Entries = List (List ℕ × Option RecordValue)
 
--- what is to be written of the entries that are left
+-- the text that remains to be written of the remaining entries
 abbrev pub rest_of : List ℕ → ℕ → Entries → List ℕ
 rest_of from left es = spaced (page from left (map (λ e. e.0) es))
 
--- the line goes on with that
+-- the line goes on with this text
 abbrev pub Goes : List ℕ → List ℕ → ℕ → Entries → List ℕ → ℕ → Entries → Type 0
 Goes from old most all now left rest = now ++ rest_of from left rest ≡ old ++ rest_of from most all
 
@@ -27,11 +27,11 @@ rest_none from zero = refl
 rest_none from (suc n) = refl
 
 module _ (from old now : List ℕ) (most : ℕ) (all rest : Entries) (left : ℕ) (goes : Goes from old most all now left rest) where
-  -- a name that comes before is left out
+  -- a name that comes before the first one is left out
   pub skipped : (e : List ℕ × Option RecordValue) (es : Entries) → rest ≡ e ∷ es → is_lt (name_cmp e.0 from) ≡ true → Goes from old most all now left es
   skipped e es is before = rw before at (rw is at goes)
 
-  -- any other is written
+  -- any other name is written
   pub written : (e : List ℕ × Option RecordValue) (es : Entries) (spaced new : List ℕ) → rest ≡ e ∷ es → is_lt (name_cmp e.0 from) ≡ false
       → left ≢ 0 → spaced ≡ now ++ 32 ∷ [] → new ≡ spaced ++ e.0 → Goes from old most all new (left - 1) es
   written e es spaced new is not_before some one two =
@@ -68,7 +68,7 @@ module _ (mark : List ℕ → Mark) (from : List ℕ) where
   abbrev pub marks_of : ℕ → Entries → List ℕ
   marks_of left es = marks_text left (map (λ e. e.0) es)
 
-  -- the line goes on with those that are left
+  -- the line goes on with the remaining names
   abbrev pub GoesMarked : List ℕ → ℕ → Entries → List ℕ → ℕ → Entries → Type 0
   GoesMarked old most all now left rest = now ++ marks_of left rest ≡ old ++ marks_of most all
 

@@ -1,4 +1,4 @@
--- What a line does at a locked account.
+-- The effect of a line at a locked account.
 use Rattle.std.proofs.Common.{◌≡◌, ◌≢◌, ◌⊎◌, inl, inr, ℕ, zero, suc, List, [], ◌∷◌, All, Bool, true, false, cond, Option, Some, None, is_some, unwrap_or, refl, sym, ap, subst, ◌∙◌, arith}
 use Rattle.std.proofs.lemmas.Slice.Eq.{bytes_eq-Decides}
 use Rattle.std.specs.{Cmp.eq_by_cmp_equiv, Cmp.Lexicographic.nat_list_cmp_total, Str.bytes_eq}
@@ -78,7 +78,7 @@ module _ (capacity : ℕ) (book : MarkedBook) (name : List ℕ) where
       rw found (there, ap (λ (m : Mark). m.locked) (mark_at_key book.marks name (locked (book.marks name))))
 
 module _ (capacity : ℕ) (book : MarkedBook) (name : List ℕ) (is : IsLocked book name) where
-  -- it is locked still, and has the same record
+  -- the account is still locked, and has the same record
   record Holds (new : MarkedBook) : Type 0 where
     still : IsLocked new name
     same : record_at new name ≡ record_at book name
@@ -162,14 +162,14 @@ module _ (capacity : ℕ) (book : MarkedBook) (name : List ℕ) (is : IsLocked b
   none_named : All (λ named. name ≢ named) []
   none_named i d low = absurd (omega (arith, low))
 
-  -- a line of one name: it is the account's, or another's
+  -- the one name of a line is the account's, or another's
   of_one : (ask : Ask) (key : List ℕ) → names_in ask ≡ key ∷ [] → (name ≡ key → Kept ask) → Kept ask
   of_one ask key names here = elim (decide name key) [
     | inl same ↦ here same
     | inr ne ↦ beside ask (subst (All (λ named. name ≢ named)) (sym names) (one_other key ne))
   ]
 
-  -- a line of one name that puts a record there, or takes it away
+  -- a line of one name that puts a record there, or removes it
   put_at : (ask : Ask) (key : List ℕ) → names_in ask ≡ key ∷ [] → (name ≡ key → PutsRecord name ask) → (name ≡ key → IsLocked (done capacity book ask).1 name) → Kept ask
   put_at ask key names puts stays = of_one ask key names (λ same. (stays same, λ other. absurd (other (puts same))))
 

@@ -1,4 +1,4 @@
--- How often a record was seen to change.
+-- The number of changes of a record that a line saw.
 use Rattle.std.proofs.Common.{◌≡◌, ℕ, suc, ◌+◌, ◌<◌, ◌≤◌, List, [], ◌∷◌, ◌++◌, Option, Some, None, IfSome, subst, Bool, true, false, if◌then◌else◌, refl, sym, ap, ◌∙◌, append_assoc, arith, length, option_map, set, slice_get}
 use Rattle.std.proofs.{lemmas.Bool.cond_both, lemmas.List.get_or-set_same, lemmas.List.length-set, lemmas.List.map-set, lemmas.List.set-get_or, lemmas.Option.IfSome_then, lemmas.Option.get_or_from_slice_get, lemmas.Option.slice_get-get_or, lemmas.Option.slice_get-map, lemmas.Option.slice_get_within, lemmas.Slice.Eq.bytes_eq-Decides}
 use Rattle.std.proofs.lemmas.List.Elements.{All-append, All-drop, All-get_or, All-same, All-set, All-take, All-weaker}
@@ -29,7 +29,7 @@ module _ (capacity : ℕ) (name : List ℕ) where
   changes-append book [] ys = omega arith
   changes-append book (x ∷ xs) ys = let r = changes-append (done capacity book x.ask).1 xs ys in omega (arith, r)
 
-  -- where it stands otherwise it changed
+  -- a record that differs now has changed
   noticed : (book : MarkedBook) (xs : List Entry) → change_from (record_at book name) (record_at (book_after capacity book xs) name) ≤ changes capacity book name xs
   unfolding changes book_after
   noticed book [] = let none = alike (record_at book name) in omega (arith, none)
@@ -108,7 +108,7 @@ module _ (capacity : ℕ) (opening : MarkedBook) (list : List Entry) where
 pub looked_numbers : (left rest : List Open) (place : ℕ) (name : List ℕ) (stored : Option RecordValue) (count : ℕ) → Notes left place name stored rest count → numbers rest ≡ numbers left
 looked_numbers left rest place name stored count l = ap numbers l.new_is ∙ numbers_set left place l.line _ l.there refl
 
--- its line may still be answered
+-- the line may still get an answer
 pub looked_ready : (why : Option ServiceFault) (left rest : List Open) (place : ℕ) (name : List ℕ) (stored : Option RecordValue) (count number : ℕ) → Notes left place name stored rest count
     → IsReady why left place number → IsReady why rest place number
 looked_ready why left rest place name stored count number l ready = record {
@@ -120,7 +120,7 @@ looked_ready why left rest place name stored count number l ready = record {
 set_here : {A : Type 0} (xs : List A) (i : ℕ) (x : A) → i < length xs → slice_get (set xs i x) i ≡ Some x
 set_here xs i x within = slice_get-get_or (set xs i x) i x (rw length-set within) ∙ ap Some (get_or-set_same xs i x x within)
 
--- which may be often enough
+-- the line may have seen enough changes
 pub looked_worn : (left rest : List Open) (place : ℕ) (name : List ℕ) (stored : Option RecordValue) (count : ℕ) (ask : Ask) → Notes left place name stored rest count
     → name ≡ name_asked ask → tries ≤ count → IsBusy rest place ask
 looked_worn left rest place name stored count ask l is often = record {

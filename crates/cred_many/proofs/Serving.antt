@@ -1,4 +1,5 @@
--- A history that goes on: what is written, what may stand in it, why nothing more is answered, and what is told of it.
+-- A history that goes on: the written text, the lines that it may have, the reasons why no more
+-- lines are answered, and what is told of it.
 use Rattle.std.proofs.Common.{◌≡◌, ◌≢◌, ◌⊎◌, inl, inr, true, ℕ, suc, ◌+◌, ◌-◌, ◌<◌, ◌≤◌, List, [], ◌∷◌, ◌++◌, Bool, Option, Some, None, IfSome, get_or, subst, refl, sym, ap, ◌∙◌, append_assoc, append-nil, arith, take, drop, slice_get, length, take-append-drop}
 use Rattle.std.proofs.{Math.Seq.take-append-add, lemmas.Bool.cases_lt, lemmas.Option.IfSome_then, lemmas.Option.get_or_from_slice_get, lemmas.Option.slice_get_within, lemmas.List.Elements.All-nil, lemmas.List.Elements.All-push, lemmas.List.Elements.All-same}
 use Rattle.std.proofs.{lemmas.List.drop-map, lemmas.List.get_or-append-add, lemmas.List.get_or_append_left, lemmas.List.length-append, lemmas.List.map-append, lemmas.List.map-id, lemmas.List.take-append-le, lemmas.List.take-map, lemmas.List.take_all, lemmas.List.FromFn.map-range_with_len_more}
@@ -24,7 +25,7 @@ use Rattle.cred_many.specs.declared.fault.ServiceFault.TheVariants as fault
 
 -- ---- what is written
 
--- so much of a text is written: all of it, unless the writer failed
+-- the writer has the whole text, unless it failed
 written : (text : List ℕ) (old now : Written) (failed : Bool) (why : Option ServiceFault) → IsConcluded text old now failed why
     → (n : ℕ) × TakesMore old now (take n text) × (why ≢ Some fault.Write → n ≡ length text)
 written text old now failed why told = elim told [
@@ -77,7 +78,7 @@ module _ (capacity : ℕ) (s : Service) (bytes : List ℕ) (list es : List Entry
 
 -- ---- each number once
 
--- an open line is taken out
+-- an open line is removed
 numbers_without : (left : List Open) (place : ℕ) → numbers (remove left place) ≡ remove (numbers left) place
 numbers_without left place = simp (map-append, take-map, drop-map)
 
@@ -192,17 +193,17 @@ module _ (capacity : ℕ) (s : Service) (old now : Written) (book later : Marked
   pub adds_answer : (IsSo : Ask → Type 0) → IsSo line.ask → later ≡ (done capacity book line.ask).1 → answer ≡ (done capacity book line.ask).0 → IsCounted limits later_limits book line.ask → AddsOne IsSo (passed_of later_limits) Before After
   adds_answer IsSo so later_is answer_is counts = adds_as IsSo line.ask so later_is answer_is (λ list times h. inl refl) counts
 
-  -- it is given up for want of memory
+  -- the line is given up for want of memory
   pub adds_starved : later ≡ book → answer ≡ line_of (Refused (refusal.Book error.Memory)) → NeedsMemory capacity book line.ask → later_limits ≡ limits → AddsOne IsQuick (passed_of later_limits) Before After
   adds_starved same is needs idle = adds_as IsQuick (refused (refusal.Book error.Memory)) tt same is
       (λ list times h. inr (inl (refl, subst (λ b. NeedsMemory capacity b line.ask) h.book_is needs))) (not_counted (refusal.Book error.Memory) idle)
 
-  -- or since others were always faster
+  -- or because other lines were always faster
   pub adds_busy : later ≡ book → answer ≡ line_of (Refused refusal.Busy) → IsBusy left place line.ask → later_limits ≡ limits → AddsOne IsQuick (passed_of later_limits) Before After
   adds_busy same is busy idle = adds_as IsQuick (refused refusal.Busy) tt same is
       (λ list times h. inr (inr (inl (refl, worn capacity s.opening list left place line.ask h.seen busy)))) (not_counted refusal.Busy idle)
 
-  -- or since its try is too early
+  -- or because its try is too early
   pub adds_sent : (clock seconds : ℕ) → later ≡ book → answer ≡ later_line seconds → is_try line.ask ≡ true → IsSentAway clock limits later_limits (name_asked line.ask) seconds
       → AddsOne (IsCountedAt clock limits later_limits book) (passed_of later_limits) Before After
   adds_sent clock seconds same is tries early = adds_as (IsCountedAt clock limits later_limits book) (Later (name_asked line.ask) seconds) early same is
@@ -297,6 +298,6 @@ module _ (capacity : ℕ) (s : Service) (now : Written) (book : MarkedBook) (lef
     none_pending = λ _. idle refl;
   }
 
--- the answers keep the limit by the moments at which they were given
+-- the answers keep the limit by their moments
 pub limit_of : (capacity : ℕ) (s : Service) (m : State) (list : List Entry) (times : List ℕ) → answered_in capacity s m list times → KeepsLimit capacity s m list times
 limit_of capacity s m list times h = limit_kept s.tries m.limits times (told_at capacity s.opening list times) h.counted

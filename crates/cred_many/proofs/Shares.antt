@@ -6,8 +6,7 @@ use Rattle.cred_book.specs.Works.{Task}
 use Rattle.cred_cli.specs.Costs.{memory_alone}
 use Rattle.cred_many.specs.Costs.{Covers, job_memory, made_memory}
 
--- also the one that is made where there is no record to compare with, and the one that is made of
--- the record which would take its place
+-- also the hash without a record to compare with, and the hash for the record that would replace it
 pub covered : (costs : Scheme) (kib : ℕ) (task : Task) → job_memory costs task ≤ kib
     → Covers kib task × (task.1 ≡ None → memory_alone costs ≤ kib) × (made_memory task.0 ≤ kib)
 covered costs kib (request, None) within =

@@ -1,4 +1,4 @@
--- What is told of tries by the answers to lines, and by those to more of them.
+-- What the answers to lines tell of tries, also for a line more.
 use Rattle.std.proofs.Common.{◌≡◌, ℕ, IfSome, option_map, suc, ◌+◌, is_some, append-nil, append_assoc, Bool, true, false, List, [], ◌∷◌, ◌++◌, Option, Some, None, length, refl, sym, ap, ◌∙◌, arith, subst}
 use Rattle.std.proofs.lemmas.List.{length-append}
 use Rattle.std.specs.Prelude.{map}
@@ -82,7 +82,7 @@ has_limit (Some limit) old new times told name now seconds k is = refl
 pub quick_counted : (limits : Option Limits) (book : MarkedBook) (quick : QuickAsk) (ask : Ask) → Quick quick ≡ ask → IsCounted limits limits book ask
 quick_counted limits book quick ask is = subst (λ a. IsCounted limits limits book a) is (nothing_counted limits [])
 
--- what is forgiven is counted so
+-- a forgiving is counted so
 pub forgiving_at : (now : ℕ) (b : Bool) (old new : Option Limits) (book : MarkedBook) (name : List ℕ) (ask : Ask) → Forgive name ≡ ask → contains_key book.accounts name ≡ b → HasEffect now old new name (forgiving_effect b) → IsCountedAt now old new book ask
 forgiving_at now b old new book name ask is there has =
     subst (λ a. IsCountedAt now old new book a) is (subst (λ b. HasEffect now old new name (forgiving_effect b)) (sym there) has)

@@ -52,7 +52,7 @@ module _ (left : List Open) (place : ℕ) (line : Open) (there : slice_get left 
   unfolding turns_left
   fewer_without m = subst (λ o. sum_by (turns_of m) (remove left place) + turns_of m o ≡ sum_by (turns_of m) left) here (sum_by-remove (turns_of m) left place line within)
 
-  -- with another in its place
+  -- with another line in its place
   changed_at : (m : ℕ) (y : Open) → turns_left m (set left place y) + turns_of m line ≡ turns_left m left + turns_of m y
   unfolding turns_left
   changed_at m y = subst (λ o. sum_by (turns_of m) (set left place y) + turns_of m o ≡ sum_by (turns_of m) left + turns_of m y) here (sum_by-set (turns_of m) left place y line within)
@@ -64,7 +64,7 @@ module _ (left : List Open) (place : ℕ) (line : Open) (there : slice_get left 
     others = λ m. let sum = fewer_without m in rw is (omega (arith, sum));
   }
 
-  -- it has seen more
+  -- the line has seen more
   seen_more : (new : List Open) (b : Option Sight) → new ≡ set left place (record { number = line.number; sight = b }) → seen_by line.sight ≤ seen_by b → KeepsTurns left new
   seen_more new b is more = λ m.
       let sum = changed_at m (record { number = line.number; sight = b }) in
@@ -95,14 +95,14 @@ line_at_place left place n there =
 pub closed_turn : (left new : List Open) (place n : ℕ) → slice_get (numbers left) place ≡ Some n → new ≡ remove left place → UsesTurn n left new
 closed_turn left new place n there is = let (line, here, same) = line_at_place left place n there in subst (λ n. UsesTurn n left new) same (closed_uses left place line here new is)
 
--- so none is won
+-- so the line wins no turn
 pub closed_keeps : (left new : List Open) (place n : ℕ) → slice_get (numbers left) place ≡ Some n → new ≡ remove left place → KeepsTurns left new
 closed_keeps left new place n there is = (closed_turn left new place n there is).others
 
 pub keeps_same : (left new : List Open) → new ≡ left → KeepsTurns left new
 keeps_same left new is = λ m. rw is (omega arith)
 
--- a line that isn't open has none
+-- a line that isn't open has no turn
 no_turns : (n : ℕ) (left : List Open) → (IsPending n (numbers left) → ⊥) → turns_left n left ≡ 0
 unfolding turns_left
 no_turns n [] none = refl

@@ -1,4 +1,4 @@
--- Lines of which the last one may have no end.
+-- Lines, of which the last may have no end.
 use Rattle.std.proofs.Common.{◌≡◌, ℕ, zero, suc, ◌+◌, ◌<◌, ◌≤◌, List, [], ◌∷◌, ◌++◌, length, take, drop, map, option_map, refl, arith, slice_get}
 use Rattle.std.proofs.lemmas.{List.length-append, List.length-drop, List.length-map, List.length-take, Option.slice_get-map}
 use Rattle.cred_cli.specs.Script.{line_ends}
@@ -32,7 +32,7 @@ module _ {A : Type 0} (f : A → A) where
     unfolding with_unended
     unended_at i within = first_stay (line_ends bytes) xs i within
 
-    -- and the one without
+    -- and the line without its end
     pub unended_last : (i : ℕ) → i ≡ line_ends bytes → slice_get (with_unended f bytes xs) i ≡ option_map f (slice_get xs i)
     unfolding with_unended
     unended_last i last = others_change (line_ends bytes) xs i (omega (arith, last))

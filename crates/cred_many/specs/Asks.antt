@@ -57,7 +57,7 @@ hashed_ask drawn word fields =
     (name_password_setting (Some drawn) fields >>= λ f. Ok (Reset f.0 f.1 f.2))
     else (request_of (Some drawn) word fields >>= λ r. Ok (Whole r))
 
--- a line gives a setting, or it has the one that is drawn
+-- a line gives a setting, or has the drawn one
 abbrev pub ask_of : SettingValue → List (List ℕ) → Result Ask Refusal
 ask_of drawn [] = Err refusal.Line
 ask_of drawn (word ∷ fields) =
@@ -83,7 +83,8 @@ ask_of drawn (word ∷ fields) =
     (only_name fields >>= λ name. Ok (Forgive name))
     else hashed_ask drawn word fields
 
--- what is hashed for it: a login is an upgrade, and a reset hashes as the first record does
+-- the request that is hashed for a line: a login is hashed as an upgrade, and a reset as the first
+-- record
 abbrev pub hashed_for : Ask → Option Request
 hashed_for (Quick ask) = None
 hashed_for (Whole r) = Some r
@@ -92,18 +93,19 @@ hashed_for (Reset name pw setting) = Some (request.Enrol name pw setting)
 hashed_for (Forgive name) = None
 hashed_for (Later name seconds) = None
 
--- A setting isn't of the version of old records. No line asks to be told that its try is too early.
+-- The setting isn't of the version of old records. No line asks for the answer that its try is too
+-- early.
 abbrev pub IsSound : Ask → Type 0
 IsSound (Later name seconds) = ⊥
 IsSound ask = IfSome (hashed_for ask) (λ r. is_for_current r ≡ true)
 
--- what a line asks for that is refused
+-- the ask of a refused line
 abbrev pub refused : Refusal → Ask
 refused why = Quick (Bad why)
 
 -- ---- within bounds
 
--- the setting or the record that a line brings asks for more; a login brings none
+-- the setting or the record of a line needs more; a login counts as having neither
 abbrev pub is_costly : CostBounds → Ask → Bool
 is_costly most (Quick (Load name stored)) = exceeds most stored.setting.scheme
 is_costly most (Quick _) = false
@@ -121,13 +123,13 @@ abbrev pub is_reset : Ask → Bool
 is_reset (Reset name pw setting) = true
 is_reset _ = false
 
--- this is hashed for it, and no record is copied for a reset
+-- this task is hashed for the line, and no record is copied for a reset
 abbrev pub IsJobOf : Ask → Task → Type 0
 IsJobOf ask task = (hashed_for ask ≡ Some task.0) × (is_reset ask ≡ true → task.1 ≡ None)
 
 -- ---- lines
 
--- a line by its number, its tag and what it asks for
+-- a line: its number, its tag, and what it asks for
 pub record Entry : Type 0 where
   pub number : ℕ
   pub tag : List ℕ
@@ -140,17 +142,17 @@ entry number tag ask = record { number = number; tag = tag; ask = ask }
 abbrev pub is_tag_byte : ℕ → Bool
 is_tag_byte b = (nat_le 97 b && nat_le b 122) || (nat_le 48 b && nat_le b 57)
 
--- 1 to 20 of them
+-- 1 to 20 small letters or digits
 abbrev pub tag_of : List ℕ → Option (List ℕ)
 tag_of text =
     if list_all is_tag_byte text then (if between 1 20 (length text) then Some text else None)
     else None
 
--- a tag, and what is asked under it
+-- a tag, and what the line asks for under the tag
 abbrev pub Tagged : Type 0
 Tagged = List ℕ × Ask
 
--- what is refused under no tag
+-- what a line without a tag comes to, which is refused
 abbrev pub untagged : Refusal → Tagged
 untagged why = (codes "*", refused why)
 

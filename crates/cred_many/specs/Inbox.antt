@@ -1,5 +1,5 @@
--- The messages to the thread that has the book. Those of the thread that reads arrive in the order
--- in which they were sent, each once. No public clause speaks of it.
+-- The messages to the thread that has the book. The messages of the thread that reads arrive in the
+-- order in which it sent them, each once. No public clause mentions this.
 use Rattle.std.specs.Prelude.{◌≡◌, ℕ, Bool, true, false, List, [], ◌∷◌, ◌++◌, Option, None, length}
 use mathlib.Core.Option.{some}
 use lib.ListN.{get_elem?}
@@ -13,7 +13,7 @@ progress lines ended = record { lines = lines; ended = ended }
 abbrev pub no_progress : {J : Type 0} → Progress J
 no_progress = progress [] false
 
--- with this message too
+-- the progress with this message too
 abbrev pub after : {J : Type 0} → Progress J → Message J → Progress J
 after p (Came line) = progress (p.lines ++ line ∷ []) p.ended
 after p Ended = progress p.lines true
@@ -25,17 +25,18 @@ MayFollow p (Came line) = (p.ended ≡ false) × (line.number ≡ length p.lines
 MayFollow p Ended = p.ended ≡ false
 MayFollow p _ = Unit {0}
 
--- the lines that a scribe has taken are those that were received, unless a fault is told
+-- the lines that a scribe has taken are the received ones, unless it reports a fault
 abbrev pub HasTaken : {J : Type 0} → Progress J → Option ServiceFault → ℕ → Type 0
 HasTaken got why came = why ≡ None → came ≡ length got.lines
 
--- whoever has received so much, and then receives these messages in their order, has received that
+-- a holder who has received so much, and then receives these messages in their order, has this
+-- progress
 unfoldable pub Leads : {J : Type 0} → Progress J → List (Message J) → Progress J → Type 0
 Leads got [] sent = got ≡ sent
 Leads got (message ∷ messages) sent =
     MayFollow got message × Leads (after got message) messages sent
 
--- it is no message of the reader
+-- the message doesn't come from the reader
 abbrev pub IsReport : {J : Type 0} → Message J → Type 0
 IsReport {J} message = (p : Progress J) → MayFollow p message × (after p message ≡ p)
 

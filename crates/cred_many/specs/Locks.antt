@@ -20,13 +20,13 @@ EndsLock name (Quick (Change (Delete other))) = name ≡ other
 EndsLock name (Quick (Change (Rename other new))) = name ≡ other
 EndsLock name _ = ⊥
 
--- it tries a password of the account, or makes its first record
+-- the line tries a password of the account, or makes its first record
 abbrev pub IsTryAt : List ℕ → Ask → Type 0
 IsTryAt name (Whole r) = name ≡ name_of r
 IsTryAt name (Login other pw setting) = name ≡ other
 IsTryAt name _ = ⊥
 
--- it puts a record, or takes it away, and asks for no password
+-- the line puts or removes a record, and asks for no password
 abbrev pub PutsRecord : List ℕ → Ask → Type 0
 PutsRecord name (Quick (Load other stored)) = name ≡ other
 PutsRecord name (Quick (Change (Disable other))) = name ≡ other
@@ -34,7 +34,7 @@ PutsRecord name (Quick (DisableShown other)) = name ≡ other
 PutsRecord name (Reset other pw setting) = name ≡ other
 PutsRecord name _ = ⊥
 
--- the answer says that the password is wrong, or that there is no record or one already
+-- the answer says that the password is wrong, that there is no record, or that there is one already
 abbrev pub IsNo : List ℕ → Type 0
 IsNo line = (line ≡ codes "no\n") ⊎ (line ≡ codes "wrong\n") ⊎ (line ≡ codes "absent\n")
     ⊎ (line ≡ codes "exists\n")

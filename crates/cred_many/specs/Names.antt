@@ -1,9 +1,9 @@
--- What lines answer that list names.
+-- The answers to lines that list names.
 use Rattle.std.specs.{List.filter, Ordering.is_lt, Prelude.ℕ, Prelude.List, Prelude.[], Prelude.◌∷◌, Prelude.◌++◌, Prelude.◌&&◌, Prelude.Bool, Prelude.not, Prelude.codes, Prelude.take}
 use Rattle.cred_book.specs.Names.{name_cmp}
 use Rattle.cred_file.specs.{Cells.is_marked, Cells.mark_text, declared.mark.Mark.Mark}
 
--- of names in their order, the first ones, so many at most, that don't come before this one
+-- of names in their order, the first ones that don't come before this one, at most so many
 abbrev pub page : List ℕ → ℕ → List (List ℕ) → List (List ℕ)
 page from most names = take most (filter (λ name. not (is_lt (name_cmp name from))) names)
 
@@ -26,7 +26,7 @@ is_listed mark from name = is_marked (mark name) && not (is_lt (name_cmp name fr
 abbrev pub marked_page : (List ℕ → Mark) → List ℕ → ℕ → List (List ℕ) → List (List ℕ)
 marked_page mark from most names = take most (filter (is_listed mark from) names)
 
--- a space before each, and behind it a colon (byte 58) and its mark as the book's file has it
+-- the names, each after a space and before a colon (byte 58) and its mark as the book's file has it
 unfoldable pub spaced_marks : (List ℕ → Mark) → List (List ℕ) → List ℕ
 spaced_marks mark [] = []
 spaced_marks mark (name ∷ names) =

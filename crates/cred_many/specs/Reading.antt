@@ -1,4 +1,5 @@
--- Where the thread that reads is in its input, and how it ends. No public clause speaks of it.
+-- The place of the reading thread in its input, and the end of this thread. No public clause
+-- mentions these.
 use Rattle.std.specs.Prelude.{◌≡◌, ℕ, ◌<◌, ◌≤◌, ◌^◌, List, [], ◌++◌, Bool, true, IfSome, Option, Some, None, length, take, slice_get}
 use Rattle.cred_cli.specs.{Events.most_kept, Feeding.unfinished_from, Script.line_ends, Script.lines_of}
 use Rattle.cred_many.specs.{declared.ending.End.End, declared.ending.End.TheVariants.Failed, declared.ending.End.TheVariants.Whole}
@@ -28,12 +29,12 @@ ComesNext input at bytes = (all : List ℕ) → input ≡ Some all
 abbrev pub NothingIsLeft : Option (List ℕ) → Place → Type 0
 NothingIsLeft input at = (all : List ℕ) → input ≡ Some all → Splits all at []
 
--- from wherever they come next, they are taken
+-- the place moves over these bytes from wherever they come next
 abbrev pub MovesOver : Option (List ℕ) → Place → List ℕ → Place → Type 0
 MovesOver input old bytes new = (all rest : List ℕ) → input ≡ Some all
     → Splits all old (bytes ++ rest) → Splits all new rest
 
--- the line of this number ends at this place; not all of it need be kept
+-- the line of this number ends at this place, though perhaps not all of the line is kept
 abbrev pub IsWholeLine : List ℕ → Place → Type 0
 IsWholeLine bytes at = (line : List ℕ) × (slice_get (lines_of bytes) at.number ≡ Some line)
     × (at.start ≡ take most_kept line) × (at.number < line_ends bytes)
@@ -48,7 +49,8 @@ abbrev pub how_many : {A : Type 0} → Option A → ℕ
 how_many None = 0
 how_many (Some x) = 1
 
--- so the reading may end where these bytes are the input, and this tells the failure of a source
+-- the reading may end so if these bytes are the input, where the function tells the failure of a
+-- source
 abbrev pub IsEnd : {S : Type 0} → Option (List ℕ) → (S → Bool) → End S → Type 0
 IsEnd input failed (Whole lines) = IfSome input (λ all. lines ≡ length (lines_of all))
 IsEnd input failed (Failed source) = failed source ≡ true
@@ -62,7 +64,7 @@ abbrev pub HasHanded : {S : Type 0} → End S → ℕ → Type 0
 HasHanded (Whole lines) handed = lines ≡ handed
 HasHanded _ handed = Unit {0}
 
--- it isn't told of a reading that it didn't begin
+-- the end is that of a reading that began
 abbrev pub IsOfReading : {S : Type 0} → End S → Type 0
 IsOfReading Threads = ⊥
 IsOfReading Memory = ⊥

@@ -1,7 +1,7 @@
--- What stands behind it in a scribe: what each open line has seen, lines that are answered, and
--- those whose changes are made together. Of it public clauses cite `moment`, `numbers`, `unseen`,
--- `IsPending`, `HasTurn` and `IsAnswered`, and by specs/Adds.antt `AddsOne`, `AddsSome`,
--- `answered_by`, `IsCountedAt` and `IsNotSentAway`.
+-- The state of a scribe: what each open line has seen, the answered lines, and the lines whose
+-- changes are made together. Public clauses cite `moment`, `numbers`, `unseen`, `IsPending`,
+-- `HasTurn` and `IsAnswered`, and by specs/Adds.antt `AddsOne`, `AddsSome`, `answered_by`,
+-- `IsCountedAt` and `IsNotSentAway`.
 use Rattle.std.specs.{List.range_with_len, List.remove, List.Sorted.IsPermutation, Option.option_or, Str.bytes_eq}
 use Rattle.std.specs.Prelude.{◌≡◌, ◌⊎◌, ℕ, ◌<◌, ◌≤◌, ◌+◌, List, [], ◌∷◌, ◌++◌, Bool, ◌&&◌, true, false, All, if◌then◌else◌, IfSome, Option, Some, None, is_none, length, map, set, slice_get}
 use Rattle.cred_phc.specs.Values.{RecordValue}
@@ -23,25 +23,25 @@ use Rattle.std.specs.FinMap as fin
 
 -- ---- what an open line has seen
 
--- The account's record was seen to change no oftener than it did, and nor is it if it stands
--- otherwise behind these lines.
+-- The line saw the account's record change no more often than it did, even if a difference between
+-- the last copy and the record behind these lines counts as one more change.
 abbrev pub SightHolds : ℕ → MarkedBook → List Entry → Open → Type 0
 SightHolds capacity opening list line = IfSome line.sight (λ s.
     s.changes + change_from s.stored (record_at (book_after capacity opening list) s.name)
     ≤ changes capacity opening s.name list)
 
--- a line whose account wasn't looked at
+-- a line whose account's record the scribe hasn't looked at
 abbrev pub unseen : ℕ → Open
 unseen number = record { number = number; sight = None }
 
--- how often it was seen to change, where this record stands now
+-- how often the line has seen the record change, if this record stands now
 abbrev pub counted : Option Sight → List ℕ → Option RecordValue → ℕ
 counted None name now = 0
 counted (Some s) name now =
     if bytes_eq s.name name then s.changes + change_from s.stored now else 0
 
--- the open line at this place has seen that this record stands now; until it is given up, each
--- change counts
+-- the open line at this place has seen this present record; until the line is given up, each change
+-- counts
 pub record Notes (old : List Open) (place : ℕ) (name : List ℕ) (now : Option RecordValue)
     (new : List Open) (count : ℕ) : Type 0 where
   pub line : Open
@@ -90,7 +90,7 @@ AreClosed (e ∷ es) old new = (place : ℕ) × (slice_get (numbers old) place �
 abbrev pub IsPending : ℕ → List ℕ → Type 0
 IsPending number pending = (place : ℕ) × (slice_get pending place ≡ Some number)
 
--- it is pending no more, and the others are
+-- the line of this number is no longer pending, but the others are
 abbrev pub IsAnswered : ℕ → List ℕ → List ℕ → Type 0
 IsAnswered number old new =
     (place : ℕ) × (slice_get old place ≡ Some number) × (new ≡ remove old place)
@@ -121,7 +121,7 @@ IsConcluded text old new failed why = ((why ≡ None) × TakesMore old new text)
 
 -- ---- what is counted of tries
 
--- no try runs: each begins and ends as it is answered
+-- no try runs: each begins and ends when it gets its answer
 abbrev pub AreIdle : Option Limits → Type 0
 AreIdle limits = IfSome limits IsIdle
 
@@ -165,11 +165,11 @@ IsCountedAt now old new book (Forgive name) =
     HasEffect now old new name (effect_of book (Forgive name))
 IsCountedAt now old new book ask = HasEffect now old new (name_asked ask) (effect_of book ask)
 
--- it is counted at some reading
+-- the answer is counted at some reading of the clock
 abbrev pub IsCounted : Option Limits → Option Limits → MarkedBook → Ask → Type 0
 IsCounted old new book ask = (now : ℕ) × IsCountedAt now old new book ask
 
--- so are the answers to these, and nothing changes by it
+-- the answers to these lines are counted at this reading, which changes nothing
 abbrev pub AreCounted : ℕ → Option Limits → MarkedBook → List Entry → Type 0
 AreCounted capacity limits book [] = Unit {0}
 AreCounted capacity limits book (e ∷ es) = IsCounted limits limits book e.ask
@@ -185,7 +185,7 @@ KeepsCount None None times told = Unit {0}
 KeepsCount (Some limit) (Some l) times told = HasCounted limit l times told
 KeepsCount _ _ times told = ⊥
 
--- what is answered needs no hash, and tells of no try
+-- the answered line needs no hash, and tells of no try
 abbrev pub IsQuick : Ask → Type 0
 IsQuick (Quick ask) = Unit {0}
 IsQuick _ = ⊥
@@ -201,13 +201,13 @@ IsNotSentAway _ = Unit {0}
 abbrev pub entries_of : List (Entry × Task) → List Entry
 entries_of works = map (λ w. w.0) works
 
--- the accounts of these names have these records, and the others have theirs
+-- the accounts of these names have these records, and the other accounts keep theirs
 abbrev pub AreReplaced : Accounts → Accounts → Accounts → Type 0
 AreReplaced old changed new =
     (name : List ℕ) → fin.get new name ≡ option_or (fin.get changed name) (fin.get old name)
 
--- Lines that came, a few. Done in their order, they give these accounts their records, and have
--- this text of answers. None of these accounts is marked, and nothing is counted there.
+-- A few lines that came. Done in their order, they give these accounts their records, and their
+-- answers have this text. None of these accounts is marked or has counted failures.
 pub record IsGroup (capacity : ℕ) (s : Service) (limits : Option Limits) (book : MarkedBook)
     (changed : Accounts) (list : List Entry) (text : List ℕ) : Type 0 where
   pub came : IfSome s.input (λ bytes. All (IsLine s bytes) list)
@@ -222,8 +222,8 @@ pub record IsGroup (capacity : ℕ) (s : Service) (limits : Option Limits) (book
 
 -- ---- the whole
 
--- what a scribe has that has these, where functions tell the book and the failure of a keeper, and
--- the bytes of a writer
+-- what a scribe with these parts has, where functions tell the book and the failure of a keeper,
+-- and the bytes of a writer
 abbrev pub moment : {K W : Type 0} → (K → MarkedBook) → (K → Bool) → (W → Option (List ℕ)) → K
     → Output W → ℕ → Option Limits → Bool → Moment
 moment book failed contents keeper output came limits source_failed = record {
@@ -238,8 +238,8 @@ moment book failed contents keeper output came limits source_failed = record {
   passed = passed_of limits;
 }
 
--- A scribe that has these has answered these lines at these moments. Each open line saw of them
--- what it notes, and the limiter counts what they tell.
+-- A scribe with these parts has answered these lines at these moments. Each open line saw those of
+-- their changes that it notes, and the limiter counts what the answers tell.
 pub record HasAnswered (capacity : ℕ) (s : Service) (now : Written) (book : MarkedBook)
     (why : Option ServiceFault) (open_lines : List Open) (came : ℕ) (limits : Option Limits)
     (list : List Entry) (times : List ℕ) : Type 0 where
@@ -251,7 +251,7 @@ pub record HasAnswered (capacity : ℕ) (s : Service) (now : Written) (book : Ma
   pub timed : length times ≡ length list
   pub counted : KeepsCount s.tries limits times (told_at capacity s.opening list times)
 
--- it has answered some lines at some moments
+-- the scribe has answered some lines at some moments
 abbrev pub History : ℕ → Service → Written → MarkedBook → Option ServiceFault → List Open → ℕ
     → Option Limits → Type 0
 History capacity s now book why open_lines came limits = (list : List Entry) × (times : List ℕ)
@@ -266,18 +266,20 @@ answered_by capacity s book contents keeper output came limits =
     HasAnswered capacity s (written_of contents output.writer) (book keeper) output.fault
     output.pending came limits
 
--- lines that were answered keep their moments, and no line more is answered
+-- answered lines keep their moments, and the call answers no more lines
 abbrev pub AddsNone : (List Entry → List ℕ → Type 0) → (List Entry → List ℕ → Type 0) → Type 0
 AddsNone old new = (list : List Entry) (times : List ℕ) → old list times → new list times
 
--- They keep their moments, and at most one line more is answered: one that is so, at this moment.
+-- Answered lines keep their moments, and the call answers at most one line more. This line has the
+-- property, and its answer this moment.
 abbrev pub AddsOne : (Ask → Type 0) → ℕ → (List Entry → List ℕ → Type 0)
     → (List Entry → List ℕ → Type 0) → Type 0
 AddsOne IsSo t old new = (list : List Entry) (times : List ℕ) → old list times
     → ∥ new list times
     ⊎ ((e : Entry) × IsSo e.ask × new (list ++ e ∷ []) (times ++ t ∷ [])) ∥₁
 
--- They keep their moments, and the lines that are answered besides are so, each at this moment.
+-- Answered lines keep their moments, and each further answered line has the property, and its
+-- answer this moment.
 abbrev pub AddsSome : (Ask → Type 0) → ℕ → (List Entry → List ℕ → Type 0)
     → (List Entry → List ℕ → Type 0) → Type 0
 AddsSome IsSo t old new = (list : List Entry) (times : List ℕ) → old list times

@@ -1,4 +1,4 @@
--- What a service stands for at every moment: one list of lines, each done whole, one after another.
+-- The meaning of a service at every moment: one list of lines, each done whole, one after another.
 use Rattle.std.specs.{List.range_with_len, List.Sorted.IsPermutation, Option.option_map}
 use Rattle.std.specs.Prelude.{◌≡◌, ◌≢◌, ◌⊎◌, ℕ, ◌<◌, ◌≤◌, ◌+◌, ◌-◌, ◌^◌, List, [], ◌∷◌, ◌++◌, Bool, true, false, if◌then◌else◌, IfSome, is_some, nat_lt, Option, Some, None, length, map, take, slice_get, slice_index_or, unwrap_or, codes, decimal}
 use Rattle.cred_phc.specs.{Text.record_text, Values.RecordValue}
@@ -44,19 +44,19 @@ abbrev pub login_verdict : Verdict → Verdict
 login_verdict (Told r) = Told (login_reply r)
 login_verdict verdict = verdict
 
--- the verdict under which it is answered
+-- the verdict under which such an operation is answered
 abbrev pub told_verdict : Ask → Verdict → Verdict
 told_verdict ask (Told r) = Told (told_reply ask r)
 told_verdict ask verdict = verdict
 
--- the line of an account whose record is taken away, with its mark, or that it has none
+-- the line of an account whose record is removed, with its mark, or the answer that it has none
 abbrev pub disabled_line : List ℕ → Mark → Option (Option RecordValue) → List ℕ
 disabled_line name m None = edit_line edit.NoAccount
 disabled_line name m (Some None) = edit_line edit.Absent
 disabled_line name m (Some (Some stored)) = passwd_line m (name, Some stored)
 
--- the marks of an account and its record behind them, as the book's row has them; a row without
--- either is `none`
+-- the marks of an account and then its record, as the book's row has them; a row without either is
+-- `none`
 abbrev pub shown_line : Mark → Option (Option RecordValue) → List ℕ
 shown_line m None = line_of (Refused (refusal.Book error.NoAccount))
 shown_line m (Some None) =
@@ -72,7 +72,7 @@ forgiven_line false = edit_line edit.NoAccount
 abbrev pub later_line : ℕ → List ℕ
 later_line seconds = codes "later " ++ decimal seconds ++ 10 ∷ []
 
--- the answer to what is asked, with its line end, done whole on the book, and the book after
+-- the answer to the whole operation on the book, with its line end, and the book after it
 abbrev pub done : ℕ → MarkedBook → Ask → List ℕ × MarkedBook
 done capacity book (Quick (Account name)) =
     if fin.contains_key book.accounts name
@@ -119,7 +119,7 @@ unfoldable pub book_after : ℕ → MarkedBook → List Entry → MarkedBook
 book_after capacity book [] = book
 book_after capacity book (e ∷ es) = book_after capacity (done capacity book e.ask).1 es
 
--- their answers
+-- the answers to these lines
 unfoldable pub answers : ℕ → MarkedBook → List Entry → List ℕ
 answers capacity book [] = []
 answers capacity book (e ∷ es) =
@@ -134,7 +134,7 @@ record_at book name = unwrap_or (fin.get book.accounts name) None
 abbrev pub change_from : Option RecordValue → Option RecordValue → ℕ
 change_from old new = if same old new then 0 else 1
 
--- how many of the lines left the name another record than they found
+-- how many of the lines changed the record of the name
 unfoldable pub changes : ℕ → MarkedBook → List ℕ → List Entry → ℕ
 changes capacity book name [] = 0
 changes capacity book name (e ∷ es) =
@@ -158,7 +158,7 @@ effect_of book (Quick ask) = effect.Nothing
 effect_of book (Forgive name) = forgiving_effect (fin.contains_key book.accounts name)
 effect_of book (Later name seconds) = effect.Nothing
 
--- what it tells of the tries at a name, given at this moment
+-- what such an answer at this moment tells of the tries at a name
 abbrev pub told_by : MarkedBook → List ℕ → Ask → ℕ → Option Event
 told_by book name (Forgive other) t =
     if is_name_of name other then event_of (effect_of book (Forgive other)) t else None
@@ -167,8 +167,8 @@ told_by book name (Later other seconds) t =
 told_by book name ask t =
     if is_name_of name (name_asked ask) then event_of (effect_of book ask) t else None
 
--- what the answers to these lines tell, given at these moments, behind what was told before; the
--- latest comes first
+-- what the answers to these lines at these moments tell, added to what was told before; the latest
+-- comes first
 unfoldable pub told_on : ℕ → MarkedBook → List ℕ → List Entry → List ℕ → List Event → List Event
 told_on capacity book name [] times before = before
 told_on capacity book name (e ∷ es) [] before = before
@@ -181,8 +181,8 @@ told_at capacity book list times name = told_on capacity book name list times []
 
 -- ---- lines that are given up
 
--- What is asked needs memory at this book: for a hash, a list, the text of a record or a change. No
--- line is given up for want of it that would be refused anyway.
+-- The line needs memory at this book: for a hash, a list, the text of a record or a change. A line
+-- that would be refused anyway is never given up for want of memory.
 abbrev pub NeedsMemory : ℕ → MarkedBook → Ask → Type 0
 NeedsMemory capacity book (Quick (Account name)) =
     (fin.contains_key book.accounts name ≡ false) × (fin.len book.accounts < capacity)
@@ -198,12 +198,12 @@ NeedsMemory capacity book (Forgive name) = ⊥
 NeedsMemory capacity book (Later name seconds) = ⊥
 NeedsMemory capacity book _ = Unit {0}
 
--- so many changes of its account's record, and a line is given up
+-- the number of changes of its account's record after which a line is given up
 abbrev pub tries : ℕ
 tries = 8
 
--- A line that asks for this is answered so behind these: for want of memory; since the lines before
--- changed the record so often; or since its try is too early.
+-- A line that asks for this gets the second answer behind these lines: for want of memory, because
+-- these lines changed the record so often, or because its try is too early.
 abbrev pub IsGivenUp : ℕ → Service → List Entry → Ask → Ask → Type 0
 IsGivenUp capacity s before line told =
     ((told ≡ refused (refusal.Book error.Memory))
@@ -216,7 +216,7 @@ IsGivenUp capacity s before line told =
 
 -- ---- at every moment
 
--- it is for one of the lines that were asked: that line, or that line given up
+-- the entry is one of the lines of the input, or such a line given up
 pub record IsFor (capacity : ℕ) (s : Service) (bytes : List ℕ) (before : List Entry) (e : Entry)
     : Type 0 where
   pub line : Entry
@@ -224,7 +224,7 @@ pub record IsFor (capacity : ℕ) (s : Service) (bytes : List ℕ) (before : Lis
   pub tag : e.tag ≡ line.tag
   pub ask : (e.ask ≡ line.ask) ⊎ IsGivenUp capacity s before line.ask e.ask
 
--- so is each of them, behind those before it
+-- each entry is one of these, behind the entries before it
 abbrev pub AreFor : ℕ → Service → List ℕ → List Entry → Type 0
 AreFor capacity s bytes list = (i : ℕ) (d : Entry) → i < length list
     → IsFor capacity s bytes (take i list) (slice_index_or list i d)
@@ -232,12 +232,12 @@ AreFor capacity s bytes list = (i : ℕ) (d : Entry) → i < length list
 abbrev pub entry_numbers : List Entry → List ℕ
 entry_numbers list = map (λ e. e.number) list
 
--- how many changes are made together, and answered at once, at most
+-- the maximum number of changes that are made together, and answered at once
 abbrev pub most_together : ℕ
 most_together = 64
 
--- The writer took the answers to these lines: all of them, unless it failed; then those to the last
--- lines may be cut off, so many at most.
+-- The writer accepted all answers to these lines, unless it failed. Then it may lack the answers to
+-- the last lines, at most so many.
 pub record IsWritten (capacity : ℕ) (s : Service) (now : Written) (list : List Entry)
     (why : Option ServiceFault) : Type 0 where
   pub bytes : ℕ
@@ -246,9 +246,9 @@ pub record IsWritten (capacity : ℕ) (s : Service) (now : Written) (list : List
   pub most :
       length (answers capacity s.opening (take (length list - most_together) list)) ≤ bytes
 
--- what a scribe has at a moment: the book; what is seen of its writer; whether a call on the
--- source, the writer or the keeper has failed; why it answers no more; the lines that came and have
--- no answer yet; how many came; and how many seconds have passed by the clock
+-- what a scribe has at a moment: the book; the visible state of its writer; whether a call on the
+-- source, the writer or the keeper has failed; why it answers no more lines; the lines that came
+-- and have no answer yet; how many lines came; and how many seconds have passed by the clock
 pub record Moment : Type 0 where
   pub book : MarkedBook
   pub written : Written
@@ -260,9 +260,9 @@ pub record Moment : Type 0 where
   pub came : ℕ
   pub passed : ℕ
 
--- It answers no more since a call on the source, the writer or the keeper failed; since as many
--- lines came as are read; or since one that came has no answer. Of memory nothing is said, and of
--- threads that no call on the source failed.
+-- The service answers no more lines because a call on the source, the writer or the keeper failed,
+-- because the maximum number of lines came, or because a line has no answer. The fault `Memory`
+-- says nothing, and `Threads` says that no call on the source failed.
 abbrev pub HasCause : Option (List ℕ) → Moment → Option ServiceFault → Type 0
 HasCause input m None = Unit {0}
 HasCause input m (Some fault.Read) = m.source_failed ≡ true
@@ -274,9 +274,9 @@ HasCause input m (Some fault.Lost) =
 HasCause input m (Some fault.Memory) = Unit {0}
 HasCause input m (Some fault.Threads) = m.source_failed ≡ false
 
--- There is one list of lines, each for a line of the input. Each line that came stands in it once,
--- or is pending. The book is the one after the list, and the answers to it are written. They were
--- given at these moments, and keep the limit of failed tries.
+-- There is one list of lines, each for a line of the input. Each line that came is in the list
+-- once, or is pending. The book is the one after the list, and the writer has its answers. These
+-- answers came at these moments, and keep the limit of failed tries.
 pub record Stands (capacity : ℕ) (s : Service) (m : Moment) : Type 0 where
   pub list : List Entry
   pub times : List ℕ
@@ -289,8 +289,8 @@ pub record Stands (capacity : ℕ) (s : Service) (m : Moment) : Type 0 where
       (λ limit. KeepLimit limit m.passed times (told_at capacity s.opening list times))
   pub cause : HasCause s.input m m.fault
 
--- what is left of a service, with these lines pending, where these tell the book and the failure of
--- a keeper, the bytes of a writer, and the failure of a source
+-- what is left of a service with these pending lines, where these functions tell the book and the
+-- failure of a keeper, the bytes of a writer, and the failure of a source
 abbrev pub left_of : {K W S : Type 0} → (K → MarkedBook) → (K → Bool) → (W → Option (List ℕ))
     → (S → Bool) → Served K W S → List ℕ → Moment
 left_of book failed contents source_failed served pending = record {
@@ -305,7 +305,7 @@ left_of book failed contents source_failed served pending = record {
   passed = served.passed;
 }
 
--- so it does at the end, with no line pending unless a fault is told
+-- the service has this meaning at the end, with no pending line unless it reports a fault
 pub record StandsAtEnd (capacity : ℕ) (s : Service) (at : List ℕ → Moment) : Type 0 where
   pub pending : List ℕ
   pub stands : Stands capacity s (at pending)

@@ -1,4 +1,4 @@
--- Which service it is.
+-- The description of a service.
 use Rattle.std.specs.Prelude.{◌≡◌, ℕ, zero, suc, List, [], ◌∷◌, ◌++◌, Option, Some, None, slice_get, codes, drop, map, take}
 use Rattle.rand_core.specs.Stream.{Stream, fill_bytes}
 use Rattle.cred_phc.specs.{Values.SettingValue, Values.setting_of, declared.scheme.Scheme.Scheme, declared.scheme.Scheme.TheVariants.Scrypt}
@@ -9,10 +9,10 @@ use Rattle.cred_many.specs.{Asks.Entry, Asks.entry, Asks.entry_of, Asks.refused,
 use Rattle.std.specs.FinMap as map
 use Rattle.cred_cli.specs.declared.refusal.Refusal.TheVariants as refusal
 
--- the book at first, what the reader has to give, what is seen of the writer before, with which
--- costs and from which source of salts settings are drawn, how many KiB all hashes together may
--- take, what the costs of a line may ask for, and how many tries may fail at a name until the next
--- has to wait, if there is a limit
+-- the first book, the bytes that the reader will give, the visible state of the writer before, the
+-- costs and the source of salts of drawn settings, the KiB of all hashes together, the bounds on
+-- the costs of a line, and the number of tries that may fail at a name until the next has to wait,
+-- if there is a limit
 pub record Service : Type 0 where
   pub opening : MarkedBook
   pub input : Option (List ℕ)
@@ -35,7 +35,7 @@ service opening input before config salts = record {
   tries = config.tries;
 }
 
--- what is left of a source after so many salts of 16 bytes
+-- the rest of a source after so many salts of 16 bytes
 abbrev pub salts_after : Stream → ℕ → Stream
 salts_after first zero = first
 salts_after first (suc n) = (fill_bytes 16 (salts_after first n)).1
@@ -46,18 +46,18 @@ drawn_setting s n = setting_of s.costs (fill_bytes 16 (salts_after s.salts n)).0
 
 -- ---- what is asked
 
--- these lines, from this number on, each as what it asks for
+-- the entries of these lines, whose numbers begin with this one
 unfoldable pub asked_from : Service → ℕ → List (List ℕ) → List Entry
 asked_from s n [] = []
 asked_from s n (line ∷ lines) =
     entry_of n s.most (drawn_setting s n) line ∷ asked_from s (suc n) lines
 
--- what the lines of these bytes come to, of which the last one comes to something else if it has no
+-- the values of the lines of these bytes, where the function changes that of a last line without an
 -- end
 unfoldable pub with_unended : {A : Type 0} → (A → A) → List ℕ → List A → List A
 with_unended f bytes lines = take (line_ends bytes) lines ++ map f (drop (line_ends bytes) lines)
 
--- the last line, if it has no end: as more than that may be lost of it, it is refused under no tag
+-- the last line, if it has no end: it is refused without a tag, since more than its end may be lost
 abbrev pub cut_line : ℕ → Entry
 cut_line number = entry number (codes "*") (refused refusal.Line)
 
@@ -65,13 +65,13 @@ cut_line number = entry number (codes "*") (refused refusal.Line)
 abbrev pub asked : Service → List ℕ → List Entry
 asked s bytes = with_unended (λ e. cut_line e.number) bytes (asked_from s 0 (lines_of bytes))
 
--- it is the line of its number
+-- the entry is the line of its number
 abbrev pub IsLine : Service → List ℕ → Entry → Type 0
 IsLine s bytes e = slice_get (asked s bytes) e.number ≡ Some e
 
 -- ---- none
 
--- one that nobody asks
+-- a service that nobody asks
 abbrev pub no_service : Service
 no_service = record {
   opening = marked_book map.empty (λ _. unmarked);

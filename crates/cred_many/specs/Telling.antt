@@ -1,4 +1,4 @@
--- Of which accounts the answer to a line tells, and what counts of its passwords.
+-- The accounts of which the answer to a line tells, and what counts of the line's passwords.
 use Rattle.std.specs.Prelude.{◌≡◌, ℕ, List, [], ◌∷◌, All, nat_lt, IfSome, length, true}
 use Rattle.cred_book.specs.{Passwords.KeepsTags, Passwords.made_setting, Works.name_of}
 use Rattle.cred_admin.specs.declared.edits.Edit.TheVariants.{Disable, Delete, Rename, Lock, Unlock, Expire}
@@ -42,8 +42,8 @@ abbrev pub HaveRoomAlike : ℕ → MarkedBook → MarkedBook → Type 0
 HaveRoomAlike capacity one other =
     nat_lt (fin.len one.accounts) capacity ≡ nat_lt (fin.len other.accounts) capacity
 
--- what else the answer tells of: for a new name whether there is room, for a list the names, and for
--- a list of marks also their marks
+-- the books are alike in what else the answer tells: for a new name the room, for a list the names,
+-- and for a list of marks also their marks
 abbrev pub AreAlikeBeside : ℕ → Ask → MarkedBook → MarkedBook → Type 0
 AreAlikeBeside capacity (Quick (Account name)) one other = HaveRoomAlike capacity one other
 AreAlikeBeside capacity (Quick (Change (Rename name new))) one other =
@@ -77,9 +77,9 @@ abbrev pub KeepsSame : (List ℕ → List ℕ) → Ask → Type 0
 KeepsSame other ask = IfSome (hashed_for ask)
     (λ r. keeps_password (book.with_passwords other r) ≡ keeps_password r)
 
--- Each other password has the tag of the one in whose place it stands: under the setting of the
--- account's record, and under that of the record that the line may make. Where the password must be
--- changed, it counts too whether the new one is the old one.
+-- Each replacing password has the tag of the password that it replaces, under the setting of the
+-- account's record and under that of the record that the line may make. If the password must be
+-- changed, it also counts whether the new one is the old one.
 abbrev pub KeepsTagsFor : (List ℕ → List ℕ) → MarkedBook → Ask → Type 0
 KeepsTagsFor other marked ask =
     IfSome (record_at marked (name_asked ask))

@@ -1,11 +1,11 @@
--- What is seen of the writer of a service, and what it takes.
+-- What proofs see of the writer of a service, and the bytes that it takes.
 use Rattle.std.specs.Prelude.{◌≡◌, ℕ, ◌<◌, List, [], ◌++◌, Option, None, length, take}
 use Rattle.std.specs.Io.KnownBytes.{Appends}
 use Rattle.cred_cli.specs.Watched.{inner_of, name_of, taken_of}
 use Rattle.cred_cli.specs.declared.watched.Watched.{Watched}
 
--- A writer at a moment: its name; all the bytes that calls on it took, whatever it is, a pipe or a
--- terminal; and what it holds, if its contract names that.
+-- A writer at a moment, a pipe or a terminal: its name; all the bytes that calls on it took; and
+-- the bytes that it holds, if its contract names them.
 pub record Written : Type 0 where
   pub name : ℕ
   pub taken : List ℕ
@@ -24,10 +24,10 @@ pub record TakesMore (old new : Written) (bytes : List ℕ) : Type 0 where
   pub taken : new.taken ≡ old.taken ++ bytes
   pub held : Appends old.held new.held bytes
 
--- of these bytes it took some, but not all
+-- the writer took some of these bytes, but not all
 abbrev pub TakesFront : Written → Written → List ℕ → Type 0
 TakesFront old new bytes = (n : ℕ) × (n < length bytes) × TakesMore old new (take n bytes)
 
--- of no writer
+-- the state of no writer
 abbrev pub nothing_written : Written
 nothing_written = record { name = 0; taken = []; held = None }

@@ -40,13 +40,13 @@ verdict_effect (Told r) = reply_effect r
 verdict_effect Expired = effect.Right
 verdict_effect Same = effect.Right
 
--- a new password that no present one was asked for forgives the failures
+-- a new password without the present one forgives the failures
 abbrev pub reset_effect : Reply → Effect
 reset_effect reply.Enrolled = effect.Forgiven
 reset_effect reply.Replaced = effect.Forgiven
 reset_effect _ = effect.Nothing
 
--- so does an administrator, if the book has the account
+-- an administrator forgives them too, if the book has the account
 abbrev pub forgiving_effect : Bool → Effect
 forgiving_effect true = effect.Forgiven
 forgiving_effect false = effect.Nothing
@@ -55,12 +55,12 @@ abbrev pub first_effect : Verdict → Effect
 first_effect (Told r) = reset_effect r
 first_effect _ = effect.Nothing
 
--- of an operation that tries a password, or of a first one
+-- the effect of an operation that tries a password, or that sets a first one
 abbrev pub effect_by : Bool → Verdict → Effect
 effect_by true v = verdict_effect v
 effect_by false v = first_effect v
 
--- at a moment
+-- the event of an effect at a moment
 abbrev pub event_of : Effect → ℕ → Option Event
 event_of effect.Right t = Some (Right t)
 event_of effect.Wrong t = Some (Wrong t)

@@ -12,7 +12,8 @@ abbrev pub seen_by : Option Sight → ℕ
 seen_by None = 0
 seen_by (Some s) = s.changes
 
--- of the line of this number: once more, and once for each change until it is given up
+-- the turns of an open line of this number: one, and one for each change that it may still see
+-- before it is given up
 abbrev pub turns_of : ℕ → Open → ℕ
 turns_of number o = if o.number == number then suc (tries - seen_by o.sight) else 0
 
@@ -48,8 +49,8 @@ pub record HaveTurns (works back : List (Entry × Task)) (old new : List Open) :
       All (λ w. Contains back w ⊎ (turns_left w.0.number new ≤ turns_left w.0.number old - 1)) works
   pub others : KeepsTurns old new
 
--- What the works that wait, and that of a message, have become: each waits on, or its line has
--- used a turn.
+-- The state of the waiting works and of a message's work: each waits on, or its line has used a
+-- turn.
 abbrev pub AreTakenIn : {J : Type 0} → Message J → List (Entry × Task) → List (Entry × Task)
     → List Open → List Open → Type 0
 AreTakenIn (Hashed work) before after old new = HaveTurns (before ++ work ∷ []) after old new
@@ -73,7 +74,7 @@ abbrev pub has_number : ℕ → List ℕ → Bool
 has_number number [] = false
 has_number number (n ∷ ns) = (n == number) || has_number number ns
 
--- it does what each call on a scribe does that tells no fault
+-- the call does what each call on a scribe does that reports no fault
 pub record IsCall (old : List Open) (call : Call) : Type 0 where
   pub keeps : KeepsTurns (with_opened old call.opens) call.after
   pub fewer : (number : ℕ) → has_number number call.works ≡ true
@@ -83,17 +84,17 @@ abbrev pub Follow : List Open → List Call → Type 0
 Follow old [] = Unit {0}
 Follow old (call ∷ calls) = IsCall old call × Follow call.after calls
 
--- what is open after the last
+-- the lines that are open after the last call
 abbrev pub open_after : List Open → List Call → List Open
 open_after old [] = old
 open_after old (call ∷ calls) = open_after call.after calls
 
--- how many of them took the work of this line
+-- how many of these calls took the work of this line
 abbrev pub works_of : ℕ → List Call → ℕ
 works_of number [] = 0
 works_of number (call ∷ calls) =
     (if has_number number call.works then 1 else 0) + works_of number calls
 
--- none of them opens this line
+-- none of these calls opens this line
 abbrev pub OpenOthers : ℕ → List Call → Type 0
 OpenOthers number calls = All (λ call. call.opens ≢ Some number) calls

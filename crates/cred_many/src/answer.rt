@@ -1,4 +1,4 @@
-//! Operations without hashing, each done in one go.
+//! Operations without hashing, each done in one call.
 
 ghost use Rattle.std.specs.Prelude.{◌≡◌, ◌++◌, ◌∷◌, IfOk, is_some, OnErr, OnOk, [], false, true};
 ghost use Rattle.cred_admin.specs.{Edits.disabling, Marked.mark_in};
@@ -16,7 +16,7 @@ use cred_file::Mark;
 use cred_phc::write_record;
 use std::alloc::{AllocError, Global};
 
-/// Does an operation that needs no hash. Without memory the book stays.
+/// Does an operation that needs no hash. If memory runs out, the book stays as it was.
 pub(crate) fn do_ask<K: Host>(
     alloc: Global,
     keeper: &mut K,
@@ -80,7 +80,7 @@ fn show<K: Host>(alloc: Global, keeper: &K, name: &Name) -> Result<AnswerLine, A
     }
 }
 
-/// A text behind these marks, in a line.
+/// Writes a line with these marks and a text behind them.
 fn behind_marks(alloc: Global, mark: Mark, text: &[u8]) -> Result<AnswerLine, AllocError>
     ensures { IfOk result
         (λ line. line_bytes line ≡ mark_text mark ++ text.now ++ 10 ∷ []) }
@@ -92,8 +92,8 @@ fn behind_marks(alloc: Global, mark: Mark, text: &[u8]) -> Result<AnswerLine, Al
     Ok(AnswerLine::Made(line))
 }
 
-/// Removes an account's record, and answers with its line. Without memory the
-/// book stays.
+/// Removes an account's record, and answers with its line. If memory runs out, the book stays as it
+/// was.
 fn disable_with_line<K: Host>(
     alloc: Global,
     keeper: &mut K,

@@ -13,23 +13,23 @@ use cred_phc::{Password, Record, Setting};
 pub(crate) enum Ask {
     /// An operation that needs no hash.
     Quick(QuickAsk),
-    /// An operation on an account's record, answered by its reply.
+    /// An operation on an account's record, whose answer is its reply.
     Whole(Request),
-    /// Verifies the password, and rehashes a record of other costs if it is right.
+    /// Verifies the password, and rehashes a record of other costs if the password is right.
     Login(Name, Password, Setting),
     /// Stores a record of this password at an account, in place of any other.
     Reset(Name, Password, Setting),
     /// Forgives the failed tries at an account.
     Forgive(Name),
-    /// A try at this account is too early by this many seconds. No line asks for it: a line that
-    /// tries a password there is answered so.
+    /// A try at this account is too early by this many seconds. No line asks for this operation: it
+    /// is the answer to a line that tries a password there.
     Later(Name, u64),
 }
 
 /// An operation that needs no hash, or the fault of the line.
 #[derive(Clone, Copy)]
 pub(crate) enum QuickAsk {
-    /// Adds a name, with no record.
+    /// Adds a name without a record.
     Account(Name),
     /// Stores this record at an account.
     Load(Name, Record),
@@ -39,23 +39,23 @@ pub(crate) enum QuickAsk {
     List(Name, u16),
     /// Asks for the marked accounts from this name on, with their marks, at most so many.
     ListMarks(Name, u16),
-    /// Changes an account for which no password is asked.
+    /// Changes an account without asking for its password.
     Edit(Edit),
     /// Removes an account's record, and asks for its line.
     DisableShown(Name),
-    /// The line is refused.
+    /// A line that is refused.
     Bad(Refusal),
 }
 
 impl Ask {
-    /// The operation of a refused line.
+    /// Returns the operation of a refused line.
     pub(crate) fn refused(why: Refusal) -> Ask
         ensures { result ≡ refused why }
     {
         Ask::Quick(QuickAsk::Bad(why))
     }
 
-    /// The same operation, or a refusal if its setting or record needs more than is allowed.
+    /// Returns the operation, or a refusal if its setting or record needs more than these bounds.
     pub(crate) fn within(self, most: &CostBounds) -> Ask
         requires { IsSound self }
         ensures ask { result ≡ within most.now self }
@@ -74,12 +74,12 @@ impl Ask {
         matches!(self, Ask::Reset(..))
     }
 
-    /// Whether the operation is done as its line comes, without a hash.
+    /// Whether the scribe does the operation when its line comes, without a hash.
     pub(crate) fn is_quick(&self) -> bool {
         matches!(self, Ask::Quick(_) | Ask::Forgive(_))
     }
 
-    /// The account whose password the operation tries.
+    /// Returns the account whose password the operation tries.
     pub(crate) fn tried(&self) -> Option<Name>
         ensures name { IfSome result (λ name. name ≡ name_asked self.now) }
         ensures tried { is_some result ≡ is_try self.now }

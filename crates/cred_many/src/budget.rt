@@ -7,8 +7,8 @@ use std::marker::Brand;
 use std::sync::ledger::{Book, Ledger, Share};
 use std::sync::{Condvar, Mutex, Wait};
 
-/// Names the ledger of one budget, which records the memory that threads have reserved. The call
-/// of a function that is generic over it with `Brand` picks the ledger.
+/// Names the ledger of one budget, which records the memory that threads have reserved. A function
+/// is generic over the ledger, and a call with `Brand` picks one.
 pub(crate) trait Limit: Ledger {
     ghost use Rattle.std.specs.Prelude.{ℕ};
 
@@ -20,9 +20,9 @@ impl Limit for Brand {
     ghost total = { 0 };
 }
 
-/// The memory of all hashes at one time, in KiB. Hashes take turns: one that needs more than is
-/// free waits, and others wait behind it. Memory that a thread keeps between two hashes isn't
-/// counted, so nobody waits for an idle thread.
+/// The memory of all hashes at one time, in KiB. Hashes take turns: a hash that needs more than is
+/// free waits, and others wait behind it. The budget doesn't count the memory that a thread keeps
+/// between two hashes, so nobody waits for an idle thread.
 #[derive(Drop)]
 pub(crate) struct Budget<L: Limit> {
     total: u64,
@@ -50,8 +50,8 @@ pub(crate) struct Idle<L: Limit> {
     ghost none: { share.amount ≡ 0 },
 }
 
-/// The share of a thread that has reserved so many KiB of a budget. It isn't `Drop`: it must be
-/// returned, once and whole.
+/// The share of a thread that has reserved so many KiB of a budget. The share isn't `Drop`: the
+/// thread must return it, once and whole.
 pub(crate) struct Taken<L: Limit> {
     kib: u64,
     share: Share<L>,
@@ -61,7 +61,7 @@ pub(crate) struct Taken<L: Limit> {
 }
 
 impl<L: Limit> Budget<L> {
-    /// A budget of so many KiB, all of them free.
+    /// Creates a budget of so many KiB, all of them free.
     pub(crate) fn new(total: u64, taken: Book<L>) -> Budget<L>
         requires total { total ≡ L.total }
         requires none { taken.total ≡ 0 }
@@ -74,7 +74,7 @@ impl<L: Limit> Budget<L> {
         }
     }
 
-    /// Reserves so many KiB, once they are free; fails if the budget is smaller.
+    /// Reserves so many KiB once they are free, or fails if the budget is smaller.
     pub(crate) fn take<T: Wait>(&self, rt: &T, idle: Idle<L>, kib: u64) -> Result<Taken<L>, Idle<L>>
         ensures taken { IfOk result (λ taken. taken.kib ≡ kib) }
         ensures never { IfErr result (λ _. self.now.total < kib) }
@@ -124,7 +124,7 @@ impl<L: Limit> Free<L> {
     }
 }
 
-/// A share for each of so many threads.
+/// Creates an empty share for each of so many threads.
 pub(crate) fn parts<L: Limit>(
     alloc: Global,
     share: Share<L>,

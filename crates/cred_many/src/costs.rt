@@ -8,10 +8,10 @@ use cred_cli::memory_alone;
 use cred_phc::{Scheme, Setting};
 use std::marker::Model;
 
-/// A salt for settings of which nothing is kept.
+/// A salt for settings that nobody keeps.
 pub(crate) const NO_SALT: [u8; 16] = [0; 16];
 
-/// The scheme with its numbers of new records, for lines without a setting.
+/// The scheme and the numbers of new records, for lines without a setting.
 #[derive(Clone, Copy)]
 pub struct Costs {
     scheme: Scheme,
@@ -31,7 +31,7 @@ impl Model for Costs {
 }
 
 impl Costs {
-    /// The costs of a setting, unless it is of version 0x10, which only old records have.
+    /// Returns the costs of a setting, unless it is of version 0x10, which only old records have.
     pub fn of(setting: &Setting) -> Option<Costs>
         ensures same { IfSome result (λ costs. costs ≡ setting.now.scheme) }
         ensures old { IfNone result (is_current setting.now.scheme ≡ false) }
@@ -44,21 +44,21 @@ impl Costs {
         })
     }
 
-    /// The scheme with its numbers.
+    /// Returns the scheme with its numbers.
     pub fn scheme(&self) -> Scheme
         ensures { result ≡ self.now }
     {
         self.scheme
     }
 
-    /// The memory of a hash with these costs in KiB.
+    /// Returns the memory of a hash with these costs in KiB.
     pub fn memory(&self) -> u64
         ensures { result ≡ memory_alone self.now }
     {
         memory_alone(&self.setting(&NO_SALT))
     }
 
-    /// A setting with this salt.
+    /// Returns a setting with this salt.
     pub(crate) fn setting(&self, salt: &[u8; 16]) -> Setting
         ensures setting { result ≡ setting_of self.now salt.now }
         ensures current { is_current result.scheme ≡ true }

@@ -1,4 +1,4 @@
-//! Reading lines.
+//! Reads lines.
 
 ghost use Rattle.std.specs.Prelude.{◌≡◌, [], ◌∷◌, ◌+◌, ◌^◌, ◌<◌, IfSome, length};
 ghost use Rattle.cred_cli.specs.Script.{line_ends, lines_of};
@@ -32,7 +32,7 @@ pub(crate) struct LineDecoder<J: ServiceId, G: Rng> {
 }
 
 impl<J: ServiceId, G: Rng> LineDecoder<J, G> {
-    /// The decoder before the first line.
+    /// Creates the decoder, before the first line.
     pub(crate) fn new(config: &ServiceConfig, salts: G) -> LineDecoder<J, G>
         requires costs { config.now.costs ≡ J.service.costs }
         requires most { config.now.most ≡ J.service.most }
@@ -68,7 +68,7 @@ impl<J: ServiceId, G: Rng> LineDecoder<J, G> {
         Some(self.end_line())
     }
 
-    /// The last line, if it has no end.
+    /// Returns the last line, if it has no end.
     pub(crate) fn last(&self) -> Option<Line<J>>
         requires { NothingIsLeft J.service.input (place self.now.start self.now.number) }
         ensures next { IfSome result (λ line. line.number ≡ self.now.number) }
@@ -81,7 +81,7 @@ impl<J: ServiceId, G: Rng> LineDecoder<J, G> {
         Some(Line::cut(self.number))
     }
 
-    /// The line that has ended; the next begins.
+    /// Returns the line that has ended, and begins the next.
     fn end_line(&mut self) -> Line<J>
         requires whole { IfSome J.service.input
             (λ all. IsWholeLine all (place self.old.start self.old.number)) }

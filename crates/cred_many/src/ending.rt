@@ -7,7 +7,7 @@ use cred_admin::Host;
 use cred_cli::Watched;
 use std::io::Write;
 
-/// The maximum number of lines; they take centuries to come.
+/// The maximum number of lines. So many lines take centuries to come.
 pub(crate) const MOST_LINES: u64 = 1 << 63;
 
 /// The remains of a service.
@@ -19,7 +19,7 @@ pub struct Served<K: Host, W: Write, S: Source> {
     pub source: Option<S>,
     /// The number of lines.
     pub lines: u64,
-    /// The seconds that passed by the clock; none if failed tries weren't limited.
+    /// The seconds that passed by the clock, or 0 without a limit of failed tries.
     pub passed: u64,
     /// The reason why not all lines of the input came and were answered.
     pub fault: Option<ServiceFault>,
@@ -28,7 +28,7 @@ pub struct Served<K: Host, W: Write, S: Source> {
 /// The reason why no more lines come.
 #[derive(Drop)]
 pub(crate) enum End<S> {
-    /// The whole input came, and all its lines, so many, were handed out.
+    /// The whole input came, and the reader handed out all its lines. Their number follows.
     Whole(u64),
     /// A call on the source failed.
     Failed(S),

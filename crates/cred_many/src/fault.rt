@@ -18,7 +18,7 @@ pub enum ServiceFault {
     /// No thread could be started.
     #[error("no thread could be started")]
     Threads,
-    /// The keeper of the book failed; the change that was under way may be kept or not.
+    /// The keeper of the book failed. The change that was under way may or may not be kept.
     #[error("the keeper of the book failed")]
     Keeper,
     /// More lines came than can be counted.

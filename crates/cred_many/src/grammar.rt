@@ -1,4 +1,4 @@
-//! Reading the operation of a tagged line.
+//! Reads the operation of a tagged line.
 
 ghost use Rattle.std.specs.Prelude.{◌≡◌, IfOk, map, true};
 ghost use Rattle.cred_phc.specs.Ranges.{is_current};
@@ -12,7 +12,7 @@ use cred_phc::{PhcError, Setting, decimal};
 /// The maximum number of names in a list, with their marks or without.
 const MOST_NAMES: u64 = 1000;
 
-/// The operation of the words after the tag, with the drawn setting if they give none.
+/// Reads the operation of the words after the tag, with the drawn setting if the words give none.
 pub(crate) fn ask_of(drawn: Setting, words: &[&[u8]]) -> Result<Ask, Refusal>
     requires { is_current drawn.scheme ≡ true }
     ensures ask { result ≡ ask_of drawn (map (λ s. s.now) words.now) }
@@ -103,7 +103,7 @@ fn rename_ask(fields: &[&[u8]]) -> Result<QuickAsk, Refusal>
     }
 }
 
-/// An operation that needs a hash.
+/// Reads an operation that needs a hash.
 fn hashed_ask(drawn: Setting, word: &[u8], fields: &[&[u8]]) -> Result<Ask, Refusal>
     requires { is_current drawn.scheme ≡ true }
     ensures ask { result ≡ hashed_ask drawn word.now (map (λ s. s.now) fields.now) }

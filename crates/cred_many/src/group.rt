@@ -1,4 +1,4 @@
-//! Changes that are made together.
+//! Changes that the scribe makes together.
 
 ghost use Rattle.std.specs.Prelude.{◌≡◌, ◌∷◌, ◌++◌, [], IfErr, None, OnErr, OnOk, length, take};
 ghost use Rattle.std.specs.FinMap as map;
@@ -13,7 +13,8 @@ use std::alloc::{AllocError, Global};
 /// The maximum number of changes in one group.
 pub(crate) const MOST_TOGETHER: usize = 64;
 
-/// Hashed lines, the records that they give their accounts, and their answers one after another.
+/// Hashed lines, the records that these lines give their accounts, and their answers one after
+/// another.
 #[derive(Drop)]
 pub(crate) struct Group<J: ServiceId> {
     pub(crate) works: Vec<Hashed<J>>,
@@ -22,7 +23,7 @@ pub(crate) struct Group<J: ServiceId> {
 }
 
 impl<J: ServiceId> Group<J> {
-    /// A group of no lines.
+    /// Creates a group of no lines.
     pub(crate) fn new(alloc: Global) -> Group<J>
         ensures works { result.works.items ≡ [] }
         ensures changed { result.changed ≡ map.empty }
@@ -35,8 +36,8 @@ impl<J: ServiceId> Group<J> {
         }
     }
 
-    /// Adds a line with its change. The line comes back if memory runs out, or the group changes
-    /// its account already.
+    /// Adds a line with its change. The line comes back if memory runs out or the group already
+    /// changes its account.
     pub(crate) fn push(&mut self, work: Hashed<J>, change: &Change) -> Result<(), Hashed<J>>
         ensures works { OnOk result (self.new.works.items ≡ self.old.works.items ++ work ∷ []) }
         ensures first { OnOk result

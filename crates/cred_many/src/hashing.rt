@@ -24,8 +24,8 @@ pub(crate) struct Hashing<L: Limit> {
 }
 
 impl<L: Limit> Hashing<L> {
-    /// Hashes jobs as long as they come. Memory is kept from hash to hash, up to the need of new
-    /// records.
+    /// Hashes jobs as long as they come. The thread keeps its memory from one hash to the next, up
+    /// to what new records need.
     #[tactic(auto, using(crate::proofs::Inboxes::is_report))]
     pub(crate) fn work<J: ServiceId, T: Wait>(
         &self,
@@ -50,7 +50,7 @@ impl<L: Limit> Hashing<L> {
         }
     }
 
-    /// Hashes a job, once the memory for it is free.
+    /// Hashes a job once the memory for its hashes is free.
     fn hashed<J: ServiceId, T: Wait>(
         &self,
         rt: &T,
@@ -72,7 +72,7 @@ impl<L: Limit> Hashing<L> {
         }
     }
 
-    /// The memory of a ticket's hashes, one after another, in KiB.
+    /// Returns the memory of a ticket's hashes, one after another, in KiB.
     fn memory_of(&self, ticket: &Ticket) -> u64
         ensures { result ≡ job_memory self.now.costs ticket.now }
     {
@@ -80,7 +80,7 @@ impl<L: Limit> Hashing<L> {
             .max(made_memory(&ticket.request()))
     }
 
-    /// The memory of a comparison with this record in KiB.
+    /// Returns the memory of a comparison with this record in KiB.
     fn compared_memory(&self, copy: Option<Record>) -> u64
         ensures { result ≡ compared_memory self.now.costs copy }
     {
@@ -91,7 +91,7 @@ impl<L: Limit> Hashing<L> {
     }
 }
 
-/// The memory of the hash for the record that a request may make, in KiB.
+/// Returns the memory of the hash for the record that a request may make, in KiB.
 fn made_memory(request: &Request) -> u64
     ensures { result ≡ made_memory request.now }
 {

@@ -17,14 +17,14 @@ use std::alloc::{AllocError, Global};
 use std::collections::LinkedList;
 use std::sync::Wait;
 
-/// The messages of the thread that reads, up to a moment. No value of it is made.
+/// The messages of the thread that reads, up to a moment. No code builds such a value.
 pub(crate) struct Progress<J: ServiceId> {
     lines: LinkedList<Line<J>>,
     ended: bool,
 }
 
-/// What the holder of one end knows: whether it sends lines, and which it sent; whether it
-/// receives, and which lines it received. No value of it is made.
+/// The knowledge of the holder of one end: whether the holder sends lines, and which lines it sent;
+/// whether the holder receives, and which lines it received. No code builds such a value.
 pub(crate) struct Known<J: ServiceId> {
     sends: bool,
     takes: bool,
@@ -119,7 +119,7 @@ impl<J: ServiceId> Join<Known<J>> for Parts {
     ghost spent = { no_part };
 }
 
-/// An end more, which sends no lines.
+/// One more end, which sends no lines.
 struct Spare;
 
 impl<J: ServiceId> Split<Known<J>> for Spare {
@@ -130,7 +130,7 @@ impl<J: ServiceId> Split<Known<J>> for Spare {
     ghost right = { λ k. no_part };
 }
 
-/// What was received is what was sent.
+/// The received lines are the sent ones.
 struct AllArrived;
 
 impl<J: ServiceId> Lesson<Message<J>, Known<J>> for AllArrived {
@@ -172,7 +172,7 @@ pub(crate) struct Inbox<J: ServiceId> {
     ghost over: { ended ≡ (view pass).got.ended },
 }
 
-/// The ends of a channel with room for so many messages.
+/// Creates the ends of a channel with room for so many messages.
 pub(crate) fn make_inbox<J: ServiceId>(
     alloc: Global,
     room: usize,
@@ -202,7 +202,7 @@ pub(crate) fn make_inbox<J: ServiceId>(
 }
 
 impl<J: ServiceId> ReaderEnd<J> {
-    /// Sends the next line, once there is room for it.
+    /// Sends the next line once there is room for this line.
     pub(crate) fn send_line<T: Wait>(
         &mut self,
         rt: &T,
@@ -231,7 +231,7 @@ impl<J: ServiceId> ReaderEnd<J> {
 }
 
 impl<J: ServiceId> WorkerEnd<J> {
-    /// An end for one more thread.
+    /// Creates an end for one more thread.
     pub(crate) fn another(&mut self) -> Result<WorkerEnd<J>, AllocError> {
         let WorkerEnd { end, pass } = self;
         let theirs = end.try_clone()?;
@@ -278,7 +278,7 @@ impl<J: ServiceId> Inbox<J> {
         Ok(message)
     }
 
-    /// The next message, if one has arrived.
+    /// Receives the next message, if one has arrived.
     pub(crate) fn try_recv<T: Wait>(&mut self, rt: &T) -> Result<Message<J>, TryRecvError>
         ensures next { IfOk result (λ message. MayFollow (view self.old.pass).got message) }
         ensures got { IfOk result (λ message. (view self.new.pass).got
@@ -294,7 +294,7 @@ impl<J: ServiceId> Inbox<J> {
         Ok(message)
     }
 
-    /// Compares what was received, up to the end of the lines, with what was sent.
+    /// Compares the received lines, up to their end, with the sent lines.
     pub(crate) fn compare(self, reader: ReaderEnd<J>)
         requires channel { receives_on self.end ≡ sends_on reader.end }
         requires ended { (view self.pass).got.ended ≡ true }

@@ -1,5 +1,4 @@
-//! Laws of tagged lines. A law is a function that does nothing; its contract is what
-//! holds.
+//! Laws of tagged lines. A law is a function that does nothing: its contract states what holds.
 
 ghost use Rattle.std.specs.Prelude.{◌≡◌, ◌≢◌, ◌∷◌, ◌≤◌, All, List, Some, ℕ, true};
 ghost use Rattle.std.specs.FinMap as map;
@@ -11,9 +10,9 @@ ghost use Rattle.cred_many.specs.{Served.done, Telling.AreAlikeAt, Telling.AreAl
 ghost use Rattle.cred_many.specs.{Answered.AreCalls, Answered.KeepsLimit, Answered.StandsBehind, Answered.State, Answered.answered_in, Service.Service};
 ghost use Rattle.cred_many.specs.{Scribe.IsPending, Scribe.numbers, Turns.Call, Turns.Follow, Turns.OpenOthers, Turns.open_after, Turns.works_of};
 
-/// An answer tells of the accounts alone that its line names, and the line leaves every other as it
-/// is, with its mark. Of a new name it also tells whether there is room; a list tells the names and
-/// no more, and a list of marks the marks.
+/// An answer tells only of the accounts that its line names, and the line leaves every other
+/// account as it is, with its mark. The answer about a new name also tells whether there is room. A
+/// list tells only the names, and a list of marks also tells the marks.
 pub fn an_answer_tells_of_its_accounts()
     ensures tells { (capacity : ℕ) (one other : MarkedBook) (ask : Ask)
         → AreAlikeFor capacity ask one other
@@ -23,19 +22,19 @@ pub fn an_answer_tells_of_its_accounts()
         → AreAlikeAt name (done capacity book ask).1 book }
 {}
 
-/// A password counts by its tags alone. Another may replace it that has the same tag under the
-/// setting of the account's record, and under that of the record that the line may make: then the
-/// answer is the same, and so is the book after it. Where the password must be changed, it also
-/// counts whether the new one is the old one.
+/// A password counts by its tags alone. If another password has the same tag under the setting of
+/// the account's record, and under the setting of the record that the line may make, both get the
+/// same answer and leave the same book. If the password must be changed, it also counts whether the
+/// new one is the old one.
 pub fn a_password_counts_by_its_tags()
     ensures { (other : List ℕ → List ℕ) (capacity : ℕ) (book : MarkedBook) (ask : Ask)
         → KeepsTagsFor other book ask
         → done capacity book (with_passwords other ask) ≡ done capacity book ask }
 {}
 
-/// A lock holds until the account is unlocked, deleted or given another name, whatever lines come.
-/// Until then no try at it is answered that it is right, and none changes anything: each is
-/// answered as a wrong password is, or that the account has no record, or one already.
+/// A lock holds until a line unlocks, deletes or renames the account, whatever other lines come.
+/// Until then no answer tells that a password is right, and no try changes anything. Each try gets
+/// the answer to a wrong password, or the answer that the account has no record or already has one.
 pub fn a_lock_holds()
     ensures locks { (capacity : ℕ) (book : MarkedBook) (name : List ℕ)
         → map.contains_key book.accounts name ≡ true
@@ -51,8 +50,8 @@ pub fn a_lock_holds()
         → record_at (done capacity book ask).1 name ≡ record_at book name }
 {}
 
-/// A mark concerns its account alone: lines that don't name it and list no marks are answered as
-/// without the mark, and leave the same book, but for the mark.
+/// A mark concerns its account alone: lines that don't name the account and list no marks get the
+/// same answers as without the mark, and leave the same book, but for the mark.
 pub fn a_mark_concerns_its_account_alone()
     ensures answers { (capacity : ℕ) (book : MarkedBook) (name : List ℕ) (mark : Mark)
         (lines : List Entry) → All (λ e. IsApart name e.ask) lines
@@ -63,8 +62,9 @@ pub fn a_mark_concerns_its_account_alone()
         ≡ with_mark (book_after capacity book lines) name mark }
 {}
 
-/// Answers keep their moments: what a scribe answered at a moment it has answered at that moment
-/// after each later call. By these very moments its answers keep the limit of failed tries.
+/// Answers keep their moments: after each later call, the scribe still has each answer at the
+/// moment at which it gave that answer. By these moments its answers keep the limit of failed
+/// tries.
 pub fn answers_keep_their_moments()
     ensures keeps { (capacity : ℕ) (s : Service) (states : ℕ → State) → AreCalls capacity s states
         → (list : List Entry) (times : List ℕ) → answered_in capacity s (states 0) list times
@@ -73,8 +73,8 @@ pub fn answers_keep_their_moments()
         → answered_in capacity s m list times → KeepsLimit capacity s m list times }
 {}
 
-/// A line is hashed at most nine times. Once it is opened, by whatever calls on the scribe, the
-/// scribe has answered it when nine of them took what came of its hash, unless a fault is told.
+/// A line is hashed at most nine times. After the scribe opened a line and nine calls took the
+/// results of its hashes, the scribe has answered the line, unless it reports a fault.
 pub fn a_line_is_answered_after_nine_hashes()
     ensures { (old : List Open) (came : Call) (calls : List Call) (number : ℕ)
         → (IsPending number (numbers old) → ⊥) → came.opens ≡ Some number

@@ -1,6 +1,6 @@
-//! Answers many at once from one kept book, hashing on all processors.
+//! Answers many clients at once from one kept book, and hashes on all processors.
 //!
-//! Lines are tagged, and answered in any order. The bytes that are written are the answers of one
+//! Lines have tags, and their answers come in any order. The written bytes are the answers of one
 //! history, in which one thread does each line whole.
 #![tactic(auto)]
 

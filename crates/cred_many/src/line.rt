@@ -1,4 +1,4 @@
-//! A tagged line, after it was read.
+//! A tagged line that was read.
 
 ghost use Rattle.std.specs.{Prelude.◌≡◌, Prelude.IfSome, Prelude.map, Prelude.true, List.list_all};
 ghost use Rattle.cred_phc.specs.Ranges.{is_current};
@@ -58,7 +58,8 @@ impl<J: ServiceId> Line<J> {
         }
     }
 
-    /// The last line of an input, if it has no end: more than that may be lost of it.
+    /// Refuses the last line of an input, which has no end: more of this line than its end may be
+    /// lost.
     pub(crate) fn cut(number: u64) -> Line<J>
         requires { IfSome J.service.input (λ bytes. IsLine J.service bytes (cut_line number)) }
         ensures { result ≡ cut_line number }
@@ -72,7 +73,7 @@ impl<J: ServiceId> Line<J> {
         }
     }
 
-    /// The number among the lines, from 0 on.
+    /// Returns the line's number among the lines, from 0 on.
     pub(crate) fn number(&self) -> u64
         ensures number { result ≡ self.now.number }
         ensures came { IfSome J.service.input (λ bytes. IsLine J.service bytes self.now) }
@@ -80,7 +81,7 @@ impl<J: ServiceId> Line<J> {
         self.number
     }
 
-    /// The tag.
+    /// Returns the tag.
     pub(crate) fn tag(&self) -> &[u8]
         ensures tag { result.now ≡ self.now.tag }
         ensures came { IfSome J.service.input (λ bytes. IsLine J.service bytes self.now) }
@@ -88,7 +89,7 @@ impl<J: ServiceId> Line<J> {
         self.tag.as_slice()
     }
 
-    /// The operation.
+    /// Returns the operation.
     pub(crate) fn ask(&self) -> Ask
         ensures ask { result ≡ self.now.ask }
         ensures sound { IsSound result }
@@ -98,7 +99,7 @@ impl<J: ServiceId> Line<J> {
     }
 }
 
-/// The tag of a line and its operation. A line without a tag is answered under a star.
+/// Reads the tag of a line and its operation. The answer to a line without a tag has a star.
 fn parts(drawn: Setting, line: &[u8]) -> (Tag, Ask)
     requires { is_current drawn.scheme ≡ true }
     ensures tagged { result ≡ tagged_of drawn line.now }
@@ -127,7 +128,7 @@ fn tagged(drawn: Setting, pieces: &[&[u8]]) -> (Tag, Ask)
     }
 }
 
-/// A refused line without a tag: its answer has a star.
+/// Refuses a line without a tag: its answer has a star.
 fn untagged(why: Refusal) -> (Tag, Ask)
     ensures { result ≡ untagged why }
 {
@@ -146,7 +147,7 @@ fn tag_of(text: &[u8]) -> Option<Tag>
     ShortBytes::new(text, 1)
 }
 
-/// Whether a tag may contain each of the bytes.
+/// Whether a tag may contain each of these bytes.
 fn has_tag_bytes(bytes: &[u8]) -> bool
     ensures { result ≡ list_all is_tag_byte bytes.now }
 {

@@ -12,7 +12,7 @@ use cred_book::{Name, Register};
 use cred_file::Mark;
 use std::alloc::{AllocError, Global};
 
-/// The word `names` and the names from this one on, at most so many, in a line.
+/// Writes a line of the word `names` and the names from this one on, at most so many.
 pub(crate) fn names_line(
     alloc: Global,
     accounts: &Register,
@@ -29,7 +29,7 @@ pub(crate) fn names_line(
     Ok(line)
 }
 
-/// Adds a space and a name for each.
+/// Adds a space and a name for each of these names.
 fn push_names(
     line: &mut Vec<u8>,
     accounts: &Register,
@@ -53,8 +53,8 @@ fn push_names(
     Ok(())
 }
 
-/// The word `marks` and the marked names from this one on, with their marks, at most so many, in a
-/// line.
+/// Writes a line of the word `marks` and the marked names from this one on, at most so many, with
+/// their marks.
 pub(crate) fn marks_line<K: Host>(
     alloc: Global,
     keeper: &K,
@@ -72,7 +72,7 @@ pub(crate) fn marks_line<K: Host>(
     Ok(line)
 }
 
-/// Adds a space, a name and its mark for each.
+/// Adds a space, a name and its mark for each of these names.
 fn push_marks<K: Host>(
     line: &mut Vec<u8>,
     keeper: &K,
@@ -114,7 +114,7 @@ fn push_mark(line: &mut Vec<u8>, name: &Name, mark: Mark) -> Result<(), AllocErr
     push_mark_text(line, mark)
 }
 
-/// Adds `!` of a lock, and `~` of a password that must be changed.
+/// Adds `!` for a lock, and `~` for a password that must be changed.
 pub(crate) fn push_mark_text(line: &mut Vec<u8>, mark: Mark) -> Result<(), AllocError>
     ensures { OnOk result (line.new.items ≡ line.old.items ++ mark_text mark) }
 {

@@ -25,12 +25,12 @@ pub(crate) struct MessageLoop<J: ServiceId> {
     stopwatch: Stopwatch,
     jobs: Sender<Job<J>>,
     room: Sender<()>,
-    /// Changes, which are made together.
+    /// Changes that wait for a common commit.
     changes: Vec<Hashed<J>>,
 }
 
 impl<J: ServiceId> MessageLoop<J> {
-    /// The loop before the first message.
+    /// Creates the loop, before the first message.
     pub(crate) fn new(
         alloc: Global,
         stopwatch: Stopwatch,
@@ -78,8 +78,8 @@ impl<J: ServiceId> MessageLoop<J> {
         unreachable!()
     }
 
-    /// While changes wait, handles the messages that have arrived, so that their changes are made
-    /// together. Ends after as many messages as changes may wait.
+    /// While changes wait, handles the messages that have arrived, so that one commit makes the
+    /// changes of all. Ends after as many messages as changes may wait.
     fn gather<T: Wait + Clock, K: Host, W: Write + Drop>(
         &mut self,
         rt: &T,
@@ -102,9 +102,9 @@ impl<J: ServiceId> MessageLoop<J> {
         }
     }
 
-    /// Commits the waiting changes, if one of them is of the same account as this message, or if
-    /// the message is a line that is done at once, since that may concern any account. No later
-    /// line then overtakes a change of its account.
+    /// Commits the waiting changes if one of them concerns the account of this message. Also
+    /// commits them if the message is a line that needs no hash, since such a line may concern any
+    /// account. So no later line overtakes a change of its account.
     fn commit_before<T: Wait + Clock, K: Host, W: Write + Drop>(
         &mut self,
         rt: &T,
@@ -161,7 +161,7 @@ impl<J: ServiceId> MessageLoop<J> {
             .any(|hashed| hashed.worked().request().name() == *name)
     }
 
-    /// Commits a work, or lets its change wait for others.
+    /// Commits a hashed line, or lets its change wait for others.
     fn take_hashed<T: Wait + Clock, K: Host, W: Write + Drop>(
         &mut self,
         rt: &T,
@@ -212,8 +212,8 @@ impl<J: ServiceId> MessageLoop<J> {
         }
     }
 
-    /// Passes on a line that is to be hashed. Without one, a line was answered, which leaves room
-    /// for another.
+    /// Passes on a line that is to be hashed. Without such a line, the scribe answered one, which
+    /// leaves room for another.
     fn pass_on<T: Wait>(&self, rt: &T, job: Option<Job<J>>) {
         match job {
             Some(job) => {

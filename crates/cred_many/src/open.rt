@@ -1,4 +1,4 @@
-//! The lines that have come and aren't answered yet.
+//! The lines that have come and have no answer yet.
 
 ghost use Rattle.std.specs.Prelude.{◌≡◌, ◌≤◌, ◌<◌, ◌++◌, ◌∷◌, [], IfNone, IfSome, MatchBool, OnErr, OnOk, Some, length, slice_get};
 ghost use Rattle.std.specs.List.{remove};
@@ -20,7 +20,7 @@ pub(crate) const MOST_OPEN: usize = 256;
 struct Sight {
     name: Name,
     stored: Option<Record>,
-    /// The number of changes that were seen of it.
+    /// The number of changes of this record that the scribe saw.
     changes: u32,
 }
 
@@ -67,7 +67,7 @@ impl OpenLines {
         self.lines.len()
     }
 
-    /// The place of the line of this number, if it is open.
+    /// Returns the place of the line of this number, if it is open.
     pub(crate) fn place_of(&self, number: u64) -> Option<usize>
         ensures within { IfSome result (λ i. i < length self.now) }
         ensures there { IfSome result (λ i. slice_get (numbers self.now) i ≡ Some number) }
@@ -103,8 +103,8 @@ impl OpenLines {
         self.lines.remove(place);
     }
 
-    /// The open lines without these, or nothing if one of these isn't open or
-    /// memory runs out.
+    /// Returns the open lines without these, or nothing if one of these isn't open or memory runs
+    /// out.
     pub(crate) fn without<J: ServiceId>(&self, works: &[Hashed<J>]) -> Option<OpenLines>
         ensures { IfSome result (λ left. AreClosed (entries_of works.now) self.now left) }
     {
@@ -119,8 +119,8 @@ impl OpenLines {
         Some(left)
     }
 
-    /// Notes the record that is copied for the line at this place, and counts the changes that were
-    /// seen of it.
+    /// Notes the record that the scribe copies for the line at this place, and counts the changes
+    /// of it that the scribe saw.
     pub(crate) fn look(&mut self, place: usize, name: Name, stored: Option<Record>) -> u32
         requires { place < length self.old }
         ensures { Notes self.old place name stored self.new result }
@@ -157,7 +157,7 @@ fn is_sight(sight: &Option<Sight>, name: &Name, stored: &Option<Record>) -> bool
     }
 }
 
-/// The number of changes that were seen of the name's record, which is `now`.
+/// Returns the number of changes that the scribe saw of the name's record, which is `now`.
 fn count(sight: &Option<Sight>, name: &Name, now: &Option<Record>) -> u32
     ensures few { result ≤ counted sight.now name.now now.now }
     ensures all { result < tries → counted sight.now name.now now.now ≤ result }

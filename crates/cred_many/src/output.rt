@@ -22,8 +22,8 @@ pub(crate) struct Output<W: Write> {
 }
 
 impl<W: Write> Output<W> {
-    /// Answers the line at this place, and closes it. After a failed write nothing more
-    /// is answered.
+    /// Answers the line at this place, and closes the line. After a failed write the scribe answers
+    /// nothing more.
     pub(crate) fn answer<J: ServiceId>(&mut self, place: usize, line: &Line<J>, answer: &[u8])
         requires { IsReady self.old.fault self.old.pending place line.now.number }
         ensures came { IfSome J.service.input (λ bytes. IsLine J.service bytes line.now) }
@@ -38,7 +38,8 @@ impl<W: Write> Output<W> {
         }
     }
 
-    /// Answers the line at this place that its try is too early by these seconds, and closes it.
+    /// Answers that the try of the line at this place is too early by these seconds, and closes the
+    /// line.
     pub(crate) fn answer_later<J: ServiceId>(&mut self, place: usize, line: &Line<J>, seconds: u64)
         requires { IsReady self.old.fault self.old.pending place line.now.number }
         ensures came { IfSome J.service.input (λ bytes. IsLine J.service bytes line.now) }
@@ -53,7 +54,8 @@ impl<W: Write> Output<W> {
         }
     }
 
-    /// Writes the answers of lines that were done together. After a failed write no more are.
+    /// Writes the answers of lines that were done together. After a failed write the scribe answers
+    /// nothing more.
     pub(crate) fn conclude_all(&mut self, answers: &[u8])
         requires { self.old.fault ≡ None }
         ensures same { self.new.pending ≡ self.old.pending }

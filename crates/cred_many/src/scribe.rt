@@ -1,4 +1,4 @@
-//! The book that is served, the lines that are open, and the writer of their answers.
+//! The served book, the open lines, and the writer of their answers.
 
 ghost use Rattle.std.specs.{FinMap.contains_key, List.remove};
 ghost use Rattle.std.specs.Prelude.{◌≡◌, ◌↔◌, ℕ, ◌+◌, ◌++◌, [], ◌∷◌, Bool, false, IfSome, IsTrue, is_some, length, None, option_map, Some, true, unwrap_or};
@@ -36,15 +36,16 @@ use std::alloc::Global;
 use std::io::Write;
 use std::marker::PhantomData;
 
-/// The number of commits that found another record, after which a line is given up.
+/// The number of commits that found another record, after which the scribe gives a line up.
 const TRIES: u32 = 8;
 
-/// The book and the writer of a service, which has the only ones.
+/// The only book and the only writer of a service.
 ///
-/// Between two calls, the book and the output are those of one list of lines that came, with each
-/// of them once, unless it is pending. The service borrows the scribe, and can do no more than the
-/// scribe's calls do: they accept lines that came, and their hashed work, each once. No call has a
-/// handle by which it may wait, so each returns, and keeps its promise.
+/// Between two calls, the book and the output are those of one list of lines that came. Each line
+/// that came is in the list once, unless the line is pending. The service borrows the scribe, and
+/// can do no more than the scribe's calls do: they accept lines that came, and their hashed work,
+/// each once. No call has a handle by which the call could wait, so each call returns, and keeps
+/// its promise.
 #[derive(Drop)]
 pub struct Scribe<J: ServiceId, K: Host, W: Write> {
     keeper: K,
@@ -64,7 +65,7 @@ pub struct Scribe<J: ServiceId, K: Host, W: Write> {
 impl<J: ServiceId, K: Host, W: Write> Scribe<J, K, W> {
     ghost use Rattle.cred_many.specs.Adds.{AddsCounted, AddsNoLine, AddsQuick, answered};
 
-    /// The scribe before the first line.
+    /// Creates the scribe, before the first line.
     pub fn new(
         alloc: Global,
         keeper: K,
@@ -99,21 +100,21 @@ impl<J: ServiceId, K: Host, W: Write> Scribe<J, K, W> {
         let _came = &self.came;
     }
 
-    /// Whether no more lines are answered.
+    /// Whether the scribe answers no more lines.
     pub fn is_over(&self) -> bool
         ensures { result ≡ is_some self.now.output.fault }
     {
         self.output.fault.is_some()
     }
 
-    /// Whether all lines that came are answered.
+    /// Whether the scribe has answered all lines that came.
     pub fn is_idle(&self) -> bool
         ensures { IsTrue result ↔ (numbers self.now.output.pending ≡ []) }
     {
         self.output.pending.is_empty()
     }
 
-    /// The remains of the service once no more lines come. A pending line is lost.
+    /// Returns the remains of the service once no more lines come. A pending line is lost.
     pub fn end<S: Source>(mut self, ending: Ending<J, S>) -> Served<K, W, S>
         ensures served { ∥ StandsAtEnd K.capacity J.service
             (left_of K.book K.failed W.contents S.failed result) ∥₁ }
@@ -159,7 +160,7 @@ impl<J: ServiceId, K: Host, W: Write> Scribe<J, K, W> {
         }
     }
 
-    /// The remains of the service, and the reason why not all lines came.
+    /// Returns the remains of the service, and the reason why not all lines came.
     fn left<S: Source>(self, source: Option<S>, why: Option<ServiceFault>) -> Served<K, W, S>
         requires idle { self.output.fault ≡ None → numbers self.output.pending ≡ [] }
         requires cause { HasCause J.service.input (moment K.book K.failed W.contents self.keeper
@@ -195,8 +196,8 @@ impl<J: ServiceId, K: Host, W: Write> Scribe<J, K, W> {
         }
     }
 
-    /// Receives a line, at a reading of the clock in seconds, and answers it unless it needs a
-    /// hash. A try that is too early is sent away.
+    /// Receives a line, at a reading of the clock in seconds, and answers the line unless it needs
+    /// a hash. Sends a try that is too early away.
     pub fn take(&mut self, alloc: Global, line: Line<J>, now: u64) -> Option<Job<J>>
         ensures came { line.number ≡ self.old.came → self.new.output.fault ≡ None
             → self.new.came ≡ self.old.came + 1 }
@@ -272,8 +273,8 @@ impl<J: ServiceId, K: Host, W: Write> Scribe<J, K, W> {
         Some(place)
     }
 
-    /// The line with a copy of its account's record, unless it has had too many copies of other
-    /// records.
+    /// Returns the line with a copy of its account's record, unless the line has had too many
+    /// copies of other records.
     fn job(&mut self, place: usize, line: Line<J>, request: Request) -> Option<Job<J>>
         requires ready { IsReady self.old.output.fault self.old.output.pending place line.number }
         requires current { is_for_current request ≡ true }
@@ -343,8 +344,8 @@ impl<J: ServiceId, K: Host, W: Write> Scribe<J, K, W> {
     }
 }
 
-/// The request with a copy of its account's record. An unknown name is hashed as an account
-/// without a record, and its commit says that no such account exists.
+/// Returns the request with a copy of its account's record. A try at an unknown name is hashed like
+/// one at an account without a record, and its commit says that no such account exists.
 fn ticket_of<K: Host>(keeper: &K, request: Request) -> Ticket
     requires { is_for_current request ≡ true }
     ensures request { result.0 ≡ request }

@@ -1,4 +1,4 @@
-//! Handing out lines from the thread that reads.
+//! Hands out lines from the thread that reads.
 
 ghost use Rattle.std.specs.Prelude.{◌≡◌, ◌+◌, ◌^◌, ◌<◌, OnOk, false, length};
 ghost use Rattle.crossbeam_channel.specs.Claims.{view};
@@ -26,7 +26,7 @@ impl Model for LineCount {
 }
 
 impl LineCount {
-    /// The number.
+    /// Returns the number of lines.
     pub(crate) fn lines(&self) -> u64
         ensures { result ≡ self.now }
     {
@@ -34,14 +34,14 @@ impl LineCount {
     }
 }
 
-/// The proof that nobody takes lines any more. Only `LineSender::hand_out` makes one.
+/// The proof that nobody takes lines any more. Only `LineSender::hand_out` builds one.
 #[derive(Clone, Copy)]
 pub(crate) struct Gone(());
 
-/// Hands lines to the thread that has the book, no more than the maximum of open ones.
+/// Hands lines to the thread that has the book, but no more than may be open.
 #[derive(Drop)]
 pub(crate) struct LineSender<J: ServiceId> {
-    /// A token for each line that may be opened now.
+    /// A token for each line that the scribe may open now.
     room: Receiver<()>,
     book: ReaderEnd<J>,
     handed: LineCount,
@@ -51,7 +51,7 @@ pub(crate) struct LineSender<J: ServiceId> {
 }
 
 impl<J: ServiceId> LineSender<J> {
-    /// The sender before the first line.
+    /// Creates the sender, before the first line.
     pub(crate) fn new(room: Receiver<()>, book: ReaderEnd<J>) -> LineSender<J>
         requires { (view book.pass).sent ≡ no_progress }
         ensures handed { result.handed ≡ 0 }
@@ -61,14 +61,14 @@ impl<J: ServiceId> LineSender<J> {
         LineSender { room, book, handed }
     }
 
-    /// The number of lines that were handed out.
+    /// Returns the number of lines that were handed out.
     pub(crate) fn handed(&self) -> &LineCount
         ensures { result.now ≡ self.now.handed }
     {
         &self.handed
     }
 
-    /// Hands out the next line, once there is room for it, and counts it. A line that counts was
+    /// Hands out the next line once there is room for it, and counts the line. A counted line was
     /// sent.
     pub(crate) fn hand_out<T: Wait>(&mut self, rt: &T, line: Line<J>) -> Result<(), Gone>
         requires next { line.number ≡ self.old.handed }

@@ -39,8 +39,8 @@ pub struct ServiceConfig {
     pub costs: Costs,
     /// The memory of all hashes together, in KiB.
     pub memory: u64,
-    /// The bounds on the setting or the record of a line. `costs` must be within them: a line
-    /// that makes a record with these is judged too.
+    /// The bounds on the setting or the record of a line. `costs` must be within these bounds: the
+    /// service also judges a line that makes a record with `costs`.
     pub most: CostBounds,
     /// The number of failed tries at an account until the next has to wait, if there is a limit.
     pub tries: Option<TryLimit>,
@@ -48,15 +48,15 @@ pub struct ServiceConfig {
 
 /// Answers lines to the end of the input, and hashes in `tools.workers` threads.
 ///
-/// The service borrows the scribe, and nothing else has the book or the writer: so the law
+/// The service borrows the scribe, and nothing else has the book or the writer, so the law
 /// `Scribe::holds` stays true. `Scribe::end` takes the result, and returns the remains.
 ///
-/// Each line is done whole, and its answer is written whole, at one moment between its coming and
-/// its answer. Salts are drawn in the order of the lines, one for each. A line whose setting or
-/// record needs more than `config.most` is refused, and so is a last line without its end, as
-/// more than that may be lost of it. The source is called again only once each whole line that came
-/// was handed on. The writer is one that holds nothing back, as it is never flushed. After a fault
-/// the service ends without waiting for the source.
+/// The service does each line whole, and writes its answer whole, at one moment between the line's
+/// coming and its answer. It draws one salt for each line, in the order of the lines. It refuses a
+/// line whose setting or record needs more than `config.most`, and a last line without its end,
+/// since more of that line may be lost. It calls the source again only after each whole line that
+/// came was handed on. The service never flushes the writer, so the writer must hold nothing back.
+/// After a fault the service ends without waiting for the source.
 pub fn serve_tagged<J, T, S, G, K, W>(
     tools: &Tools<'_, T>,
     config: &ServiceConfig,
@@ -97,15 +97,15 @@ where
     let blank = Blank::new(u64::from(tools.workers));
     match hash_in_threads::<Brand, J, T, K, W>(tools, config, scribe, channels, blank) {
         Some(inbox) => await_end(tools.rt, reader, inbox),
-        // The reader isn't waited for: after a fault it may never end.
+        // Nobody waits for the reader: after a fault it may never end.
         None => Ending::not_awaited(reader),
     }
 }
 
 /// Answers tagged lines on a kept book, as [`serve_tagged`] does.
 ///
-/// Each change is in the database before it is answered. A crash leaves the book after the lines
-/// that were done, perhaps with the change that was under way as the database failed.
+/// Each change is in the database before its line gets an answer. A crash leaves the book after the
+/// lines that were done, perhaps with the change that was under way when the database failed.
 pub fn serve_file<J, T, S, R, W, G>(
     tools: &Tools<'_, T>,
     config: &ServiceConfig,
@@ -137,8 +137,8 @@ struct Channels<J: ServiceId> {
     inbox: Inbox<J>,
 }
 
-/// The channels, with room for all open lines: so that nobody waits to send but the
-/// thread that reads.
+/// Creates the channels, with room for all open lines, so that only the thread that reads waits to
+/// send.
 fn make_channels<J: ServiceId, T: Wait>(
     rt: &T,
     alloc: Global,
@@ -167,7 +167,7 @@ fn make_channels<J: ServiceId, T: Wait>(
 }
 
 /// Hashes in other threads, each with a share of the ledger, and handles their messages in this
-/// one. Returns its end of the channel if all lines were received and answered.
+/// thread. Returns this thread's end of the channel if all lines came and have answers.
 fn hash_in_threads<L, J, T, K, W>(
     tools: &Tools<'_, T>,
     config: &ServiceConfig,

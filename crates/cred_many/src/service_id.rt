@@ -2,8 +2,7 @@
 
 use std::marker::Brand;
 
-/// Names one service. The call of a function that is generic over it with `Brand` picks
-/// the service.
+/// Names one service. A function is generic over the service, and a call with `Brand` picks one.
 pub trait ServiceId {
     ghost use Rattle.cred_many.specs.Service.{Service};
 

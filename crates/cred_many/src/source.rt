@@ -9,26 +9,26 @@ use std::io::Read;
 
 /// The source of the lines of many clients.
 ///
-/// The caller owes three things: that each whole line that came was handed on, that the source
-/// neither ended nor failed, and that the bytes it gives can be counted.
+/// Before a call, the caller owes three things. Each whole line that came was handed on, the source
+/// neither ended nor failed, and the bytes that it gives can be counted.
 pub trait Source {
     ghost use Rattle.std.specs.Prelude.{◌≡◌, ◌+◌, ◌^◌, ◌<◌, ◌==◌, ℕ, Bool, false, true, List, Option, length, IfOk, MatchResult, take};
     ghost use Rattle.std.specs.{Io.ReadsAtMost, Io.KnownBytes.ReadConsumes};
     ghost use Rattle.cred_cli.specs.Script.{line_ends};
 
-    /// The bytes that the source has to give, if they are known.
+    /// The bytes that the source will give, if they are known.
     ghost remaining: { Self → Option (List ℕ) };
 
-    /// The number of line ends that it gave.
+    /// The number of line ends that the source gave.
     ghost given: { Self → ℕ };
 
-    /// Whether it has reported its end.
+    /// Whether the source has reported its end.
     ghost ended: { Self → Bool };
 
-    /// Whether a call on it failed.
+    /// Whether a call on the source failed.
     ghost failed: { Self → Bool };
 
-    /// Reads like [`Read::read`], once that many lines have been handed on.
+    /// Reads like [`Read::read`], once so many lines have been handed on.
     fn read(&mut self, handed: &LineCount, buf: &mut [u8]) -> io::Result<usize>
         requires handed { handed.now ≡ given self.old }
         requires going { (ended self.old ≡ false) × (failed self.old ≡ false) }
@@ -42,7 +42,7 @@ pub trait Source {
             (λ _. failed self.new ≡ false) (λ _. failed self.new ≡ true) };
 }
 
-/// A reader whose line ends are counted.
+/// A reader that counts its line ends.
 #[derive(Drop)]
 pub struct LineReader<R> {
     reader: R,
@@ -92,7 +92,7 @@ impl<R: Read> Source for LineReader<R> {
     }
 }
 
-/// The number of line ends in these bytes.
+/// Returns the number of line ends in these bytes.
 fn line_ends(bytes: &[u8]) -> u64
     ensures ends { result ≡ line_ends bytes.now }
     ensures few { result ≤ length bytes.now }

@@ -2,7 +2,7 @@
 
 use std::time::{Clock, Instant};
 
-/// Tells how many seconds have passed since it was made.
+/// Tells how many seconds have passed since its creation.
 #[derive(Clone, Copy)]
 pub(crate) struct Stopwatch {
     began: Option<Instant>,
@@ -18,7 +18,7 @@ impl Stopwatch {
         }
     }
 
-    /// The seconds until now, or until the last reading if the clock can't be read.
+    /// Returns the seconds until now, or until the last reading if the clock can't be read.
     pub(crate) fn read<C: Clock>(&mut self, rt: &C) -> u64 {
         if let Some(began) = self.began {
             if let Ok(passed) = began.elapsed(rt) {

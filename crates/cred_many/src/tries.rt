@@ -18,14 +18,14 @@ pub(crate) enum Effect {
     Right,
     /// The password was wrong.
     Wrong,
-    /// The account has a new password, for which no present one was asked: what failed before is
-    /// forgiven.
+    /// The account has a new password, for which nobody asked for the present one. This forgives
+    /// the earlier failures.
     Forgiven,
-    /// Nothing.
+    /// The answer has no effect.
     Nothing,
 }
 
-/// The failed tries at each name. A try begins and ends as it is answered, so that none runs
+/// The failed tries at each name. A try begins and ends when it gets its answer, so no try runs
 /// between two calls.
 #[derive(Drop)]
 pub(crate) struct Tries {
@@ -48,7 +48,7 @@ impl Model for Tries {
 }
 
 impl Tries {
-    /// No tries yet, with this limit, or with none.
+    /// Creates the counts before the first try, with this limit or with none.
     pub(crate) fn new(alloc: Global, limit: Option<TryLimit>) -> Tries
         ensures none { result ≡ option_map new_limits limit }
         ensures limit { IfSome limit IsLimit }
@@ -60,8 +60,8 @@ impl Tries {
         Tries { limiter }
     }
 
-    /// By how many seconds a line tries a password too early, at a reading of the clock in seconds.
-    /// If it doesn't, the password may be judged at this reading.
+    /// Returns by how many seconds a line tries a password too early, at a reading of the clock in
+    /// seconds. If the line isn't too early, its password may be judged at this reading.
     pub(crate) fn send_away(&mut self, ask: &Ask, now: u64) -> Option<u64>
         ensures sent { IfSome result (λ seconds. (is_try ask.now ≡ true)
             × IsSentAway now self.old self.new (name_asked ask.now) seconds) }
@@ -79,7 +79,7 @@ impl Tries {
 
     /// Counts what an answer tells of the password of a name, at a reading of the clock in seconds.
     ///
-    /// Errors: no memory, only of a wrong password; nothing changes.
+    /// Errors: no memory, which only a wrong password needs. Nothing changes then.
     pub(crate) fn count(&mut self, name: &Name, now: u64, effect: Effect) -> Result<(), AllocError>
         requires { HasPlace effect self.old name.now now }
         ensures counted { OnOk result (HasEffect now self.old self.new name.now effect) }
@@ -111,7 +111,7 @@ impl Tries {
         }
     }
 
-    /// Forgives the failures at a name that was reset, if this reply says that it was.
+    /// Forgives the failures at a name if this reply says that its password was reset.
     #[tactic(auto, using(crate::proofs::Limiting::reset_none, crate::proofs::Limiting::reset_some))]
     pub(crate) fn reset(&mut self, name: &Name, reply: &Reply)
         ensures counted { (now : ℕ)
@@ -124,7 +124,7 @@ impl Tries {
         self.forgive(name);
     }
 
-    /// Whether nothing is counted at a name.
+    /// Whether a name has no counted failures.
     pub(crate) fn is_clear(&self, name: &Name) -> bool
         ensures { result ≡ is_clear self.now name.now }
     {
@@ -134,7 +134,7 @@ impl Tries {
         }
     }
 
-    /// The seconds that have passed by the clock; none if there is no limit.
+    /// Returns the seconds that have passed by the clock, or 0 if there is no limit.
     pub(crate) fn passed(&self) -> u64
         ensures { result ≡ passed_of self.now }
     {
@@ -145,7 +145,7 @@ impl Tries {
     }
 }
 
-/// Whether the account has a new password, for which no present one was asked.
+/// Whether the account has a new password, for which nobody asked for the present one.
 pub(crate) fn forgives(reply: &Reply) -> bool
     ensures { reset_effect reply.now ≡ (if result then Effect.Forgiven else Effect.Nothing) }
 {

@@ -1,4 +1,4 @@
--- What a service of tagged lines makes of a database, and how it ends.
+-- The effect of a service of tagged lines on a database, and how the service ends.
 use Rattle.std.specs.Prelude.{◌≡◌, ℕ, List, length, Bool, Option, Some, None, IfSome, is_some}
 use Rattle.sqlite.specs.{Held.Held, Held.state, State.HasCleanDisk, Store.Ghosts}
 use Rattle.cred_book.specs.Accounts.{register_capacity}
@@ -24,10 +24,10 @@ abbrev pub status_of_end : Option ServiceFault → Status
 status_of_end (Some e) = status_of_fault e
 status_of_end None = Done
 
--- The book that a database holds is opened and served, and the connection and the writer come back
--- as the service left them. The table stands for the book after the lines that were done, until a
--- change is lost; a crash from then on leaves that book, or the book with the lost change. If
--- nothing failed, all lines came.
+-- The service opens and serves the book of a database, and the connection and the writer come back
+-- as the service left them. Until a change is lost, the table stands for the book after the lines
+-- that were done. A later crash leaves that book, or the book with the lost change. If nothing
+-- failed, all lines came.
 pub record ServesBook {S W L : Type 0} (g : Ghosts S) (contents : W → Option (List ℕ))
     (failed : L → Bool) (service : MarkedBook → Service) (old new : Held S) (writer : Watched W)
     (status : Status) : Type 0 where

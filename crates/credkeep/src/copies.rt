@@ -1,5 +1,5 @@
-//! Copies of a book in files of their own: a backup, which may be made while the book is served, a
-//! copy that replaces the book, and one that is only read.
+//! Copies of a book in files of their own: a backup, even while a server has the book open; a copy
+//! that replaces the book; and a copy that is only read.
 
 ghost use Rattle.std.specs.Prelude.{◌≡◌, false};
 
@@ -60,12 +60,12 @@ impl Contents {
     }
 }
 
-/// The plural ending for so many things.
+/// Returns the plural ending for so many things.
 fn plural_of(count: u64) -> &'static str {
     if count == 1 { "" } else { "s" }
 }
 
-/// Writes a copy of the book to another place. The book may be in use.
+/// Copies the book to another place, even while the book is in use.
 pub(crate) fn back_up(
     host: &HostRuntime,
     line: &CommandLine<'_>,
@@ -89,7 +89,7 @@ pub(crate) fn back_up(
     Ok(Contents { accounts, log })
 }
 
-/// Puts a copy in the place of the book.
+/// Replaces the book by a copy.
 pub(crate) fn restore(
     host: &HostRuntime,
     line: &CommandLine<'_>,
@@ -103,7 +103,7 @@ pub(crate) fn restore(
     let file = line.file;
     let place = accept(host, file, real_path(host, file))?;
     accept(host, file, look_at_old(host, place.as_str()))?;
-    // A copy may take long to read, so a book in use is refused first.
+    // Reading a copy may take long, so a book in use is refused first.
     if is_busy(host, place.as_str(), line.wait) {
         return Err(refuse_file(host, file, FileFault::Busy));
     }
@@ -120,8 +120,8 @@ pub(crate) fn restore(
     Ok(Contents { accounts, log })
 }
 
-/// Reads the file and its log to their ends, and tells their content. The book may be in use, and
-/// nothing is written into its files.
+/// Reads the file and its log to their ends, and prints what they contain. The book may be in use,
+/// and the command writes nothing into its files.
 pub(crate) fn verify(host: &HostRuntime, line: &CommandLine<'_>) -> Result<Status, Status> {
     let file = line.file;
     look(host, file, line.remarks)?;
@@ -137,8 +137,8 @@ pub(crate) fn verify(host: &HostRuntime, line: &CommandLine<'_>) -> Result<Statu
     Ok(status)
 }
 
-/// Creates a draft beside a place. A fault names the draft, as the place itself may be readable;
-/// but if the folder is missing the fault names the place.
+/// Creates a draft beside a place. A fault names the draft, as the place itself may be readable. If
+/// the folder is missing, the fault names the place.
 fn make_draft<'a>(host: &'a HostRuntime, place: &str, end: &str) -> Result<DraftFile<'a>, Status> {
     let path = accept(host, place, sidecar(host, place, end))?;
     match DraftFile::make(host, place, end) {
@@ -147,7 +147,7 @@ fn make_draft<'a>(host: &'a HostRuntime, place: &str, end: &str) -> Result<Draft
     }
 }
 
-/// Copies the book's files at one moment, and reads the copy of the log.
+/// Copies the book's files as of one moment, and reads the copy of the log.
 fn read_book(
     host: &HostRuntime,
     file: &str,
@@ -203,8 +203,8 @@ fn copy_into<D: Alter>(
     }
 }
 
-/// As `copy_book`, and below as `count_accounts`, over any databases: a call with clauses that
-/// names a file's database takes too long to prove.
+/// Does what `copy_book` does, over any databases. The function below likewise does what
+/// `count_accounts` does: a call with clauses that names a file's database takes too long to prove.
 fn copy_between<S: Alter, D: Alter>(
     alloc: Global,
     source: Connection<S>,
@@ -225,7 +225,8 @@ fn count_in<S: Alter>(
     count_accounts(alloc, conn)
 }
 
-/// Puts the new file in the book's place, and tries for so many seconds if another process has it.
+/// Replaces the book by the new file, and tries for so many seconds if another process has the book
+/// open.
 fn put_back(
     host: &HostRuntime,
     new: &DraftFile<'_>,
@@ -248,7 +249,7 @@ fn put_back_once(host: &HostRuntime, new: &DraftFile<'_>, place: &str) -> Result
 }
 
 /// Copies the log of the old file into it, so that the old book is whole without its log. A file
-/// that is damaged or gone has no whole book: its log is removed.
+/// that is damaged or gone has no whole book, so its log is removed.
 fn fold_log(host: &HostRuntime, place: &str) -> Result<OldLog, BookFault> {
     if len_of(host, place)?.unwrap_or(0) == 0 {
         return Ok(OldLog::Removed);

@@ -1,4 +1,4 @@
-//! Files that are written beside a place, and then put there.
+//! Files that the program writes beside a place, and then renames into the place.
 
 use crate::files::{OWNER_ALONE, own_user};
 use crate::sidecar::{
@@ -12,12 +12,12 @@ use std::thread::sleep;
 use std::time::Duration;
 use std::{fs, io};
 
-/// A file is held for so many milliseconds after another replaced it: a process that had
-/// opened it by its name finds it in use, and looks at the name again.
+/// The program holds a file for so many milliseconds after another file replaced it. A process that
+/// had opened the old file by its name finds the file in use, and looks at the name again.
 const LINGER: u64 = 100;
 
-/// A file that is written beside its place. It is removed with this value unless it is put
-/// there. Nobody else may read or write it.
+/// A file that the program writes beside its place. Dropping this value removes the file unless it
+/// was put at the place. Nobody else may read or write the file.
 pub(crate) struct DraftFile<'a> {
     rt: &'a HostRuntime,
     path: String,
@@ -27,14 +27,14 @@ pub(crate) struct DraftFile<'a> {
 /// The treatment of a log at the place.
 #[derive(Clone, Copy, PartialEq, Eq)]
 pub(crate) enum OldLog {
-    /// The log stays: it has no changes, or the draft isn't put there.
+    /// The log stays, since it has no changes or the draft isn't put there.
     Kept,
     /// The log is removed.
     Removed,
 }
 
 impl Drop for DraftFile<'_> {
-    /// If the removal fails nothing is lost: the next run uses the file.
+    /// A failed removal loses nothing: the next run uses the file.
     fn drop(self) {
         let DraftFile { rt, path, file } = self;
         if let Ok(true) = is_at(rt, &file, path.as_str()) {
@@ -45,8 +45,8 @@ impl Drop for DraftFile<'_> {
 }
 
 impl<'a> DraftFile<'a> {
-    /// Creates an empty file, named as the place with this end. A file that a stopped run left
-    /// there is used again.
+    /// Creates an empty file, whose name is that of the place with this end, or uses a file that a
+    /// stopped run left there.
     ///
     /// Errors: `NoFolder`; `Busy` if another run is writing it; `Irregular` or `Owner` for a
     /// foreign file.
@@ -66,7 +66,7 @@ impl<'a> DraftFile<'a> {
         self.path.as_str()
     }
 
-    /// The file, for direct reads and writes.
+    /// Returns the file, for direct reads and writes.
     pub(crate) fn file(&self) -> &File {
         &self.file
     }
@@ -92,8 +92,8 @@ impl<'a> DraftFile<'a> {
         Ok(self.file.set_permissions(mode)?)
     }
 
-    /// Puts the file at the place in one step: readers find the old file whole, or this one, which
-    /// has no log then.
+    /// Puts the file at the place in one step. Readers find the whole old file, or this file, which
+    /// then has no log.
     ///
     /// Errors: `Busy` if another process has the old file open; `OldLog` if a log beside it has
     /// changes that must be kept.
@@ -125,7 +125,7 @@ fn remove_logs(rt: &HostRuntime, path: &str) -> io::Result<()> {
     remove_sidecar(rt, path, JOURNAL)
 }
 
-/// Opens or makes the file of a draft, but no link and no other user's file.
+/// Opens or creates the file of a draft, but opens no link and no other user's file.
 fn open_or_make(rt: &HostRuntime, path: &str) -> Result<File, FileFault> {
     let mut options = OpenOptions::new();
     options.read(true).write(true);

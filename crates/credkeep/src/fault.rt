@@ -8,14 +8,14 @@ use sqlite::{Error, ErrorCode};
 use std::io;
 use std::io::Write;
 
-/// The reason why a book isn't opened or read, or why a copy isn't put in its place.
+/// The reason why the program doesn't open or read a book, or doesn't replace it by a copy.
 #[derive(Clone, Copy)]
 pub(crate) enum BookFault {
     /// The file is refused.
     File(FileFault),
-    /// The database wasn't opened: it failed, or isn't one.
+    /// The database wasn't opened: it failed, or the file isn't a database.
     Database(Error),
-    /// The database holds no book, or failed once it was open.
+    /// The database holds no book, or failed after it was opened.
     Book(OpenFault),
 }
 
@@ -25,7 +25,7 @@ impl BookFault {
         ErrorCode::DatabaseBusy,
     ));
 
-    /// Whether another process has the file open, or had it meanwhile.
+    /// Whether another process has the file open, or had it open meanwhile.
     pub(crate) fn is_busy(&self) -> bool {
         matches!(
             self,
@@ -53,7 +53,7 @@ impl From<OpenFault> for BookFault {
     }
 }
 
-/// The value; without one, writes why the file was refused.
+/// Returns the value, or writes why the file was refused.
 pub(crate) fn accept<T, E: Into<BookFault>>(
     host: &HostRuntime,
     path: &str,

@@ -19,10 +19,10 @@ use std::thread::sleep;
 use std::time::Duration;
 use std::{fs, io};
 
-/// A connection to a file, of which nothing is assumed but that its syncs are true.
+/// A connection to a file. The only assumption about the file is that its syncs are true.
 pub(crate) type Database = Connection<FileStore<FileFrom<Wary>>>;
 
-/// The file may be read and written by its owner alone. Its log gets the same mode.
+/// The mode of a file that only its owner may read and write. The log gets the same mode.
 pub(crate) const OWNER_ALONE: u32 = 0o600;
 
 /// The end of the name of the file in which an earlier server kept the locks of names.
@@ -34,21 +34,22 @@ const OTHERS: u32 = 0o077;
 /// The first bytes of a database (SQLite's file format, section 1.3.1).
 const HEADER: &[u8; 16] = b"SQLite format 3\0";
 
-/// The number of tries at a busy file in a second, and the milliseconds between.
+/// The number of tries at a busy file in a second, and the milliseconds between two tries.
 const TRIES_A_SECOND: u32 = 20;
 
 pub(crate) const PAUSE: u64 = 50;
 
-/// The place where a book is begun.
+/// The place of a new book.
 #[derive(Clone, Copy, PartialEq, Eq)]
 pub(crate) enum BookPlace {
-    /// A new file, which is put at the place once it is whole.
+    /// A new file, which the program puts at the place once the file is whole.
     NewFile,
     /// An existing database.
     Database,
 }
 
-/// Checks that a path names a file: SQLite keeps what has no name, or this one, in memory.
+/// Checks that a path names a file: SQLite keeps a database without a name, or with the name
+/// `:memory:`, in memory.
 fn look_at_name(path: &str) -> Result<(), FileFault> {
     if path.is_empty() || path == ":memory:" {
         return Err(FileFault::NoFile);
@@ -56,8 +57,8 @@ fn look_at_name(path: &str) -> Result<(), FileFault> {
     Ok(())
 }
 
-/// Checks that a book may begin at this path. An existing file must belong to this user alone, and
-/// be empty or a database.
+/// Checks that `init` may create a book at this path. An existing file must belong to this user
+/// alone, and be empty or a database.
 pub(crate) fn look_before_init(rt: &HostRuntime, path: &str) -> Result<BookPlace, FileFault> {
     look_at_name(path)?;
     let place = match if_there(fs::symlink_metadata(rt, path))? {
@@ -95,8 +96,8 @@ pub(crate) enum Access {
     Others,
 }
 
-/// Checks that the file may hold a book, and whether others can read or write it. Nothing is
-/// written.
+/// Checks that the file may hold a book, and returns whether others can read or write it. Writes
+/// nothing.
 pub(crate) fn look_at(rt: &HostRuntime, path: &str) -> Result<Access, FileFault> {
     look_at_name(path)?;
     let Some(found) = if_there(fs::metadata(rt, path))? else {
@@ -126,8 +127,8 @@ pub(crate) fn look(host: &HostRuntime, file: &str, remarks: Remarks) -> Result<(
     Ok(())
 }
 
-/// Refuses to export a book beside which an earlier server's locks lie: the records of locked names
-/// would be good ones wherever the lines go.
+/// Refuses to export a book if an earlier server's locks lie beside it: wherever the lines go, the
+/// records of locked users would be usable.
 pub(crate) fn look_before_export(
     host: &HostRuntime,
     file: &str,
@@ -161,7 +162,7 @@ pub(crate) fn look_at_old(rt: &HostRuntime, path: &str) -> Result<(), FileFault>
     look_inside(rt, path)
 }
 
-/// Checks that this is a file with one name.
+/// Checks that a file has only one name.
 fn see_single(found: &Metadata) -> Result<(), FileFault> {
     if !found.is_file() {
         return Err(FileFault::Irregular);
@@ -191,7 +192,8 @@ fn has_bytes(rt: &HostRuntime, path: &str, end: &str) -> io::Result<bool> {
     Ok(len_of(rt, other.as_str())?.unwrap_or(0) != 0)
 }
 
-/// The user that this process acts for: Linux gives its folder below /proc to them.
+/// Returns the user that this process acts for: Linux gives the process's folder below /proc to
+/// this user.
 pub(crate) fn own_user(rt: &HostRuntime) -> Result<u32, FileFault> {
     match fs::metadata(rt, "/proc/self") {
         Ok(own) => Ok(own.uid()),
@@ -202,13 +204,14 @@ pub(crate) fn own_user(rt: &HostRuntime) -> Result<u32, FileFault> {
 /// The treatment of a log with a damaged change.
 #[derive(Clone, Copy, PartialEq, Eq)]
 pub(crate) enum DamagedLog {
-    /// The file isn't opened.
+    /// The program doesn't open the file.
     Refused,
-    /// The damaged change and those behind it are given up.
+    /// The program gives up the damaged change and all changes behind it.
     Cut,
 }
 
-/// Opens the file, outside a transaction, and tries for so many seconds if another process has it.
+/// Opens the file, outside a transaction, and tries for so many seconds if another process has it
+/// open.
 pub(crate) fn open_file(
     rt: &HostRuntime,
     path: &str,
@@ -242,7 +245,7 @@ pub(crate) fn open_database(
     }
 }
 
-/// Copies the log into the file and closes both. If that fails nothing is lost: the log stays.
+/// Copies the log into the file, and closes both. A failure loses nothing: the log stays.
 pub(crate) fn close(host: &HostRuntime, conn: Database, status: Status) -> Status {
     if let Err(error) = fold(conn) {
         let _ = writeln!(
@@ -264,7 +267,7 @@ pub(crate) fn is_busy(rt: &HostRuntime, path: &str, wait: u16) -> bool {
     matches!(hold(rt, path), Err(FileFault::Busy))
 }
 
-/// The number of tries at a busy file in so many seconds, before a last one.
+/// Returns the number of tries at a busy file in so many seconds, before a last one.
 pub(crate) fn tries_in(wait: u16) -> u32 {
     u32::from(wait) * TRIES_A_SECOND
 }
@@ -281,8 +284,8 @@ fn open_once(rt: &HostRuntime, path: &str, damaged: DamagedLog) -> Result<Databa
     }
 }
 
-/// Opens a file of which this is assumed. The function is over any `S`: with clauses about one `S`
-/// the proof of a call takes a minute.
+/// Opens a file under the assumption `S`. The function is generic over `S`: with clauses about one
+/// `S` the proof of a call takes a minute.
 fn open_as<S: Start>(
     rt: &HostRuntime,
     path: &str,
@@ -296,13 +299,15 @@ fn open_as<S: Start>(
     }
 }
 
-/// Copies the log into the file, and closes both; over any `S` for the same reason.
+/// Copies the log into the file, and closes both. The function is generic over `S` for the same
+/// reason.
 pub(crate) fn fold<S: Start>(conn: Connection<FileStore<FileFrom<S>>>) -> Result<(), Error> {
     conn.close()
 }
 
 /// Checks that no change in the log is damaged: the opening would give up such a change and all
-/// behind it, without a word. The file is held meanwhile; if it can't be, the opening says why.
+/// changes behind it, without a message. Holds the file meanwhile. If that fails, the opening
+/// reports why.
 fn see_log_whole(rt: &HostRuntime, path: &str) -> Result<(), BookFault> {
     if len_of_log(rt, path)?.unwrap_or(0) <= EMPTY_LOG {
         return Ok(());
@@ -327,7 +332,7 @@ pub(crate) fn see_whole(look: LogLook) -> Result<(), FileFault> {
     })
 }
 
-/// Finds the cause of a failed opening: the library says only that it failed.
+/// Finds the cause of a failed opening, since the library reports only the failure.
 fn why_unopened(rt: &HostRuntime, path: &str, error: Error) -> BookFault {
     match error {
         Error::SqliteFailure(ErrorCode::CannotOpen) => match see_writable(rt, path) {

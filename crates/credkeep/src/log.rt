@@ -1,11 +1,11 @@
-//! Reading a write-ahead log without changing it (SQLite's file format, section 4.1).
+//! Reads a write-ahead log without changing it (SQLite's file format, section 4.1).
 
 use sqlite_wal::checksum_of;
 use std::alloc::Global;
 use std::io;
 use std::io::{ErrorKind, Read};
 
-/// The size of the log's header, and of a frame's, which a page follows, in bytes.
+/// The sizes in bytes of the log's header and of a frame's header, which a page follows.
 pub(crate) const LOG_HEADER: usize = 32;
 
 const FRAME_HEADER: usize = 24;
@@ -18,7 +18,8 @@ const MAGIC: [u8; 3] = [0x37, 0x7f, 0x06];
 pub(crate) struct LogLook {
     /// The number of commits that can be read, from the first one on.
     pub(crate) commits: u64,
-    /// The number of commits at or behind bytes that no writer left so, even a stopped one.
+    /// The number of commits at or behind bytes that no writer left in this state, not even a
+    /// stopped one.
     pub(crate) lost: u64,
 }
 
@@ -46,7 +47,7 @@ pub(crate) fn look_at_log<R: Read>(alloc: Global, log: &mut R) -> io::Result<Log
     if is_signed(&head) {
         return frames.count(log);
     }
-    // Behind a damaged header its salt still tells which frames belong to this log.
+    // Even in a damaged header the salt still tells which frames belong to this log.
     let lost = frames.count_behind(log)?;
     Ok(LogLook { commits: 0, lost })
 }
@@ -64,7 +65,7 @@ struct Frames {
 /// The relation of a frame to those before it.
 #[derive(Clone, Copy, PartialEq, Eq)]
 enum Frame {
-    /// The frame continues them.
+    /// The frame continues the frames before it.
     Next,
     /// The frame doesn't belong to this log, or not yet.
     Other,
@@ -101,7 +102,7 @@ impl Frames {
         Ok(LogLook { commits, lost: 0 })
     }
 
-    /// Counts the commits of this log in the rest, whatever their sums.
+    /// Counts the commits of this log in the remaining frames, whatever their sums.
     fn count_behind<R: Read>(&mut self, log: &mut R) -> io::Result<u64> {
         let mut commits: u64 = 0;
         for _ in 0..u64::MAX {
@@ -137,7 +138,7 @@ impl Frames {
         self.frame.len() >= FRAME_HEADER && self.frame[8..16] == self.head[16..24]
     }
 
-    /// Whether the frame has the new size of the database: the last frame of a commit does.
+    /// Whether the frame has the new size of the database, as only the last frame of a commit has.
     fn ends_commit(&self) -> bool {
         self.frame.len() >= FRAME_HEADER && be32(&self.frame, 4) != 0
     }
@@ -149,12 +150,12 @@ fn is_signed(head: &[u8; 32]) -> bool {
     is_magic && sums == (be32(head, 24), be32(head, 28))
 }
 
-/// A power of two from 512 to 65536.
+/// Whether the size is a power of two from 512 to 65536.
 fn is_page_size(size: u32) -> bool {
     (512..=65536).contains(&size) && size.is_power_of_two()
 }
 
-/// The number in four bytes, the highest first; 0 if there aren't four.
+/// Returns the number in four bytes, the highest first, or 0 if there aren't four.
 fn be32(bytes: &[u8], at: usize) -> u32 {
     match bytes.get(at..at.saturating_add(4)) {
         Some([a, b, c, d]) => u32::from_be_bytes([*a, *b, *c, *d]),
@@ -162,7 +163,7 @@ fn be32(bytes: &[u8], at: usize) -> u32 {
     }
 }
 
-/// Whether the reader has bytes enough to fill the buffer.
+/// Whether the reader has enough bytes to fill the buffer.
 pub(crate) fn fills<R: Read>(reader: &mut R, buf: &mut [u8]) -> io::Result<bool> {
     match reader.read_exact(buf) {
         Ok(()) => Ok(true),

@@ -1,5 +1,5 @@
 //! `credkeep`, a credential store in a database file. `cred_keep` does the orders, and
-//! `credkeep_words` reads the words; here the file is opened, and the status is told.
+//! `credkeep_words` reads the words. This crate opens the file, and returns the status.
 #![tactic(auto)]
 
 mod copies;

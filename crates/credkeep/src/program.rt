@@ -1,4 +1,5 @@
-//! The program behind `main`. The runtime comes twice: the handles to threads are `main`'s alone.
+//! The program behind `main`. It receives the runtime twice, since only `main` has the handles to
+//! threads.
 
 ghost use Rattle.std.specs.Prelude.{◌≡◌, false};
 
@@ -54,7 +55,8 @@ fn run_words<T: Threads + Wait + Clock + Sync + Copy + Send + 'static>(
     }
 }
 
-/// Does a command. Either status is the program's; with the second, the refusal was written.
+/// Does a command. Either status is the program's; if it is the second one, the program has written
+/// the refusal.
 fn answer<T: Threads + Wait + Clock + Sync + Copy + Send + 'static>(
     host: &HostRuntime,
     rt: &T,
@@ -80,8 +82,8 @@ fn answer<T: Threads + Wait + Clock + Sync + Copy + Send + 'static>(
     }
 }
 
-/// Begins a book, in a file that is put at its place once it is whole, or in an existing
-/// database.
+/// Creates a book, in a file that the program puts at its place once the file is whole, or in an
+/// existing database.
 fn init(host: &HostRuntime, line: &CommandLine<'_>) -> Result<Status, Status> {
     let file = line.file;
     match accept(host, file, look_before_init(host, file))? {
@@ -98,7 +100,7 @@ fn begin_beside(host: &HostRuntime, file: &str) -> Result<Status, Status> {
     let new = accept(host, file, DraftFile::make(host, file, NEW))?;
     let conn = open_database(host, file, new.path(), 0, DamagedLog::Refused)?;
     let (conn, status) = begin_in(host.alloc(), conn, host.stderr());
-    // The file goes to its place without its log: if the log can't be copied, no book was begun.
+    // The file goes to its place without its log: if the log can't be copied, no book was created.
     let status = match fold(conn) {
         Err(error) if status == Status::Done => {
             refuse(&mut host.stderr(), &OpenFault::Database(error))
@@ -111,7 +113,8 @@ fn begin_beside(host: &HostRuntime, file: &str) -> Result<Status, Status> {
     Ok(status)
 }
 
-/// Opens the file, does an order in its database, and closes it. The passwords were read before.
+/// Opens the file, does an order in its database, and closes the file. The passwords were read
+/// before.
 fn on_file<T: Threads + Sync>(
     host: &HostRuntime,
     tools: &Tools<'_, T>,
@@ -138,8 +141,8 @@ fn on_file<T: Threads + Sync>(
     Ok(close(host, conn, status))
 }
 
-/// Does an order in a database, which comes back. The function is over any database: with a file's
-/// database a proof takes too long.
+/// Does an order in a database, which comes back. The function is generic over the database: with a
+/// file's database a proof takes too long.
 fn obey<T: Threads + Sync, S: Alter, R: Read + Drop, W: Write + Drop, F: Write + Drop>(
     tools: &Tools<'_, T>,
     conn: Connection<S>,
@@ -155,8 +158,7 @@ fn obey<T: Threads + Sync, S: Alter, R: Read + Drop, W: Write + Drop, F: Write +
     serve_in(tools, conn, order, &mut reader, &mut writer, &mut faults)
 }
 
-/// Begins a book in the database, which comes back, or says whose tables are in the
-/// way.
+/// Creates a book in the database, or reports whose tables are in the way. The database comes back.
 fn begin_in<S: Alter, F: Write + Drop>(
     alloc: Global,
     conn: Connection<S>,

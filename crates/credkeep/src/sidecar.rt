@@ -15,10 +15,10 @@ pub(crate) const LOG: &str = "-wal";
 
 pub(crate) const JOURNAL: &str = "-journal";
 
-/// A log of at most so many bytes has no change: the header, and the start of one frame.
+/// A log of at most so many bytes has no change: only the header and the start of one frame.
 pub(crate) const EMPTY_LOG: u64 = 41;
 
-/// The file at a path, or `None` if none exists.
+/// Returns what was found at a path, or `None` if no file exists there.
 pub(crate) fn if_there<T>(found: io::Result<T>) -> io::Result<Option<T>> {
     match found {
         Ok(found) => Ok(Some(found)),
@@ -27,13 +27,13 @@ pub(crate) fn if_there<T>(found: io::Result<T>) -> io::Result<Option<T>> {
     }
 }
 
-/// The path of a file beside this one.
+/// Returns the path of a file beside this one.
 pub(crate) fn sidecar(rt: &HostRuntime, path: &str, end: &str) -> io::Result<String> {
     Ok(format!(in rt.alloc(); "{path}{end}")?)
 }
 
-/// The path of the file itself, if this is a link: the log lies beside the file. A path without a
-/// file stays as it is.
+/// Returns the path of the file to which a link leads, since the log lies beside that file. A path
+/// without a file stays as it is.
 pub(crate) fn real_path(rt: &HostRuntime, path: &str) -> io::Result<String> {
     match if_there(fs::canonicalize(rt, path))? {
         Some(real) => Ok(real.into_string()),
@@ -41,19 +41,19 @@ pub(crate) fn real_path(rt: &HostRuntime, path: &str) -> io::Result<String> {
     }
 }
 
-/// The length of a file, or `None` if none exists at this path.
+/// Returns the length of a file, or `None` if none exists at this path.
 pub(crate) fn len_of(rt: &HostRuntime, path: &str) -> io::Result<Option<u64>> {
     Ok(if_there(fs::symlink_metadata(rt, path))?.map(|found| found.len()))
 }
 
-/// The length of the log of the database at this path, or of the file that it links to.
+/// Returns the length of the log of the database at this path, or of the file that it links to.
 pub(crate) fn len_of_log(rt: &HostRuntime, path: &str) -> io::Result<Option<u64>> {
     let real = real_path(rt, path)?;
     let log = sidecar(rt, real.as_str(), LOG)?;
     len_of(rt, log.as_str())
 }
 
-/// The content of the log of the database at this path; `EMPTY` without a log.
+/// Returns the content of the log of the database at this path, or `EMPTY` without a log.
 pub(crate) fn look_at_its_log(rt: &HostRuntime, path: &str) -> io::Result<LogLook> {
     let log = sidecar(rt, path, LOG)?;
     match len_of(rt, log.as_str())? {
@@ -89,13 +89,13 @@ pub(crate) fn sync_folder(rt: &HostRuntime, path: &str) -> io::Result<()> {
     File::open(rt, name)?.sync_all()
 }
 
-/// A database and its log, neither of which another process can open until this is dropped.
+/// A database and its log, neither of which another process can open before this value is dropped.
 pub(crate) type Held = Files<FileFrom<Wary>>;
 
 /// Holds the database at this path, as the library does when it opens one.
 ///
-/// Errors: `Busy` if another process has it open, or replaced it meanwhile;
-/// `Journal`; `System`.
+/// Errors: `Busy` if another process has the database open, or replaced it meanwhile; `Journal`;
+/// `System`.
 pub(crate) fn hold(rt: &HostRuntime, path: &str) -> Result<Held, FileFault> {
     let file = File::open(rt, path)?;
     let held = match open_as(rt, path, Wary) {
@@ -114,7 +114,8 @@ pub(crate) fn hold(rt: &HostRuntime, path: &str) -> Result<Held, FileFault> {
     }
 }
 
-/// Opens the two files with these assumptions; over any `S`, as a proof over one takes a minute.
+/// Opens the two files with these assumptions. The function is generic over `S`, since a proof over
+/// one `S` takes a minute.
 fn open_as<S: Start>(
     rt: &HostRuntime,
     path: &str,

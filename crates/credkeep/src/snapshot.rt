@@ -1,8 +1,8 @@
 //! A copy of a database at one moment, even while another process serves it.
 //!
-//! A change is added at the end of the log, and the file itself is written only as the log is
-//! copied into it; then the log begins again, with another salt in its header. So the file, and
-//! after it the log from its start to its end, is the database at one moment, unless the log began
+//! A server adds a change at the end of the log, and writes the file itself only when it copies the
+//! log into the file. Then the log begins again, with another salt in its header. So the file, and
+//! then the log from its start to its end, are the database at one moment, unless the log began
 //! again meanwhile.
 
 use crate::draft::DraftFile;
@@ -17,7 +17,7 @@ use std::thread::sleep;
 use std::time::Duration;
 use std::{fs, io};
 
-/// The number of tries at a copy, and the milliseconds between.
+/// The number of tries at a copy, and the milliseconds between two tries.
 const TRIES: u32 = 100;
 
 const PAUSE: u64 = 20;
@@ -27,11 +27,10 @@ const CHUNK: usize = 65536;
 
 const MIB: u64 = 1024 * 1024;
 
-/// A file of more MiB takes long to read after it is copied.
+/// A file of more MiB than this takes long to read after it is copied.
 const MANY: u64 = 16;
 
-/// The parts that stay the same while only the end of the log is written: the log's header has its
-/// salt.
+/// The parts that stay the same while a server only adds to the log. The log's header has its salt.
 #[derive(Clone, Copy, PartialEq, Eq)]
 struct Stamp {
     device: u64,

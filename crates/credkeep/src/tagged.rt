@@ -31,7 +31,7 @@ use std::time::Clock;
 /// The way in which a book is served.
 #[derive(Clone, Copy)]
 pub(crate) struct Tagged {
-    /// The number of threads that hash, if it was given.
+    /// The number of threads that hash, if the words have one.
     pub(crate) at_once: Option<u8>,
     /// The memory of all hashes together, the costs of new records, the bounds on lines, and the
     /// limit of failed tries.
@@ -39,7 +39,7 @@ pub(crate) struct Tagged {
 }
 
 impl Tagged {
-    /// The service that the words ask for.
+    /// Returns the service that the words ask for.
     pub(crate) fn of(service: &Service) -> Tagged {
         let setting = service.setting.setting();
         let costs = match Costs::of(&setting) {
@@ -58,7 +58,7 @@ impl Tagged {
     }
 }
 
-/// Opens the file, answers tagged lines from standard input, and closes it.
+/// Opens the file, answers tagged lines from standard input, and closes the file.
 pub(crate) fn serve_tagged<T: Threads + Wait + Clock + Sync + Copy + Send + 'static>(
     host: &HostRuntime,
     rt: &T,
@@ -94,8 +94,8 @@ struct Streams<R, W, G> {
     salts: G,
 }
 
-/// A database whose book was served, or that holds none: its connection, the writer of the answers,
-/// and the exit status.
+/// A database whose book was served, or that holds no book: its connection, the writer of the
+/// answers, and the exit status.
 #[derive(Drop)]
 struct Finished<S: Alter, W> {
     conn: Connection<S>,
@@ -104,8 +104,8 @@ struct Finished<S: Alter, W> {
 }
 
 /// Opens the book of a database, and answers tagged lines on it. The connection and the writer come
-/// back: the bytes that the writer took, whatever it is, are the answers. If the database holds no
-/// book, `faults` says why.
+/// back: the bytes that the writer accepted, a pipe or a terminal, are the answers. If the database
+/// holds no book, `faults` says why.
 fn serve_in<T, S, R, W, G, F>(
     tools: &Tools<'_, T>,
     tagged: &Tagged,
@@ -208,7 +208,7 @@ where
     scribe.end(ending)
 }
 
-/// The exit status of a service that met this fault, if any.
+/// Returns the exit status of a service that met this fault, if any.
 fn status_of_end(fault: Option<ServiceFault>) -> Status
     ensures { result ≡ status_of_end fault }
 {
@@ -229,8 +229,8 @@ fn status_of_fault(fault: ServiceFault) -> Status
     }
 }
 
-/// As many threads as processors, but no more than have memory for the costs of new
-/// records at once.
+/// Returns the number of threads that hash: as many as processors, but no more than have memory for
+/// the costs of new records at once.
 fn threads_of<T: Threads>(rt: &T, tagged: &Tagged) -> u8 {
     if let Some(at_once) = tagged.at_once {
         return at_once;

@@ -30,11 +30,11 @@ Examples:
   sqlite3 users.db 'SELECT name FROM account'
 
 Exit statuses:
-  0  the command succeeded; or `check` printed yes
+  0  the command succeeded, or `check` printed yes
   1  an argument was refused
   2  reading or writing failed
   3  out of memory
-  4  no: a wrong password, no such account, no record, or it exists already
+  4  no: a wrong password, no such account, no record, or one that exists
   5  the database failed, is busy, is missing, or holds no book
   6  the input was refused: no password, too many lines, a password that is
      empty or has over 256 bytes, a bad line of an import, or no room for an
@@ -51,19 +51,19 @@ const NAME_HELP: &str = "The account: 1 to 32 of a-z, 0-9, '.', '_', '-'";
 const NEW_NAME_HELP: &str = "The account's new name";
 
 const SETTING_HELP: &str = "The scheme, the costs and, optionally, the salt of the new record;\n\
-    without a salt, a random one is used\n\
+    without a salt, credkeep draws a random one\n\
     [default: $argon2id$v=19$m=65536,t=3,p=4]";
 
 const TAGGED_HELP: &str = "Answers tagged lines: verify, login, enrol, change, reset and others;\n\
     required, since serve answers no other lines";
 
-const AT_ONCE_HELP: &str = "How many lines are hashed at once, from 1 to 255\n\
+const AT_ONCE_HELP: &str = "The number of lines that are hashed at once, from 1 to 255\n\
     [default: as many as there are processors, and as --memory allows]";
 
-const TRIES_HELP: &str = "How many tries may fail at an account until the next has to wait,\n\
+const TRIES_HELP: &str = "The number of tries that may fail at an account until the next waits,\n\
     from 1 to 86 [default: no limit]";
 
-const MEMORY_HELP: &str = "How much memory all hashes may need at once, in KiB or as 512M or 2G\n\
+const MEMORY_HELP: &str = "The memory that all hashes may need at once, in KiB or as 512M or 2G\n\
     [default: 2G]";
 
 const MOST_MEMORY_HELP: &str = "Refuses each line whose setting or record needs more memory than\n\
@@ -81,9 +81,9 @@ const SHOW_HELP: &str = "Writes the line NAME:RECORD before the record is remove
 
 const RECORD_HELP: &str = "The whole record, with its salt and its hash";
 
-const SKIP_HELP: &str = "Leaves accounts that exist as they are";
+const SKIP_HELP: &str = "Leaves existing accounts as they are";
 
-const UPDATE_HELP: &str = "Gives accounts that exist the records of their lines";
+const UPDATE_HELP: &str = "Gives existing accounts the records of their lines";
 
 const SKIP_BAD_HELP: &str = "Leaves bad lines out, and names each on standard error";
 
@@ -94,7 +94,7 @@ const DISABLE_LOCKED_HELP: &str =
 const KEEP_LOCKED_HELP: &str = "Keeps the marks ! and ~ before a record, as export writes them:\n\
     an account behind ! is locked, and has its record";
 
-const DRY_RUN_HELP: &str = "Changes nothing, and says what would be done";
+const DRY_RUN_HELP: &str = "Changes nothing, and prints what the import would do";
 
 const COSTS_HELP: &str = "Adds the scheme and the costs of each record, as NAME:COSTS";
 
@@ -105,7 +105,7 @@ const QUIET_HELP: &str = "Writes no counts, warnings or progress";
 const WAIT_HELP: &str =
     "Tries for so many seconds, from 0 to 3600, if another process has\nthe file open";
 
-const TO_HELP: &str = "The file of the copy, which replaces one that is there in one step";
+const TO_HELP: &str = "The file of the copy, which replaces an existing file in one step";
 
 const FROM_HELP: &str = "The file of the copy, which is only read";
 
@@ -156,7 +156,7 @@ enum Form {
 pub(crate) static PROGRAM: [Argument; 3] = [Argument::Wait, Argument::Quiet, Argument::File];
 
 impl Argument {
-    /// The name of the argument, its form, and its text in help.
+    /// Returns the name of the argument, its form, and its text in help.
     fn text(self) -> (&'static str, Form, &'static str) {
         match self {
             Argument::File => ("file", Form::Operand("FILE"), FILE_HELP),
@@ -188,7 +188,7 @@ impl Argument {
         }
     }
 
-    /// The name of the argument, if it is an option.
+    /// Returns the name of the argument, if the argument is an option.
     pub(crate) fn option(self) -> Option<&'static str> {
         match self.text() {
             (_, Form::Operand(_), _) => None,
@@ -197,7 +197,7 @@ impl Argument {
     }
 }
 
-/// The program, with all its commands.
+/// Builds the program, with all its commands.
 pub(crate) fn credkeep<'a>(alloc: Global) -> Result<Command<'a>, AllocError> {
     let mut command = without_commands(alloc)?;
     for text in &COMMANDS {
@@ -217,8 +217,8 @@ fn without_commands<'a>(alloc: Global) -> Result<Command<'a>, AllocError> {
     with_arguments(alloc, command, &PROGRAM)
 }
 
-/// The program with a command. The command is made here, so that no second one lives while the
-/// caller may end early.
+/// Adds a command to the program. This function builds the command, so that no second one lives
+/// while the caller may end early.
 fn with_command<'a>(
     alloc: Global,
     command: Command<'a>,
@@ -264,7 +264,7 @@ fn operand<'a>(alloc: Global, id: &'static str, value: &'static str) -> Arg<'a> 
     Arg::new(alloc, id).value_name(value).required(true)
 }
 
-/// An option with a value. A negative number is a value, which is refused as such.
+/// Builds an option with a value. A negative number is a value, which the option then refuses.
 fn option<'a>(alloc: Global, id: &'static str, value: &'static str) -> Arg<'a> {
     Arg::new(alloc, id)
         .long(id)

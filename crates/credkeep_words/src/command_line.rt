@@ -17,21 +17,21 @@ use std::random::RandomSource;
 #[derive(Drop)]
 pub struct CommandLine<'a> {
     pub file: &'a str,
-    /// The number of seconds for which a busy file is tried.
+    /// The number of seconds for which the program tries a busy file.
     pub wait: u16,
     pub remarks: Remarks,
     pub counts: CountsForm,
     pub command: Command<'a>,
 }
 
-/// Whether passwords may be typed at a terminal, which shows them.
+/// Whether a user may type passwords at a terminal, which shows them.
 #[derive(Clone, Copy, PartialEq, Eq)]
 pub enum Echo {
     Refused,
     Taken,
 }
 
-/// Whether warnings and progress are written.
+/// Whether the program writes warnings and progress.
 #[derive(Clone, Copy, PartialEq, Eq)]
 pub enum Remarks {
     Told,
@@ -41,13 +41,13 @@ pub enum Remarks {
 /// A command on a file.
 #[derive(Drop)]
 pub enum Command<'a> {
-    /// Begins a book.
+    /// Creates a book.
     Init,
     /// Writes a copy of the book to this place.
     Backup(&'a str),
-    /// Puts this copy in the book's place.
+    /// Replaces the book by this copy.
     Restore(&'a str),
-    /// Reads all of the book, and its log.
+    /// Reads the whole book and its log.
     Verify,
     /// Answers tagged lines of many clients.
     Tagged(Service),
@@ -58,7 +58,7 @@ pub enum Command<'a> {
 /// The service of tagged lines.
 #[derive(Clone, Copy)]
 pub struct Service {
-    /// The number of lines that are hashed at once, if it was given.
+    /// The number of lines that are hashed at once, if the words have one.
     pub at_once: Option<u8>,
     /// The memory of all hashes together in KiB. A hash under the setting needs no more.
     pub memory: u64,
@@ -70,8 +70,8 @@ pub struct Service {
     pub tries: Option<TryLimit>,
 }
 
-/// Reads the process's words. Refused words and calls for help are answered here, with the exit
-/// status.
+/// Reads the process's words. Answers refused words and calls for help, and returns the exit status
+/// of such an answer.
 pub fn read_words<'a>(host: &HostRuntime, words: &'a [String]) -> Result<CommandLine<'a>, Status> {
     match line_of(host, words) {
         Ok(line) => Ok(line),
@@ -114,7 +114,7 @@ fn parse<'a>(alloc: Global, words: &'a [String]) -> Result<ArgMatches<'a>, Error
     }
 }
 
-/// A single word may ask for help or the version as a command does elsewhere.
+/// Returns the words that a single word means: in other programs `help` and `version` are commands.
 fn meant_by(words: &[String]) -> Option<&'static [&'static str]> {
     match words {
         [_, word] if word.as_str() == "help" => Some(&HELP),

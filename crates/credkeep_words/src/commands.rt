@@ -31,7 +31,7 @@ pub(crate) enum CommandName {
 }
 
 impl CommandName {
-    /// The word of the command.
+    /// Returns the word of the command.
     pub(crate) fn word(self) -> &'static str {
         match self {
             CommandName::Init => "init",
@@ -71,8 +71,8 @@ pub(crate) struct CommandText {
 pub(crate) static COMMANDS: [CommandText; 21] = [
     CommandText {
         name: CommandName::Init,
-        about: "Begins an empty book in a new file",
-        long: "Begins an empty book in a new file, which only its owner may read and write.",
+        about: "Creates an empty book in a new file",
+        long: "Creates an empty book in a new file, which only its owner may read and write.",
         usage: "credkeep <FILE> init",
         arguments: &[],
     },
@@ -98,7 +98,7 @@ pub(crate) static COMMANDS: [CommandText; 21] = [
         about: "Gives an account its first password",
         long: "Gives an account its first password, one line of standard input. An account\n\
             that doesn't exist is added first.\n\
-            Prints enrolled; or exists with status 4.",
+            Prints enrolled, or exists with status 4.",
         usage: "credkeep <FILE> add [OPTIONS] <NAME>",
         arguments: &[
             Argument::Name,
@@ -111,8 +111,9 @@ pub(crate) static COMMANDS: [CommandText; 21] = [
         name: CommandName::Check,
         about: "Prints whether a password is right",
         long: "Prints whether a password, one line of standard input, is right.\n\
-            Prints yes; or no, expired (right, but it must be changed), absent (no\n\
-            record) or noaccount with status 4. A locked account has no right password.",
+            Prints yes, or one of these with status 4: no, expired (right, but it must be\n\
+            changed), absent (no record) or noaccount. A locked account has no right\n\
+            password.",
         usage: "credkeep <FILE> check [OPTIONS] <NAME>",
         arguments: &[Argument::Name, Argument::Echo],
     },
@@ -120,8 +121,8 @@ pub(crate) static COMMANDS: [CommandText; 21] = [
         name: CommandName::Change,
         about: "Replaces a password by a new one",
         long: "Replaces a password, the first line of standard input, by a new one, the second.\n\
-            Prints replaced; or wrong, same (the new password must differ), absent or\n\
-            noaccount with status 4.",
+            Prints replaced, or one of these with status 4: wrong, same (the new password\n\
+            must differ), absent or noaccount.",
         usage: "credkeep <FILE> change [OPTIONS] <NAME>",
         arguments: &[
             Argument::Name,
@@ -135,8 +136,7 @@ pub(crate) static COMMANDS: [CommandText; 21] = [
         about: "Gives an account a new password, without the old one",
         long: "Gives an account a new password, one line of standard input, without the old\n\
             one. A lock stays.\n\
-            Prints replaced, or enrolled if there was no record; or noaccount with\n\
-            status 4.",
+            Prints replaced, enrolled if there was no record, or noaccount with status 4.",
         usage: "credkeep <FILE> reset [OPTIONS] <NAME>",
         arguments: &[
             Argument::Name,
@@ -147,11 +147,11 @@ pub(crate) static COMMANDS: [CommandText; 21] = [
     },
     CommandText {
         name: CommandName::Upgrade,
-        about: "Rehashes a password by another scheme or costs",
+        about: "Rehashes a password with another scheme or other costs",
         long: "Rehashes a password, one line of standard input, if its record has another\n\
             scheme or other costs than --setting.\n\
-            Prints upgraded or kept; or wrong, expired, absent or noaccount with\n\
-            status 4.",
+            Prints upgraded or kept, or one of these with status 4: wrong, expired, absent\n\
+            or noaccount.",
         usage: "credkeep <FILE> upgrade [OPTIONS] <NAME>",
         arguments: &[Argument::Name, Argument::Setting, Argument::Echo],
     },
@@ -160,7 +160,8 @@ pub(crate) static COMMANDS: [CommandText; 21] = [
         about: "Removes the record of an account, with its password",
         long: "Removes the record of an account if the password, one line of standard input, is\n\
             right. The name stays.\n\
-            Prints removed; or wrong, expired, absent or noaccount with status 4.",
+            Prints removed, or one of these with status 4: wrong, expired, absent or\n\
+            noaccount.",
         usage: "credkeep <FILE> remove [OPTIONS] <NAME>",
         arguments: &[Argument::Name, Argument::Echo],
     },
@@ -169,8 +170,9 @@ pub(crate) static COMMANDS: [CommandText; 21] = [
         about: "Removes the record of an account, without its password",
         long: "Removes the record of an account without asking for its password. The name\n\
             stays, and no password is right for it.\n\
-            Prints disabled; or absent or noaccount with status 4. With --show it prints\n\
-            the line NAME:RECORD instead, which import --update puts back.",
+            Prints disabled, or one of these with status 4: absent or noaccount. With\n\
+            --show the command prints the line NAME:RECORD instead, which import --update\n\
+            puts back.",
         usage: "credkeep <FILE> disable [OPTIONS] <NAME>",
         arguments: &[Argument::Name, Argument::Show],
     },
@@ -178,7 +180,7 @@ pub(crate) static COMMANDS: [CommandText; 21] = [
         name: CommandName::Delete,
         about: "Deletes an account with its record",
         long: "Deletes an account with its record, without asking for its password.\n\
-            Prints deleted; or noaccount with status 4.",
+            Prints deleted, or noaccount with status 4.",
         usage: "credkeep <FILE> delete <NAME>",
         arguments: &[Argument::Name],
     },
@@ -186,7 +188,7 @@ pub(crate) static COMMANDS: [CommandText; 21] = [
         name: CommandName::Rename,
         about: "Gives an account another name",
         long: "Gives an account another name, which no account has yet.\n\
-            Prints renamed; or exists or noaccount with status 4.",
+            Prints renamed, or one of these with status 4: exists or noaccount.",
         usage: "credkeep <FILE> rename <NAME> <NEW>",
         arguments: &[Argument::Name, Argument::NewName],
     },
@@ -195,7 +197,7 @@ pub(crate) static COMMANDS: [CommandText; 21] = [
         about: "Locks an account: each password is wrong",
         long: "Locks an account: each password is wrong from now on. The record stays, and\n\
             reset doesn't end the lock.\n\
-            Prints locked; or noaccount with status 4.",
+            Prints locked, or noaccount with status 4.",
         usage: "credkeep <FILE> lock <NAME>",
         arguments: &[Argument::Name],
     },
@@ -203,16 +205,16 @@ pub(crate) static COMMANDS: [CommandText; 21] = [
         name: CommandName::Unlock,
         about: "Unlocks an account",
         long: "Unlocks an account: its password is right again.\n\
-            Prints unlocked; or none (it isn't locked) or noaccount with status 4.",
+            Prints unlocked, or one of these with status 4: none (no lock) or noaccount.",
         usage: "credkeep <FILE> unlock <NAME>",
         arguments: &[Argument::Name],
     },
     CommandText {
         name: CommandName::Expire,
         about: "Requires another password for an account",
-        long: "Requires another password for an account: the present one gets expired until\n\
-            change or reset sets another.\n\
-            Prints expired; or absent (no record) or noaccount with status 4.",
+        long: "Requires another password for an account: check prints expired for the present\n\
+            one until change or reset sets another.\n\
+            Prints expired, or one of these with status 4: absent (no record) or noaccount.",
         usage: "credkeep <FILE> expire <NAME>",
         arguments: &[Argument::Name],
     },
@@ -220,7 +222,8 @@ pub(crate) static COMMANDS: [CommandText; 21] = [
         name: CommandName::Show,
         about: "Shows the costs of a record, or the record",
         long: "Shows the scheme and the costs of an account's record, or the whole record.\n\
-            Prints absent or noaccount with status 4 if there is none.",
+            Prints, with status 4, absent if there is no record, or noaccount if there is no\n\
+            such account.",
         usage: "credkeep <FILE> show [OPTIONS] <NAME>",
         arguments: &[Argument::Name, Argument::Record, Argument::Json],
     },
@@ -248,7 +251,7 @@ pub(crate) static COMMANDS: [CommandText; 21] = [
             or scrypt. If a line is bad, the command reports each bad line and adds\n\
             nothing. It skips empty lines and lines that begin with #.\n\
             Prints the numbers of accounts added and updated, of lines left out\n\
-            since their accounts exist, and of bad lines.",
+            because their accounts exist, and of bad lines.",
         usage: "credkeep <FILE> import [OPTIONS]",
         arguments: &[
             Argument::SkipExisting,
@@ -264,10 +267,10 @@ pub(crate) static COMMANDS: [CommandText; 21] = [
     },
     CommandText {
         name: CommandName::Backup,
-        about: "Copies the book into another file, even while a server has it",
-        long: "Copies the book into another file, even while a server has it. The copy is\n\
-            whole and has no log.\n\
-            Prints the numbers of its accounts, and of changes in the log.",
+        about: "Copies the book into another file, even while a server has it open",
+        long: "Copies the book into another file, even while a server has it open. The copy\n\
+            is whole and has no log.\n\
+            Prints the numbers of its accounts and of changes in the log.",
         usage: "credkeep <FILE> backup <TO>",
         arguments: &[Argument::To],
     },
@@ -282,16 +285,15 @@ pub(crate) static COMMANDS: [CommandText; 21] = [
     },
     CommandText {
         name: CommandName::Verify,
-        about: "Reads the whole book, even while a server has it",
-        long: "Reads the whole book and its log, even while a server has it.\n\
-            Prints the numbers of accounts, and of changes in the log; or it names\n\
-            the damage.",
+        about: "Reads the whole book, even while a server has it open",
+        long: "Reads the whole book and its log, even while a server has it open.\n\
+            Prints the numbers of accounts and of changes in the log, or names the damage.",
         usage: "credkeep <FILE> verify [OPTIONS]",
         arguments: &[Argument::Json],
     },
 ];
 
-/// The command that this word names, if any.
+/// Returns the command that this word names, if any.
 pub(crate) fn command_named(word: &str) -> Option<&'static CommandText> {
     for text in &COMMANDS {
         if text.name.word() == word {
@@ -301,7 +303,7 @@ pub(crate) fn command_named(word: &str) -> Option<&'static CommandText> {
     None
 }
 
-/// The command of the first word that names one, if any.
+/// Returns the command of the first word that names one, if any.
 pub(crate) fn command_in(words: &[String]) -> Option<&'static CommandText> {
     for word in words {
         if let Some(text) = command_named(word.as_str()) {

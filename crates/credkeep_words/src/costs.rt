@@ -1,4 +1,4 @@
-//! The number of a setting's text that is outside its range.
+//! The number in a setting's text that is outside its range.
 
 use std::io;
 use std::io::Write;
@@ -8,13 +8,13 @@ const MAX_MEMORY: u64 = 2097152;
 
 const MAX_PASSES: u64 = 4294967295;
 
-/// The maximum number of lanes of Argon2; and the greatest r and p of scrypt.
+/// The maximum number of lanes of Argon2, and the maximum r and p of scrypt.
 const MAX_LANES: u64 = 255;
 
 /// The maximum number of blocks in scrypt's table, r times 2^ln.
 const MAX_ROWS: u64 = 16777216;
 
-/// Names the number that is outside its range, with the range.
+/// Writes the number that is outside its range, with the range.
 pub(crate) fn write_range<W: Write>(out: &mut W, text: &str) -> io::Result<()> {
     let is_scrypt = text.starts_with("$scrypt$");
     let ranges = if is_scrypt {
@@ -55,7 +55,7 @@ fn write_table<W: Write>(out: &mut W, cost: u64, size: u64) -> io::Result<()> {
     }
 }
 
-/// The number after a label among the costs; 0 without the label.
+/// Returns the number after a label among the costs, or 0 without the label.
 fn number_at(text: &str, label: &str) -> u64 {
     for field in text.split('$') {
         for cost in field.split(',') {

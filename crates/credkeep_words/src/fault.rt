@@ -4,12 +4,13 @@ use cred_admin::Status;
 use std::io::ErrorKind;
 use std::{fmt, io};
 
-/// The reason why a file isn't opened, found before any write. Its text says what each is.
+/// The reason why the program doesn't open a file, found before any write. The text of each reason
+/// explains it.
 #[derive(Clone, Copy)]
 pub enum FileFault {
     NoFile,
     Absent,
-    /// The folder in which it is to be made.
+    /// The folder of the new file doesn't exist.
     NoFolder,
     Irregular,
     Empty,
@@ -21,21 +22,21 @@ pub enum FileFault {
     /// Another process has the file open, or is writing it.
     Busy,
     Same,
-    /// A log with changes lies there: of a book in use, or of a file that is gone.
+    /// A log with changes lies there. It belongs to a book in use, or to a file that is gone.
     OldLog,
-    /// An earlier server's locks lie beside it, which an export doesn't look at.
+    /// An earlier server's locks lie beside the file, and an export doesn't read them.
     Locks,
-    /// The number of changes before the damage, and of those that are lost.
+    /// The log is damaged, with these numbers of changes before the damage and of lost changes.
     DamagedLog { before: u64, lost: u64 },
     /// The file can be read and written, but a sync of it failed.
     Unsynced,
-    /// It isn't known which user this is, since there is no /proc.
+    /// The program can't tell which user runs it, since there is no /proc.
     OwnUser(io::Error),
     System(io::Error),
 }
 
 impl FileFault {
-    /// The exit status of the fault.
+    /// Returns the exit status of the fault.
     pub fn status(&self) -> Status {
         match self {
             FileFault::NoFile => Status::Usage,
@@ -55,7 +56,7 @@ impl fmt::Display for FileFault {
             FileFault::Absent => f.write_str("there is no such file; init makes one"),
             FileFault::NoFolder => f.write_str("its folder doesn't exist; mkdir -p makes one"),
             FileFault::Irregular => f.write_str("it is a folder, a link or a device"),
-            FileFault::Empty => f.write_str("it is empty; init begins a book in it"),
+            FileFault::Empty => f.write_str("it is empty; init creates a book in it"),
             FileFault::NoDatabase => f.write_str("it is no database"),
             FileFault::Journal => f.write_str(
                 "another program was killed amid a change; open the file with sqlite3 first",

@@ -1,6 +1,6 @@
-//! The words of the program `credkeep`: what its command line asks for, the texts on refused words
-//! and files, and the passwords that it reads. `credkeep` has the files, and `cred_keep` does the
-//! orders.
+//! The words of the program `credkeep`: the commands of its command line, the texts on refused
+//! words and files, and the passwords that it reads. `credkeep` opens the files, and `cred_keep`
+//! does the orders.
 #![tactic(auto)]
 
 mod arguments;

@@ -8,12 +8,12 @@ use cred_cli::CostBounds;
 use cred_keep::{BadLines, CountsForm, Effect, Importing};
 use cred_tries::{MOST_TRIES, TryLimit};
 
-/// The first value if the flag is given, and otherwise the second.
+/// Returns the first value if the words have the flag, and otherwise the second.
 pub(crate) fn either<V: Copy>(values: &ArgMatches<'_>, flag: &str, given: V, absent: V) -> V {
     if values.get_flag(flag) { given } else { absent }
 }
 
-/// A required word.
+/// Returns the value of a required word.
 pub(crate) fn text_in<'a>(values: &ArgMatches<'a>, word: &str) -> &'a str {
     values.get_str(word).unwrap_or("")
 }
@@ -26,7 +26,7 @@ pub(crate) fn name_in<'a>(values: &ArgMatches<'a>, word: &str) -> Result<Name, W
     }
 }
 
-/// The bounds on settings and records.
+/// Returns the bounds on settings and records.
 pub(crate) fn most_in<'a>(values: &ArgMatches<'a>) -> Result<CostBounds, WordsRefusal<'a>> {
     Ok(CostBounds {
         memory: size_in(values, "most-memory")?,
@@ -34,7 +34,7 @@ pub(crate) fn most_in<'a>(values: &ArgMatches<'a>) -> Result<CostBounds, WordsRe
     })
 }
 
-/// The size that an option gives in KiB, if any.
+/// Returns the size that an option gives in KiB, if any.
 pub(crate) fn size_in<'a>(
     values: &ArgMatches<'a>,
     option: &'static str,
@@ -48,7 +48,7 @@ pub(crate) fn size_in<'a>(
     }
 }
 
-/// The KiB of a size: a number of KiB, or one with K, M or G behind it.
+/// Returns the KiB of a size: a number of KiB, or one with K, M or G behind it.
 fn kib_of(text: &str) -> Option<u64> {
     let (digits, unit) = match text.as_bytes().last() {
         Some(b'K') => (text.strip_suffix('K')?, 1),
@@ -62,7 +62,7 @@ fn kib_of(text: &str) -> Option<u64> {
         .map(|count| u64::from(count) * unit)
 }
 
-/// The number that an option gives, if any.
+/// Returns the number that an option gives, if any.
 pub(crate) fn number_in<'a>(
     values: &ArgMatches<'a>,
     option: &'static str,
@@ -78,7 +78,7 @@ pub(crate) fn number_in<'a>(
     }
 }
 
-/// The number of threads that an option gives, if any.
+/// Returns the number of threads that an option gives, if any.
 pub(crate) fn threads_in<'a>(
     values: &ArgMatches<'a>,
     option: &'static str,
@@ -88,7 +88,7 @@ pub(crate) fn threads_in<'a>(
     Ok(number.map(|number| u8::try_from(number).unwrap_or(most)))
 }
 
-/// The limit of failed tries, if it is given.
+/// Returns the limit of failed tries, if the words have one.
 pub(crate) fn tries_in<'a>(values: &ArgMatches<'a>) -> Result<Option<TryLimit>, WordsRefusal<'a>> {
     let most = u16::try_from(MOST_TRIES).unwrap_or(u16::MAX);
     match number_in(values, "tries", 1, most)? {
@@ -97,13 +97,13 @@ pub(crate) fn tries_in<'a>(values: &ArgMatches<'a>) -> Result<Option<TryLimit>, 
     }
 }
 
-/// The form of counts.
+/// Returns the form of counts.
 pub(crate) fn counts_in(values: &ArgMatches<'_>) -> CountsForm {
     let plain = either(values, "quiet", CountsForm::Hidden, CountsForm::Plain);
     either(values, "json", CountsForm::Json, plain)
 }
 
-/// The form of the list of accounts.
+/// Returns the form of the list of accounts.
 pub(crate) fn line_in(values: &ArgMatches<'_>) -> LineForm {
     let plain = either(
         values,
@@ -114,7 +114,7 @@ pub(crate) fn line_in(values: &ArgMatches<'_>) -> LineForm {
     either(values, "json", LineForm::Json(Detail::Costs), plain)
 }
 
-/// The options of an import.
+/// Returns the options of an import.
 pub(crate) fn importing_in<'a>(values: &ArgMatches<'a>) -> Result<Importing, WordsRefusal<'a>> {
     let existing = match (values.get_flag("skip-existing"), values.get_flag("update")) {
         (true, true) => return Err(WordsRefusal::Existing),

@@ -1,4 +1,4 @@
-//! The command that each name and its options ask for.
+//! Finds the command that a name and its options ask for.
 
 use crate::command_line::{Command, Echo, Service};
 use crate::commands::CommandName;
@@ -25,7 +25,7 @@ pub(crate) const DEFAULT_SETTING: &str = "$argon2id$v=19$m=65536,t=3,p=4";
 /// The default memory of all hashes of tagged lines together, in KiB.
 const DEFAULT_MEMORY: u64 = 2097152;
 
-/// The command of this name with these options.
+/// Reads the command of this name with these options.
 pub(crate) fn read_command<'a, R: RandomSource + AllocGlobal>(
     rt: &R,
     name: CommandName,
@@ -106,7 +106,8 @@ fn rename<'a>(values: &ArgMatches<'a>, name: Name) -> Result<Command<'a>, WordsR
     edit(values, Edit::Rename(name, name_in(values, "new")?))
 }
 
-/// The service of tagged lines. New records are within the bounds, and have room.
+/// Reads the service of tagged lines, and checks that new records are within the bounds and have
+/// room.
 fn service_in<'a, R: RandomSource + AllocGlobal>(
     rt: &R,
     values: &ArgMatches<'a>,
@@ -145,7 +146,7 @@ fn new_password_in<'a, R: RandomSource + AllocGlobal>(
     })
 }
 
-/// The setting of new records, with its own salt or a drawn one.
+/// Reads the setting of new records, with its own salt or a drawn one.
 fn setting_in<'a, R: RandomSource + AllocGlobal>(
     rt: &R,
     values: &ArgMatches<'a>,
@@ -161,7 +162,7 @@ fn setting_in<'a, R: RandomSource + AllocGlobal>(
     }
 }
 
-/// The setting of a text, with the source's next salt if the text has none.
+/// Reads the setting of a text, with the source's next salt if the text has none.
 fn salted<G: Rng>(alloc: Global, text: &str, source: &mut G) -> Result<NewSetting, PhcError> {
     setting_of(alloc, text.as_bytes(), &draw_salt(source))
 }

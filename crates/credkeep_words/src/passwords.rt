@@ -1,5 +1,5 @@
-//! Reading the passwords of an order: lines of standard input, or typed at a terminal that shows
-//! them.
+//! Reads the passwords of an order: lines of standard input, or lines that a user types at a
+//! terminal that shows them.
 
 use crate::command_line::Echo;
 use crate::refusal::say;
@@ -10,12 +10,12 @@ use std::io::{BufRead, ErrorKind, IsTerminal, Read, Write};
 
 const PRESENT: &str = "Password: ";
 
-/// The size of the longest line of a password in bytes, with its end.
+/// The size of the longest password line in bytes, with its end.
 const LONGEST: u64 = MAX_PASSWORD as u64 + 1;
 
-/// The password lines of an order on a book, if it reads any. The input must end after them: a
-/// password with a line end in it would be cut there. At a terminal each is
-/// asked for on standard error, a new one twice.
+/// Reads the password lines of an order on a book, if the order reads any. The input must end after
+/// them: a line end within a password would cut the password there. At a terminal, asks for each
+/// password on standard error, and for a new one twice.
 pub fn read_passwords(
     host: &HostRuntime,
     file: &str,
@@ -54,8 +54,8 @@ pub fn advise(host: &HostRuntime, order: &Order, lines: &[u8]) {
     }
 }
 
-/// Reads the input to its end, or to where it can't be these passwords. The input may be too
-/// short or too long, which the order says.
+/// Reads the input to its end, or to a byte that these passwords can't have. The input may still be
+/// too short or too long: the order reports that.
 fn read_lines(host: &HostRuntime, passwords: Passwords) -> Result<Vec<u8>, Status> {
     let (count, most, too_many) = match passwords {
         Passwords::Present | Passwords::New(_) => {
@@ -127,7 +127,7 @@ fn ask_new_line(host: &HostRuntime) -> Result<Vec<u8>, Status> {
     Ok(new)
 }
 
-/// One typed line, with its end.
+/// Asks for one line, and returns the line with its end.
 fn ask_line(host: &HostRuntime, prompt: &str) -> Result<Vec<u8>, Status> {
     let _ = write!(host.stderr(), "{prompt}");
     let mut line = Vec::new(host.alloc());

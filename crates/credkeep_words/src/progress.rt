@@ -10,16 +10,16 @@ use std::time::Instant;
 /// The seconds before the first line of progress, and between two of them.
 const PAUSE: u64 = 1;
 
-/// An import of more lines takes long after they are read.
+/// An import of more lines than this takes long after it has read them.
 const MANY_LINES: u64 = 10_000;
 
 const LINES: &str = "lines read, which are stored together";
 
-/// A line on standard error that is overwritten as an order goes on.
+/// A line on standard error, which the program overwrites as an order goes on.
 #[derive(Drop)]
 pub struct ProgressLine<'a> {
     host: &'a HostRuntime,
-    /// The time of the last line, or of the order's begin; `None` without a terminal.
+    /// The time of the last line, or of the order's start. `None` without a terminal.
     last: Option<Instant>,
     shown: bool,
 }
@@ -37,7 +37,7 @@ impl<'a> ProgressLine<'a> {
         }
     }
 
-    /// Writes how much is done, if the last time was a second ago.
+    /// Writes how much is done, if the last such line is a second old.
     pub fn tell(&mut self, done: u64, what: &str) {
         let Some(last) = self.last else {
             return;
@@ -117,7 +117,7 @@ impl<R: Read> Read for Counted<'_, R> {
     }
 }
 
-/// The number of lines after these bytes.
+/// Returns the number of lines after these bytes.
 fn lines_with(lines: u64, read: &[u8]) -> u64 {
     let mut lines = lines;
     for byte in read {

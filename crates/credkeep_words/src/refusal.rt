@@ -17,25 +17,25 @@ use std::io::Write;
 /// The reason why the words of the command line are refused.
 #[derive(Drop)]
 pub(crate) enum WordsRefusal<'a> {
-    /// The words don't parse, or ask for help or the version.
+    /// The words don't parse, or they ask for help or the version.
     Words(Error),
     /// No word is a command.
     NoCommand,
-    /// A service of lines without tags is asked for.
+    /// The words ask for a service of lines without tags.
     Untagged,
-    /// A word or an option too many for this command.
+    /// This command has a word or an option too many.
     Unknown(&'static CommandText, Slip),
     /// No account can have this name.
     Name { text: &'a str, why: BookError },
     /// The text of the setting has this fault.
     Setting { text: &'a str, why: PhcError },
-    /// The text of this option is no size.
+    /// The text of this option isn't a size.
     Size(&'static str),
-    /// The text of this option is no number in this range.
+    /// The text of this option isn't a number in this range.
     Number(&'static str, u16, u16),
     /// The setting needs more memory or work than the bound on the lines.
     Costly,
-    /// A hash under the setting needs so many KiB, more than all hashes together may need.
+    /// A hash under the setting needs so many KiB, which is more than all hashes together may need.
     Crowded(u64),
     /// Existing accounts can't both stay as they are and be updated.
     Existing,
@@ -48,7 +48,8 @@ pub(crate) enum WordsRefusal<'a> {
 }
 
 impl<'a> WordsRefusal<'a> {
-    /// The reason why the words don't parse. A word too many isn't repeated: it may be a password.
+    /// Returns the reason why the words don't parse. The reason doesn't repeat an excess word,
+    /// which may be a password.
     pub(crate) fn of_words(alloc: Global, words: &[String], error: Error) -> WordsRefusal<'a> {
         match error.kind() {
             ErrorKind::UnknownArgument | ErrorKind::InvalidSubcommand => match command_in(words) {
@@ -60,7 +61,7 @@ impl<'a> WordsRefusal<'a> {
         }
     }
 
-    /// Writes the reason on standard error. Help and the version are written on standard output.
+    /// Writes the reason on standard error, but help and the version on standard output.
     pub(crate) fn tell(&self, host: &HostRuntime) -> Status {
         match self {
             WordsRefusal::Words(error) => return tell_words(host, error),
@@ -101,8 +102,8 @@ impl<'a> WordsRefusal<'a> {
             ),
             WordsRefusal::Existing => writeln!(
                 out,
-                "credkeep: --skip-existing and --update exclude each other: an existing account is \
-                 left, or updated"
+                "credkeep: --skip-existing and --update exclude each other: an existing account \
+                 stays as it is, or is updated"
             ),
             WordsRefusal::Locked => writeln!(
                 out,
@@ -140,7 +141,7 @@ fn write_unknown<W: Write>(out: &mut W, command: &CommandText, slip: Slip) -> io
     )
 }
 
-/// Names the option that is safe to name, and never a word that was given.
+/// Names the option that is safe to name, but never a word of the command line.
 fn write_slip<W: Write>(out: &mut W, name: CommandName, slip: Slip) -> io::Result<()> {
     let word = name.word();
     write!(out, "credkeep: {word}: ")?;
@@ -202,7 +203,7 @@ fn write_setting<W: Write>(out: &mut W, text: &str, why: PhcError) -> io::Result
     writeln!(out, " ({number} {word})")
 }
 
-/// Names the number that is outside its range, the form that a setting has, or the fault.
+/// Writes the number that is outside its range, the form of a setting, or the fault.
 fn write_fault<W: Write>(out: &mut W, text: &str, why: PhcError) -> io::Result<()> {
     match why {
         PhcError::Range => write_range(out, text),

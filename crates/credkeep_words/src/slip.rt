@@ -1,15 +1,14 @@
-//! The meaning of a refused word, as far as a text can tell it without repeating the word: it
-//! may be a password.
+//! The meaning of a refused word. A text must not repeat the word, which may be a password.
 
 use crate::arguments::{Argument, PROGRAM};
 use crate::commands::{COMMANDS, CommandText};
 use std::alloc::Global;
 use strsim::osa_distance;
 
-/// The number of wrong letters from which a name isn't taken for an option.
+/// A name with so many wrong letters isn't similar to an option.
 const FAR: usize = 3;
 
-/// The fault of a word, and the option that it is or resembles.
+/// The fault of a word, and the option that the word is or resembles.
 #[derive(Clone, Copy)]
 pub(crate) enum Slip {
     /// The word is one too many.
@@ -20,11 +19,11 @@ pub(crate) enum Slip {
     Early(&'static str),
     /// An option of other commands.
     Elsewhere(&'static str),
-    /// No option, but similar to this one.
+    /// No option, but a word similar to this option.
     Misspelt(&'static str),
 }
 
-/// The fault of the first option that is refused at its place, beside this command.
+/// Returns the fault of the first option that is refused at its place, beside this command.
 pub(crate) fn slip_in(alloc: Global, words: &[String], command: &CommandText) -> Slip {
     let mut is_behind = false;
     for word in words {
@@ -41,7 +40,7 @@ pub(crate) fn slip_in(alloc: Global, words: &[String], command: &CommandText) ->
     Slip::Unnamed
 }
 
-/// The name of an option, without a value after it.
+/// Returns the name of an option, without a value after it.
 fn name_in(text: &str) -> &str {
     match text.split_once('=') {
         Some((name, _)) => name,
@@ -76,7 +75,7 @@ fn has(arguments: &[Argument], option: &str) -> bool {
     false
 }
 
-/// The option with the most similar name, if one is similar.
+/// Returns the option with the most similar name, if one is similar.
 fn option_like(alloc: Global, name: &str) -> Option<&'static str> {
     let mut best = nearer(alloc, &PROGRAM, name, (FAR, None));
     for command in &COMMANDS {
@@ -85,7 +84,8 @@ fn option_like(alloc: Global, name: &str) -> Option<&'static str> {
     best.1
 }
 
-/// The option of these arguments whose name is most similar, if it beats the best so far.
+/// Returns the option of these arguments with the most similar name, if this name is more similar
+/// than the best so far.
 fn nearer(
     alloc: Global,
     arguments: &[Argument],

@@ -1,4 +1,4 @@
-//! Adding many accounts to a kept book at once, and replacing the records of many.
+//! Adds many accounts to a kept book at once, and replaces the records of many.
 
 ghost use Rattle.std.specs.Prelude.{◌+◌, ◌≤◌, ◌<◌, MatchBool, OnErr, OnOk, ⊤, ◌≡◌};
 ghost use Rattle.std.specs.FinMap as fin;
@@ -15,13 +15,13 @@ use cred_book::{BookError, Register};
 use sqlite::Alter;
 
 impl<S: Alter> FileBook<S> {
-    /// Adds accounts and replaces the records of others, by one transaction of the database: so a
-    /// crash leaves the book as it was, or with all these changes. Each of these accounts gets the
-    /// marks that are given, and a lock of one that exists stays. Marks of other names do nothing.
+    /// Adds accounts and replaces the records of others in one transaction of the database, so a
+    /// crash leaves the book as it was, or with all these changes. Each of these accounts gets its
+    /// mark in `marks`, and an existing account keeps its lock. Marks of other names do nothing.
     ///
-    /// Errors: `Exists` if the book has one of the names that are added; `NoAccount` if it lacks
-    /// one of the others; `Full` if there would be over 2^24 accounts; `Memory` if it runs out, if
-    /// the database fails, and if a change is lost.
+    /// Errors: `Exists` if the book has one of the new names; `NoAccount` if it lacks one of the
+    /// others; `Full` if there would be over 2^24 accounts; `Memory` if memory runs out, if the
+    /// database fails, and if a change is lost.
     pub fn take_in(
         &mut self,
         added: Register,
@@ -70,8 +70,8 @@ impl<S: Alter> FileBook<S> {
         }
     }
 
-    /// Replaces records by one transaction of the database. These accounts need not be changed any
-    /// more; a lock stays.
+    /// Replaces records in one transaction of the database. The passwords of these accounts need
+    /// not be changed any more, and a lock stays.
     ///
     /// Errors: `NoAccount` if the book lacks one of the names; `Memory` as in `take_in`.
     pub fn replace_all(&mut self, changed: Register) -> Result<(), BookError>
@@ -107,7 +107,7 @@ fn has_room(book: &Register, added: &Register) -> bool
     added.len() <= book.room()
 }
 
-/// Whether both have a name in common.
+/// Whether both registers have a name in common.
 fn meets(book: &Register, more: &Register) -> bool
     ensures { MatchBool result (Meet book.now more.now) (AreApart book.now more.now) }
 {

@@ -1,4 +1,4 @@
-//! A kept book that begins as the copy of another.
+//! Creates a kept book as the copy of another.
 
 ghost use Rattle.std.specs.Prelude.{◌≡◌, false, IfErr, IfOk, None};
 ghost use Rattle.cred_file.specs.{Cells.cells_of, Cells.mark_at, Copies.IsUncopied, Copies.MayCopy, Kept.cells, Schema.no_schema};
@@ -14,8 +14,8 @@ use sqlite::{Alter, Connection};
 use std::alloc::Global;
 
 impl<S: Alter> FileBook<S> {
-    /// Begins a book in an empty database, with all accounts of an existing book and their marks:
-    /// they are written by one transaction.
+    /// Creates a book in an empty database, and writes all accounts of an existing book with their
+    /// marks into it, in one transaction.
     ///
     /// Errors: `NotEmpty` if a table exists already; `Memory`; `Database`. The connection comes
     /// back, and a crash leaves what it could leave before, an empty book, or all the accounts.

@@ -1,5 +1,5 @@
-//! The changes of a kept book. Each allocates its memory before it writes the row, so nothing can
-//! fail after that; if the database refuses, the book is as it was.
+//! The changes of a kept book. Each change allocates its memory before it writes the row, so
+//! nothing can fail after that. If the database refuses, the book is as it was.
 
 ghost use Rattle.std.specs.Prelude.{◌≡◌, true, false, IfErr, IfSome, None, OnErr, OnOk, if◌then◌else◌, Some, is_ok, not};
 ghost use Rattle.std.specs.FinMap as fin;
@@ -20,10 +20,10 @@ use cred_phc::Record;
 use sqlite::Alter;
 
 impl<S: Alter> FileBook<S> {
-    /// Adds a name, with no record and no marks.
+    /// Adds a name without a record or marks.
     ///
-    /// Errors: `Exists` if the book has the name; `Full` if it has 2^24 names; `Memory` if it runs
-    /// out, if the database fails, and if a change is lost.
+    /// Errors: `Exists` if the book has the name; `Full` if it has 2^24 names; `Memory` if memory
+    /// runs out, if the database fails, and if a change is lost.
     pub fn admit(&mut self, name: Name) -> Result<(), BookError>
         ensures done { AdmitsWithin register_capacity self.old.book self.new.book name result }
         ensures marks { OnOk result (mark_at self.new.marks
@@ -39,7 +39,7 @@ impl<S: Alter> FileBook<S> {
     }
 
     /// Stores this record at the account, in place of any other. Its password need not be changed
-    /// any more; a lock stays.
+    /// any more, and a lock stays.
     ///
     /// Errors: `NoAccount` if the book doesn't have the name; `Memory` as in `admit`.
     pub fn load(&mut self, name: &Name, stored: Record) -> Result<(), BookError>
@@ -59,11 +59,11 @@ impl<S: Alter> FileBook<S> {
         self.replace(name, Some(stored))
     }
 
-    /// Does the whole operation if the record still equals the copy, and otherwise nothing. An
-    /// account whose record changes need not be changed any more; a lock stays, and refuses
-    /// nothing here.
+    /// Does the whole operation if the record still equals the copy, and otherwise nothing. If the
+    /// record changes, the password need not be changed any more. A lock stays, but refuses nothing
+    /// here.
     ///
-    /// Errors: `Memory` as in `admit`; the work comes back.
+    /// Errors: `Memory` as in `admit`. The work comes back.
     #[tactic(auto, using(crate::proofs::Judged::judged))]
     pub fn commit(&mut self, worked: Worked) -> Result<Reply, (Worked, BookError)>
         ensures done { Commits self.old.book self.new.book worked result }
@@ -91,11 +91,12 @@ impl<S: Alter> FileBook<S> {
         }
     }
 
-    /// Sets or removes the record of a name, which is added if it doesn't exist. An account that
-    /// exists need not be changed any more, and its lock stays; a new one has no marks.
+    /// Sets or removes the record of a name, and adds the name if it doesn't exist. The password of
+    /// an existing account need not be changed any more, and its lock stays. A new account has no
+    /// marks.
     ///
-    /// Errors: `Full` if the name doesn't exist and there are 2^24 others; `Memory` if it runs out,
-    /// if the database fails, and if a change is lost.
+    /// Errors: `Full` if the name doesn't exist and there are 2^24 others; `Memory` if memory runs
+    /// out, if the database fails, and if a change is lost.
     #[tactic(auto, using(crate::proofs::Keeping::put_replaced))]
     pub fn put(&mut self, name: &Name, stored: Option<Record>) -> Result<(), BookError>
         ensures done { PutsEntry register_capacity self.old.book self.new.book name.now stored
@@ -261,7 +262,7 @@ impl<S: Alter> FileBook<S> {
         }
     }
 
-    /// Sets or removes the record of an existing name, which need not be changed any more.
+    /// Sets or removes the record of an existing name, whose password need not be changed any more.
     pub(super) fn replace(&mut self, name: &Name, stored: Option<Record>) -> Result<(), BookError>
         requires { fin.contains_key self.old.book name.now ≡ true }
         ensures done { OnOk result (self.new.book ≡ fin.insert self.old.book name.now stored) }
@@ -303,7 +304,7 @@ impl<S: Alter> FileBook<S> {
         }
     }
 
-    /// Sets the marks of an account, in place of those that it has. Its record stays.
+    /// Replaces the marks of an account. Its record stays.
     ///
     /// Errors: `NoAccount` if the book doesn't have the name; `Memory` as in `admit`.
     pub fn mark(&mut self, name: &Name, mark: Mark) -> Result<(), BookError>

@@ -1,4 +1,4 @@
-//! The commit of what was hashed for a line, and the line's answer.
+//! The commit of a hashed line, and the line's answer.
 
 ghost use Rattle.std.specs.List.{remove};
 ghost use Rattle.std.specs.Prelude.{◌≡◌, ℕ, IfSome, None, true, false};
@@ -19,10 +19,10 @@ use cred_cli::reply_line;
 use std::io::Write;
 
 impl<J: ServiceId, K: Host, W: Write> Scribe<J, K, W> {
-    /// Commits a whole operation, and answers it, if the record still equals the copy. Otherwise
-    /// the record is copied again. The account's marks count that stand now, and so do the tries that
-    /// failed before this reading of the clock, in seconds: one that is too early is sent away, be
-    /// its password right or wrong.
+    /// Commits a whole operation and answers its line, if the record still equals the copy, and
+    /// otherwise copies the record again. The present marks of the account count, and so do the
+    /// tries that failed before this reading of the clock, in seconds. A try that is too early is
+    /// sent away, whether its password is right or wrong.
     pub fn commit(&mut self, hashed: Hashed<J>, now: u64) -> Option<Job<J>>
         ensures turn { result ≡ None → HasTurn hashed.0.number self.old.output self.new.output }
         ensures again { IfSome result (λ job. (job.0 ≡ hashed.0)
@@ -98,7 +98,7 @@ impl<J: ServiceId, K: Host, W: Write> Scribe<J, K, W> {
         None
     }
 
-    /// Sets the new record in place of any other.
+    /// Stores the new record in place of any other.
     fn reset(&mut self, place: usize, line: Line<J>, worked: &Worked)
         requires ready { IsReady self.old.output.fault self.old.output.pending place line.number }
         requires asked { IsJobOf line.ask worked.now }
@@ -123,7 +123,7 @@ impl<J: ServiceId, K: Host, W: Write> Scribe<J, K, W> {
     }
 }
 
-/// The verdict under which an operation is answered.
+/// Returns the verdict that answers an operation.
 fn told_verdict(ask: Ask, verdict: Verdict) -> Verdict
     ensures { result ≡ told_verdict ask verdict }
 {
@@ -134,7 +134,7 @@ fn told_verdict(ask: Ask, verdict: Verdict) -> Verdict
     }
 }
 
-/// The effect of an operation's answer on its account's failed tries.
+/// Returns the effect of an operation's answer on its account's failed tries.
 fn effect_of(ask: &Ask, verdict: &Verdict) -> Effect
     ensures { result ≡ effect_by (is_try ask.now) verdict.now }
 {
@@ -146,7 +146,7 @@ fn effect_of(ask: &Ask, verdict: &Verdict) -> Effect
     }
 }
 
-/// The effect of the reply to a try on the failed tries.
+/// Returns the effect of the reply to a try on the failed tries.
 fn reply_effect(reply: &Reply) -> Effect
     ensures { result ≡ reply_effect reply.now }
 {
@@ -163,7 +163,7 @@ fn reply_effect(reply: &Reply) -> Effect
     }
 }
 
-/// The reply to an operation: that of a login is the reply of a verify.
+/// Returns the reply to an operation: that of a login is the reply of a verify.
 pub(super) fn told_reply(ask: Ask, reply: Reply) -> Reply
     ensures { result ≡ told_reply ask reply }
 {

@@ -1,4 +1,4 @@
-//! Changes of different accounts that are made together, and answered at once.
+//! Changes of different accounts that the scribe makes together and answers at once.
 
 ghost use Rattle.std.specs.Prelude.{◌≡◌, ◌++◌, ◌∷◌, [], IfErr, None, OnErr, OnOk};
 ghost use Rattle.cred_many.specs.{Adds.AddsJudged, Scribe.IsGroup, Scribe.entries_of, Turns.HaveTurns, Turns.UseTurns};
@@ -13,17 +13,17 @@ use std::alloc::Global;
 use std::io::Write;
 
 impl<J: ServiceId, K: Host, W: Write> Scribe<J, K, W> {
-    /// Whether a work is committed by itself: it makes no change as the account is now, or the
-    /// account is marked or has failed tries. Where a try may be sent away, its answer then waits
-    /// for no changes of others, whether its password is right or wrong.
+    /// Whether the scribe commits a work by itself: the work makes no change as the account is now,
+    /// or the account is marked or has failed tries. So the answer to a try that may be sent away
+    /// waits for no changes of others, whether the password is right or wrong.
     pub(crate) fn is_apart(&self, hashed: &Hashed<J>) -> bool {
         let name = hashed.worked().request().name();
         let (_, _, changes) = self.keeper.accounts().judge(hashed.worked());
         !changes || self.keeper.mark_of(&name).is_marked() || !self.tries.is_clear(&name)
     }
 
-    /// Commits the changes of different accounts among these works together, and answers their
-    /// lines. The other works come back, in their order.
+    /// Commits together the changes of different accounts among these works, and answers their
+    /// lines. The other works come back in their order.
     pub fn commit_together(&mut self, alloc: Global, works: Vec<Hashed<J>>) -> Vec<Hashed<J>>
         ensures turns { self.new.output.fault ≡ None → HaveTurns works.items result.items
             self.old.output.pending self.new.output.pending }
@@ -49,8 +49,8 @@ impl<J: ServiceId, K: Host, W: Write> Scribe<J, K, W> {
         others
     }
 
-    /// Adds a line to the group if it changes an account that has no mark and no failed tries, and
-    /// that no other line there changes; otherwise returns it.
+    /// Adds a line to the group, or returns the line. A line joins the group if it changes an
+    /// account that has no mark and no failed tries, and that no other line of the group changes.
     fn gather(&self, group: &mut Group<J>, hashed: Hashed<J>) -> Result<(), Hashed<J>>
         requires { IsGroup K.capacity J.service self.now.tries (K.book self.now.keeper)
             group.old.changed (entries_of group.old.works.items) group.old.text.items }
@@ -83,7 +83,8 @@ impl<J: ServiceId, K: Host, W: Write> Scribe<J, K, W> {
         group.push(hashed, &change)
     }
 
-    /// Commits the changes of a group, and answers its lines; none if the keeper refuses.
+    /// Commits the changes of a group, and answers its lines. If the keeper refuses, commits no
+    /// change and refuses the lines.
     fn commit_group(&mut self, group: Group<J>)
         requires going { self.old.output.fault ≡ None }
         requires group { IsGroup K.capacity J.service self.old.tries (K.book self.old.keeper)
@@ -112,7 +113,8 @@ impl<J: ServiceId, K: Host, W: Write> Scribe<J, K, W> {
         }
     }
 
-    /// Refuses the lines of a group for want of memory, or ends all if the keeper has failed.
+    /// Refuses the lines of a group for want of memory, or ends the service if the keeper has
+    /// failed.
     fn refuse_all(&mut self, works: Vec<Hashed<J>>)
         requires going { self.old.output.fault ≡ None }
         ensures turns { self.new.output.fault ≡ None → UseTurns (entries_of works.items)

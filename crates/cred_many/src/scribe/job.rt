@@ -1,4 +1,4 @@
-//! The messages between the thread with the book and those that hash and read.
+//! The messages between the thread with the book and the threads that hash and read.
 
 ghost use Rattle.std.specs.Prelude.{◌≡◌, ◌<◌, ◌≤◌};
 ghost use Rattle.cred_cli.specs.Costs.{memory_alone};
@@ -17,7 +17,7 @@ use std::marker::Model;
 /// The length of the tag of a new record in bytes.
 const NEW_TAG: u8 = 32;
 
-/// A line with its ticket, which is to be hashed. Only the scribe makes one.
+/// A line with its ticket, which is to be hashed. Only the scribe builds a job.
 #[derive(Drop)]
 pub struct Job<J: ServiceId> {
     line: Line<J>,
@@ -35,7 +35,8 @@ impl<J: ServiceId> Model for Job<J> {
     ghost invariant = { λ j. IsJobOf j.line.ask j.ticket };
 }
 
-/// A line whose hashing is done. Only [`Job::work`] makes one, so each of its hashes had a share.
+/// A line whose hashing is done. Only [`Job::work`] builds such a value, so each of its hashes had
+/// a share.
 #[derive(Drop)]
 pub struct Hashed<J: ServiceId> {
     line: Line<J>,
@@ -53,8 +54,8 @@ impl<J: ServiceId> Model for Hashed<J> {
     ghost invariant = { λ h. IsJobOf h.line.ask h.worked };
 }
 
-/// A line without memory for its hash. It is made where a hash was refused memory, or needs more
-/// than all hashes together may take.
+/// A line without memory for its hash. A job ends as this value if the allocator refuses memory to
+/// its hash, or if the hash needs more than the limit for all hashes.
 #[derive(Drop)]
 pub struct Starved<J: ServiceId> {
     job: Job<J>,
@@ -83,7 +84,7 @@ pub(crate) enum Message<J: ServiceId> {
 }
 
 impl<J: ServiceId> Job<J> {
-    /// The line with what is to be hashed for it.
+    /// Joins a line with the ticket that is to be hashed for it.
     pub(super) fn new(line: Line<J>, ticket: Ticket) -> Job<J>
         requires { IsJobOf line.ask ticket }
         ensures line { result.0 ≡ line }
@@ -92,14 +93,14 @@ impl<J: ServiceId> Job<J> {
         Job { line, ticket }
     }
 
-    /// The ticket that is to be hashed.
+    /// Returns the ticket that is to be hashed.
     pub(crate) fn ticket(&self) -> &Ticket
         ensures { result.now ≡ self.now.1 }
     {
         &self.ticket
     }
 
-    /// The job without memory, since its hashes need more than the whole budget.
+    /// Returns the job as one without memory, since its hashes need more than the whole budget.
     pub(crate) fn too_large<L: Limit>(self, _budget: &Budget<L>, _costs: &Costs) -> Starved<J>
         requires { _budget.now.total < job_memory _costs.now self.1 }
         ensures { result.0 ≡ self.0 }
@@ -107,8 +108,8 @@ impl<J: ServiceId> Job<J> {
         Starved { job: self }
     }
 
-    /// Hashes a job on this thread alone, in the thread's memory, within the reserved share. A name
-    /// that doesn't exist, and an account without a record, get their hashes too.
+    /// Hashes a job on this thread alone, in the thread's memory, within the reserved share. A try
+    /// at a name that doesn't exist, or at an account without a record, gets its hashes too.
     #[tactic(auto, using(crate::proofs::Shares::covered))]
     pub(crate) fn work<L: Limit>(
         self,
@@ -148,8 +149,8 @@ impl<J: ServiceId> Job<J> {
     }
 }
 
-/// Makes the hashes that a wrong password takes at an account whose record has the costs of new
-/// ones, so that the time doesn't tell which names exist.
+/// Computes the hashes that a wrong password takes at an account whose record has the costs of new
+/// records, so that the time doesn't tell which names exist.
 fn hash_in_vain<L: Limit>(
     scratch: &mut Scratch,
     alloc: Global,
@@ -171,7 +172,7 @@ fn hash_in_vain<L: Limit>(
     Ok(())
 }
 
-/// The password that is compared with a record, if any.
+/// Returns the password that is compared with a record, if any.
 fn compared(request: &Request) -> Option<Password> {
     match *request {
         Request::Enrol { .. } => None,
@@ -182,7 +183,7 @@ fn compared(request: &Request) -> Option<Password> {
     }
 }
 
-/// The setting and the password of the record that takes the place of one with these costs, if any.
+/// Returns the setting and the password of the record that replaces one with these costs, if any.
 fn made(request: &Request, costs: &Scheme) -> Option<(Setting, Password)> {
     match *request {
         Request::Change {
@@ -206,7 +207,7 @@ impl<J: ServiceId> Hashed<J> {
         Hashed { line, worked }
     }
 
-    /// The line.
+    /// Returns the line.
     pub(crate) fn line(&self) -> &Line<J>
         ensures line { result.now ≡ self.now.0 }
         ensures asked { IsJobOf self.now.0.ask self.now.1 }
@@ -214,14 +215,14 @@ impl<J: ServiceId> Hashed<J> {
         &self.line
     }
 
-    /// The result of its hashes.
+    /// Returns the result of its hashes.
     pub(crate) fn worked(&self) -> &Worked
         ensures { result.now ≡ self.now.1 }
     {
         &self.worked
     }
 
-    /// The line with what came of its hashes.
+    /// Returns the line with the result of its hashes.
     pub(super) fn into_parts(self) -> (Line<J>, Worked)
         ensures line { result.0 ≡ self.0 }
         ensures worked { result.1 ≡ self.1 }
@@ -233,7 +234,7 @@ impl<J: ServiceId> Hashed<J> {
 }
 
 impl<J: ServiceId> Starved<J> {
-    /// The line.
+    /// Returns the line.
     pub(super) fn into_line(self) -> Line<J>
         ensures { result ≡ self.0 }
     {

@@ -20,8 +20,8 @@ use std::thread::{Promise, PromisedHandle, SpawnError, Threads};
 /// The number of bytes that one read asks for.
 const CHUNK: usize = 4096;
 
-/// The end of the reading. Only the reading makes one, and only the scribe opens it. There is also
-/// one for each reason why nobody waits for a reading.
+/// The end of the reading. Only the reading builds such a value, and only the scribe opens it.
+/// Other ends stand for the reasons why nobody waits for a reading.
 #[derive(Drop)]
 pub struct Ending<J: ServiceId, S: Source> {
     end: End<S>,
@@ -39,12 +39,12 @@ impl<J: ServiceId, S: Source> Model for Ending<J, S> {
 }
 
 impl<J: ServiceId, S: Source> Ending<J, S> {
-    /// No thread could be started for this reading.
+    /// Returns the end of a reading for which no thread could be started.
     pub(crate) fn not_begun<F: Drop>(_refused: SpawnError<F>) -> Ending<J, S> {
         Ending::new(End::Threads)
     }
 
-    /// This reading isn't waited for.
+    /// Returns the end of a reading for which nobody waits.
     pub(crate) fn not_awaited(_reader: Reader<J, S>) -> Ending<J, S>
     where
         S: Drop,
@@ -52,7 +52,7 @@ impl<J: ServiceId, S: Source> Ending<J, S> {
         Ending::new(End::Threads)
     }
 
-    /// Memory ran out before the first line.
+    /// Returns the end of a reading without memory for the first line.
     pub(crate) fn without_memory() -> Ending<J, S> {
         Ending::new(End::Memory)
     }
@@ -85,13 +85,13 @@ pub(crate) struct Reading<J: ServiceId, S: Source> {
 /// The thread that reads.
 pub(crate) type Reader<J, S> = PromisedHandle<Reading<J, S>, OfReading<J>>;
 
-/// The promise of the thread that reads: it tells how a reading ended. If it was whole, it sent as
-/// many lines as it handed out, by the end of the channel that it had, which it returns.
+/// The promise of the thread that reads: it tells how a reading ended. A reading to the end of the
+/// input sent as many lines as it handed out, through its end of the channel, and returns that end.
 #[derive(Drop)]
 pub(crate) struct OfReading<J: ServiceId>(Snapshot<LineSender<J>>);
 
 impl<J: ServiceId> OfReading<J> {
-    /// The promise of a thread with this sender.
+    /// Returns the promise of a thread with this sender.
     pub(crate) fn of(sender: &LineSender<J>) -> OfReading<J>
         ensures { result.0.value ≡ sender.now }
     {
@@ -109,7 +109,7 @@ impl<J: ServiceId, S: Source> Promise<Reading<J, S>> for OfReading<J> {
         × (reading.book.end ≡ promise.0.value.book.end) };
 }
 
-/// Reads to the end of the source, and announces it.
+/// Reads to the end of the source, and announces this end.
 pub(crate) fn read_all<J: ServiceId, T: Wait, S: Source + Drop, G: Rng + Drop>(
     rt: &T,
     source: S,
@@ -133,8 +133,8 @@ pub(crate) fn read_all<J: ServiceId, T: Wait, S: Source + Drop, G: Rng + Drop>(
     Reading { ending, book }
 }
 
-/// Waits for the end of the reading. If it was whole, this thread has received as many lines as
-/// were handed out.
+/// Waits for the end of the reading. If the whole input was read, this thread has received as many
+/// lines as the reading handed out.
 pub(crate) fn await_end<J: ServiceId, S: Source, T: Threads>(
     rt: &T,
     reader: Reader<J, S>,
@@ -150,8 +150,8 @@ pub(crate) fn await_end<J: ServiceId, S: Source, T: Threads>(
     ending
 }
 
-/// Hands out each line that comes, to the end of the input or until nobody takes them, and says how
-/// the reading ended.
+/// Hands out each line that comes, to the end of the input or until nobody takes lines, and returns
+/// how the reading ended.
 pub(crate) fn read_lines<J: ServiceId, T: Wait, S: Source + Drop, G: Rng>(
     rt: &T,
     source: S,

@@ -1,4 +1,4 @@
-//! Lines that are given up.
+//! Lines that the scribe gives up.
 
 ghost use Rattle.std.specs.List.{remove};
 ghost use Rattle.std.specs.Prelude.{◌≡◌, None};
@@ -27,7 +27,7 @@ impl<J: ServiceId, K: Host, W: Write> Scribe<J, K, W> {
         self.starve(starved.into_line());
     }
 
-    /// Refuses a line for want of memory, unless no more lines are answered.
+    /// Refuses a line for want of memory, unless the scribe answers no more lines.
     pub(super) fn starve(&mut self, line: Line<J>)
         requires { NeedsMemory K.capacity (K.book self.old.keeper) line.ask }
         ensures book { K.book self.new.keeper ≡ K.book self.old.keeper }
@@ -47,7 +47,7 @@ impl<J: ServiceId, K: Host, W: Write> Scribe<J, K, W> {
         }
     }
 
-    /// Refuses a line for want of memory, or ends all if the keeper has failed.
+    /// Refuses a line for want of memory, or ends the service if the keeper has failed.
     pub(super) fn refuse(&mut self, place: usize, line: Line<J>)
         requires ready { IsReady self.old.output.fault self.old.output.pending place line.number }
         requires needs { NeedsMemory K.capacity (K.book self.old.keeper) line.ask }
@@ -66,7 +66,7 @@ impl<J: ServiceId, K: Host, W: Write> Scribe<J, K, W> {
         self.output.answer(place, &line, answer);
     }
 
-    /// Answers `busy`, since other lines were always faster.
+    /// Answers a line with `busy`, since other lines were always faster.
     pub(super) fn give_up_as_busy(&mut self, place: usize, line: Line<J>)
         requires ready { IsReady self.old.output.fault self.old.output.pending place line.number }
         requires busy { IsBusy self.old.output.pending place line.ask }

@@ -79,7 +79,7 @@ fn texts_of_lines(rt: HostRuntime) {
         credkeep: line 22: its first field is no name: a name has 1 to 32 of a-z, 0-9, '.', '_', \
         '-' (3 name)\n\
         credkeep: line 300: the name is there already (1 exists)\n\
-        credkeep: line 4000: its record is locked, by !, ~, * or a field as nologin: \
+        credkeep: line 4000: its record is locked, by !, ~, * or a field such as nologin: \
         --disable-locked drops it, and --keep-locked keeps one behind ! or ~ (17 locked)\n\
         credkeep: line 50000: its record asks for more than --most-memory or --most-work (18 costly)";
     hold_failure(&rt, rt.alloc(), &failure, None, text);

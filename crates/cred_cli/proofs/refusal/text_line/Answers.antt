@@ -1,4 +1,5 @@
--- Written out, so that a body that doesn't meet these is refused here, without a long search.
+-- These answers are written out, so that the prover refuses a wrong body here, without a long
+-- search.
 use Rattle.std.proofs.Common.{rules}
 use Rattle.std.specs.Fmt.{digits}
 use Rattle.cred_cli.proofs.refusal.text_line.Goals as goal

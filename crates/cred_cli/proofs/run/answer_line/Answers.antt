@@ -3,7 +3,7 @@ use Rattle.cred_cli.specs.{Feeding.standing_at, Script.events_of, Watched.Contra
 use Rattle.cred_cli.proofs.{Runs.line_ended, Basis.write_cause}
 use Rattle.cred_cli.proofs.run.answer_line.Goals as goal
 
--- memory was refused
+-- memory ran out
 pub returns-in_err-answer-clause-answered : goal.returns-in_err-answer-clause-answered
 returns-in_err-answer-clause-answered g c = λ basis progress script i at here.
     let told = err_from_is_err_and c.from_residual.result c.from_residual.ensures.1 in

@@ -1,4 +1,5 @@
--- The struct has no bytes, so the walk makes nothing at run time; it says what the past gains: what the note names. Assumes `Logic`.
+-- The struct has no bytes, so the walk builds nothing at run time. The walk says that the past
+-- gains what the note names. Assumes `Logic`.
 use Rattle.std.proofs.{Common.[], Common.◌∷◌, Common.refl, raw_atomic.Walks.proved}
 use mir.Syntax.{Args, Dict, a_type, dcons, dnil, named}
 use mir.Val.{vstruct, vnil}
@@ -29,7 +30,7 @@ module _ (N : RattleType) (n : Notes N.Denot) (nd : Dict) where
   abbrev ended : Ended
   ended = f.ended N n nd
 
-  -- of the past and the note nothing is changed or kept
+  -- the walk changes and keeps nothing of the past and the note
   abbrev stayed : Stays ended.signature.params ended.kept
   stayed = (stay_none_ref (0 ∷ []) tt (plain (λ _. past.the_row)) yes, (stay_none_ref (1 ∷ []) tt (plain (λ _. param 0 N)) yes, tt))
 

@@ -1,4 +1,5 @@
--- The struct has no bytes, so the walk makes nothing at run time; it says that the past is empty. The name is free: no clause speaks of it.
+-- The struct has no bytes, so the walk builds nothing at run time. The walk says that the past is
+-- empty. The name is free: no clause mentions it.
 use Rattle.std.proofs.{Common.[], Common.◌∷◌, Common.refl, raw_atomic.Walks.proved}
 use mir.Val.{vstruct, vnil}
 use types.Kit.{‵, raw, ◌⊛◌, ◌$◌, ◌∵◌, !, qed, keep, split, move, suffices, done}

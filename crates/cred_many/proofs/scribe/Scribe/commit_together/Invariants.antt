@@ -3,7 +3,8 @@ use Rattle.cred_many.specs.Scribe.{AddsSome, IsGroup, IsNotSentAway, answered_by
 use Rattle.cred_many.proofs.Uses.{Gathered}
 use Rattle.cred_many.proofs.scribe.Scribe.commit_together.Given as goal
 
--- the lines that were taken in are a group, and no change is made yet; nothing more is counted; the others come back, or have used their turns and are answered
+-- the gathered lines are a group, whose changes aren't made yet, and nothing more is counted; the
+-- other lines come back, or have used their turns and are answered
 abbrev pub invariant-loop-hashed : goal.invariant-loop-hashed
 invariant-loop-hashed g l =
     (IsGroup g.K.Host.capacity g.J.ServiceId.service l.self.tries (g.K.Host.book l.self.keeper) l.group.changed (entries_of l.group.works.items) l.group.text.items)
