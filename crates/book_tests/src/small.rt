@@ -15,7 +15,7 @@ pub struct SmallBook {
 }
 
 impl SmallBook {
-    /// A small book with no name.
+    /// Returns a small book with no name.
     pub fn new(alloc: Global) -> SmallBook {
         SmallBook {
             register: Register::new(alloc),

@@ -1,5 +1,5 @@
--- Where the block before, and the block that is referred to, lie among the four slices of the
--- memory.
+-- The slices of the block before and of the block that a place refers to, among the four slices of
+-- the memory.
 use Rattle.std.proofs.Common.{◌≡◌, ℕ, zero, suc, ◌<◌, ◌≤◌, ◌+◌, ◌-◌, ◌*◌, ◌/◌, ◌%◌, false, ◌==◌, refl, ap, ap₂, sym, ◌∙◌, inl, inr, arith}
 use Rattle.std.proofs.Math.Nat.{div-add-mod, mod-lt, mul-le-mul_right}
 use Rattle.std.proofs.{lemmas.Nat.div-mul-add, lemmas.Nat.le-div, lemmas.Nat.div_below, lemmas.Nat.mul-add-lt, lemmas.Bool.cases_eq}

@@ -1,4 +1,4 @@
--- What holds of each slot of a vector of eight words.
+-- Facts of each slot of a vector of eight words.
 use Rattle.std.proofs.Common.{◌≡◌, ℕ, ◌<◌, ◌+◌, ◌-◌, ◌*◌, ◌/◌, ◌%◌, ◌^◌, List, [], ◌∷◌, length, slice_index, bit_and, bit_or, bit_xor, arith, refl, subst, sym}
 use Rattle.std.proofs.{lemmas.Nat.and_mask, NetLemmas.Arrays.eight_items}
 use borrow.Enum.Match.{each_below}

@@ -1,4 +1,5 @@
--- One block of a segment: what is made of the block before and the reference is the cell.
+-- One block of a segment: the block that the code computes from the block before and the reference
+-- is the cell.
 use Rattle.std.proofs.Common.{◌≡◌, ◌≢◌, ℕ, ◌<◌, ◌≤◌, ◌+◌, ◌-◌, ◌*◌, ◌/◌, ◌%◌, ◌^◌, List, ◌++◌, length, slice_index_or, slice_set, Bool, true, false, Option, Some, None, if◌then◌else◌, slice_index, refl, ap, ap₂, sym, ◌∙◌, inl, inr, arith}
 use Rattle.std.proofs.{lemmas.Nat.div-mul-add, lemmas.Nat.mod-mul-add, lemmas.Bool.cases_eq, lemmas.Bool.Decides.nat_tests}
 use Rattle.std.proofs.lemmas.List.{get_or_append_left, get_or-append_right, set-append_right, get_or-set_same, get_or-set_other, length-append}

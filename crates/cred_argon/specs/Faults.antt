@@ -1,4 +1,4 @@
--- Why parameters are refused: the first of their faults.
+-- The reason for which parameters are refused: the first of their faults.
 use Rattle.std.specs.Prelude.{◌≡◌, ℕ, ◌*◌, ◌<◌, ◌≤◌, ◌⊎◌}
 use Rattle.cred_argon.specs.Parameters.{Parameters}
 use Rattle.cred_argon.specs.declared.params.TheConstants.{MAX_LANES, MAX_MEMORY, MAX_RAW_TAG, MAX_TAG, MIN_TAG}

@@ -28,7 +28,7 @@ pub record IsReady (a : Parameters) (h : List ℕ) (g l : ℕ) (oldest middle ne
   pub first : g ≡ 0 → (i : ℕ) (d : Block) → i < 2
       → (slice_index_or own i d).0 ≡ cell a h (place 0 l i)
 
--- what the work on segment g of a lane makes of its blocks: its cells, if it may be worked
+-- the work on segment g of a lane turns the segment's blocks into its cells, if the segment may be worked
 abbrev pub WorksSegment : Parameters → List ℕ → ℕ → ℕ → List Block → List Block → List Block
     → List Block → List Block → Type 0
 WorksSegment a h g l oldest middle newest old new =

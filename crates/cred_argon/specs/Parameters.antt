@@ -1,4 +1,5 @@
--- What an Argon2 tag is asked for (RFC 9106, section 3.1), and how the memory is cut (section 3.2).
+-- The parameters of an Argon2 tag (RFC 9106, section 3.1), and the parts of the memory (section
+-- 3.2).
 use Rattle.std.specs.Prelude.{ℕ, ◌*◌, ◌/◌, ◌≤◌}
 use Rattle.cred_argon.specs.declared.params.TheConstants.{MAX_LANES, MAX_MEMORY, MAX_RAW_TAG, MAX_TAG, MIN_TAG}
 use Rattle.cred_argon.specs.{declared.kind.Kind.Kind, declared.kind.Version.Version}

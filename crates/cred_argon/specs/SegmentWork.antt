@@ -1,4 +1,4 @@
--- What the work on a lane's segment needs, and what it does.
+-- The condition of the work on a lane's segment, and its effect.
 use Rattle.std.specs.Prelude.{◌≡◌, ℕ, ◌<◌, ◌≤◌, List, Option, Vec, length, vec_len, vec_capacity}
 use Rattle.cred_argon.specs.{declared.address.AddressBlock.AddressBlock, Addresses.KeepsAddresses}
 use Rattle.cred_argon.specs.{declared.block.Block.Block, declared.segment.Segment.Segment, declared.segment.Shared.Shared, Parameters.Parameters, Parameters.segment_len}

@@ -1,4 +1,4 @@
--- A commit and a judgement, by what stands at the name.
+-- A commit and a judgement, by the record at the name.
 use Rattle.std.proofs.Common.{◌≡◌, ◌<◌, ℕ, List, Bool, true, false, Option, Some, None, Result, Err, arith, refl, sym, ap, ◌∙◌}
 use Rattle.std.proofs.lemmas.Bool.{false≢true}
 use Rattle.std.specs.FinMap as map
@@ -47,12 +47,12 @@ module _ (book : Accounts) (work : Task) (name : List ℕ) (is : name ≡ name_o
       let whole_commit = committed_found (Some now) found ∙ by_test now there (same now work.1) in
       sym (whole_commit ∙ rw (← judges, ← is, ← put) refl)
 
--- what isn't shown isn't there
+-- a book that doesn't show a name doesn't have it
 pub not_shown : (book : Accounts) (name : List ℕ) (e : BookError) → Shows book name (Err e) → map.get book name ≡ None
 not_shown book name error.NoAccount h = h
 not_shown book name _ h = absurd h
 
--- a new name that there is room for is refused for want of memory alone
+-- only want of memory refuses a new name that there is room for
 pub not_refused : (room : ℕ) (old new : Accounts) (name : List ℕ) (now : Option RecordValue) (e : BookError) → EntersWithin room old new name now (Err e) → (◌≡◌ {A = Result (Unit {0}) BookError} (Err e) (Err error.Memory) → ⊥)
     → map.contains_key old name ≡ false → map.len old < room → ⊥
 not_refused room old new name now error.Exists h granted absent few = false≢true (sym absent ∙ h.0)

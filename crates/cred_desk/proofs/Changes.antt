@@ -1,5 +1,5 @@
--- A commit that makes a change leaves what some operation makes, and one that makes none leaves the
--- book.
+-- A commit that makes a change leaves what some operation makes, and any other commit leaves the
+-- book as it was.
 use Rattle.std.proofs.Common.{◌≡◌, ℕ, List, Bool, true, false, Option, Some, None, if◌then◌else◌, not, refl, sym, ap, ◌∙◌}
 use Rattle.std.proofs.lemmas.Bool.{cond_both, not-false}
 use Rattle.std.specs.FinMap as map

@@ -25,7 +25,7 @@ listed_snoc loads book (e ∷ list) entry listed allowed = (listed.0, listed_sno
 pub legal_snoc : (book : Accounts) (list new : List Entry) (entry : Entry) → new ≡ list ++ entry ∷ [] → IsMade (after book list) entry → IsLegal book list → IsLegal book new
 legal_snoc book list new entry is made legal = subst (IsLegal book) (sym is) (listed_snoc false book list entry legal made)
 
--- where no loads may stand in a list, operations alone made it
+-- if a list may have no loads, operations alone made it
 pub legal_if : (loads : Bool) (book : Accounts) (list : List Entry) → loads ≡ false → IsListed loads book list → IsLegal book list
 legal_if loads book list none listed = subst (λ b. IsListed b book list) none listed
 

@@ -1,4 +1,4 @@
--- What one field stands for, and the one text that stands for it.
+-- The value of one field, and the one text of a value.
 use Rattle.std.proofs.Common.{◌≡◌, ◌∙◌, ℕ, ◌^◌, ◌<◌, Bool, true, false, if◌then◌else◌, List, [], ◌∷◌, ◌++◌, length, take, drop, Option, Some, None, decimal, refl, sym, ap}
 use Rattle.std.proofs.{lemmas.List.take-append-drop, lemmas.Slice.Eq.bytes_eq-Decides, Math.Seq.take-append_seam, Math.Seq.drop-append_seam}
 use Rattle.std.specs.{Char.is_ascii_digit, Str.bytes_eq}

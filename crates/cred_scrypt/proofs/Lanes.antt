@@ -1,4 +1,4 @@
--- What holds of each word of four vectors.
+-- Facts of each word of four vectors.
 use Rattle.std.proofs.Common.{◌≡◌, ℕ, ◌<◌, ◌-◌, ◌*◌, ◌/◌, ◌%◌, ◌^◌, List, [], ◌∷◌, length, slice_index, bit_or, arith, refl, subst, sym}
 use Rattle.std.proofs.NetLemmas.Arrays.{four_items, sixteen_items}
 use Rattle.std.specs.{Simd.Lanes.zip2, Int.w32, Int.rotate_left}

@@ -1,4 +1,4 @@
--- How many tries fail while nothing clears the failures.
+-- The number of tries that fail while nothing clears the failures.
 use Rattle.std.proofs.Common.{◌≡◌, ◌⊎◌, inl, inr, ◌≤◌, ◌<◌, ℕ, ◌+◌, ◌-◌, ◌*◌, Bool, true, false, if◌then◌else◌, List, [], ◌∷◌, ◌++◌, refl, sym, arith, subst}
 use Rattle.std.specs.Prelude.{◌/◌, nat_le, nat_lt}
 use Rattle.std.proofs.Math.Dec.{leb}

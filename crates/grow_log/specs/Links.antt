@@ -1,4 +1,4 @@
--- The rule of the words behind a log, and what its steps tell.
+-- The rule of the words behind a log, and the facts that its steps tell.
 --
 -- A log is kept as links: each names the place, a word with a key, where the next link goes. Only
 -- the holder of the last place's pen can add a link, by bringing its word home.
@@ -73,7 +73,7 @@ abbrev pub Fills : {T : Type 0} → Step (Link T) → View (Link T) ℕ → ℕ
     → View (Link T) ℕ → Type 0
 Fills s v found w = w.0 ≡ v.0 ++ s.ask ∷ []
 
--- what was seen is as long as the list after which the pen writes
+-- the list that was seen is as long as the list after which the pen writes
 abbrev pub Looks : {T : Type 0} → Step (Link T) → View (Link T) ℕ → ℕ
     → View (Link T) ℕ → Type 0
 Looks s v found w = (w.1.0 ≡ v.1.0)
