@@ -1,4 +1,4 @@
-//! A keeper whose capacity is its own.
+//! A keeper with a capacity of its own.
 
 use cred_book::{BookError, Keeper, Name, Register, Reply, Worked};
 use cred_phc::Record;

@@ -1,6 +1,6 @@
-//! Tests that the calls succeed, that whole operations answer as records from outside demand and
-//! hash no more often than they must, that a lack of memory leaves the right values, and that no
-//! text shows a password.
+//! Tests that the calls succeed, and that whole operations answer as records from outside demand
+//! and hash no more often than they must. Others test the values that a lack of memory leaves, and
+//! that no text shows a password.
 //!
 //! `work` plays whole operations; the other files have the tests. A test gets the values that it
 //! asserts as plain ones, since its proof is far longer if a book is alive beside an assertion.

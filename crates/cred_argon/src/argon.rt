@@ -54,10 +54,11 @@ pub fn argon2<R: Threads + Sync, G: Gate + Sync>(
     argon2_by(&CrewFn { work_each }, alloc, params, &inputs)
 }
 
-/// Computes the same tag on the caller's thread, without a runtime: two lanes of a slice at a time,
-/// a block of each in turn, between the gate's `enter` and `leave` of both. The scratch keeps its
-/// memory from hash to hash, up to its bound. So the memory doesn't go back to the system after
-/// each of many hashes. A hash never reads what an earlier hash left in the memory.
+/// Computes the same tag on the caller's thread, without a runtime. The thread works two lanes of a
+/// slice at a time, a block of each in turn, between the gate's `enter` and `leave` of both. The
+/// scratch keeps its memory from hash to hash, up to its bound. So the memory doesn't go back to
+/// the system after each of many hashes. A hash never reads what an earlier hash left in the
+/// memory.
 ///
 /// Beside the memory that the scratch keeps, the call allocates at most the memory of the
 /// parameters, and some KiB. The errors are the same. The scratch can still serve the next hash.

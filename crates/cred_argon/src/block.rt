@@ -111,8 +111,8 @@ fn rows_from(x: &[u64; 128], y: &[u64; 128], row: usize) -> [u64x8; 8]
     permuted([a, b, c, d, e, f, g, h])
 }
 
-/// Returns eight words of a row of the XOR of two blocks, and those of the next row, as two
-/// vectors: the first four of both rows, and the others of both.
+/// Returns eight words of a row of the XOR of two blocks, and those of the next row. One vector has
+/// the first four words of both rows, the other vector the last four.
 #[inline(always)]
 fn two_rows(x: &[u64; 128], y: &[u64; 128], at: usize) -> (u64x8, u64x8)
     requires { at + 24 ≤ 128 }

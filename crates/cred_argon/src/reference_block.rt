@@ -1,5 +1,5 @@
-//! Which block a place refers to (RFC 9106, section 3.4.2): the finished blocks that it may refer
-//! to are one stretch of a lane, so a start and a count stand for their list.
+//! The block that a place refers to (RFC 9106, section 3.4.2). The finished blocks that the place
+//! may refer to are one stretch of a lane, so a start and a count stand for their list.
 ghost use Rattle.std.specs.Prelude.{◌≡◌, ◌+◌, ◌-◌, ◌*◌, ◌/◌, ◌%◌, ◌<◌, ◌≤◌, min, if◌then◌else◌, ◌==◌};
 ghost use Rattle.cred_argon.specs.{declared.params.TheConstants.MAX_MEMORY, Parameters.segment_len};
 ghost use Rattle.cred_argon.specs.{Places.IsComputed, Places.pick, Places.place_of, Places.reference_place, Times.reference_count};
@@ -71,9 +71,9 @@ fn lane_for(lanes: u32, position: &Position, j2: u32) -> u32
     }
 }
 
-/// Returns the number of blocks of this lane that the position may refer to: those of three
-/// segments, or of as many as come before, and in the own lane those of the segment so far. The
-/// block before doesn't count, nor does the last one of another lane at a segment's start.
+/// Returns the number of blocks of this lane that the position may refer to. These are the blocks
+/// of three segments, or of as many as come before, and in the own lane those of the segment so
+/// far. The block before doesn't count, nor does the last one of another lane at a segment's start.
 fn count(segment_len: u32, position: &Position, lane: u32) -> u32
     requires slice { position.now.slice < 4 }
     requires offset { position.now.offset < segment_len }

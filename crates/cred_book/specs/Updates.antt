@@ -1,6 +1,6 @@
--- A store of rows that many clients change by conditional updates, such as a table of a database;
--- and beside it the history of one thread, which does whole operations one by one. A row is
--- whatever the store keeps at a key: a record or none, or a text of any scheme.
+-- A store of rows that many clients change by conditional updates, such as a table of a database.
+-- Beside it, the history of one thread, which does whole operations one by one. A row is whatever
+-- the store keeps at a key: a record or none, or a text of any scheme.
 use Rattle.std.specs.Prelude.{◌≡◌, ◌↔◌, ◌⊎◌, ⊤, ℕ, List, [], ◌∷◌, Bool, true, if◌then◌else◌, Option, Some, None}
 use Rattle.std.specs.FinMap as map
 use Rattle.cred_phc.specs.Values.{RecordValue}

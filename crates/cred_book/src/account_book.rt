@@ -141,8 +141,8 @@ impl<M: AccountMap> AccountBook<M> {
         }
     }
 
-    /// Returns the reply that a commit of this work would have now, the record of the account after
-    /// it (none if the book doesn't have the name), and whether the commit would be a change.
+    /// Returns the reply that a commit of this work would have now, the record that it would leave,
+    /// and whether it would be a change. The record is none if the book doesn't have the name.
     pub fn judge(&self, worked: &Worked) -> (Reply, Option<Record>, bool)
         ensures { result ≡ judgement self.now worked.now }
     {

@@ -52,9 +52,9 @@ pub fn an_answer_tells_of_one_account()
         → name ≢ name_of request → map.get (seq book request).1 name ≡ map.get book name }
 {}
 
-/// A password counts by its tags alone. Another password may replace it if both have the same tag
-/// under the setting of the existing record, and under the setting of the record that the request
-/// may make. The request then has the same answer and leaves the same record. So no answer and no
+/// A password counts by its tags alone. Another password may replace it if both have the same tags:
+/// under the setting of the existing record, and under that of the record that the request may
+/// make. The request then has the same answer and leaves the same record. So no answer and no
 /// record tells more of a password than such a tag does.
 #[tactic(auto, using(crate::proofs::Telling::as_whole))]
 pub fn a_password_counts_by_its_tags()

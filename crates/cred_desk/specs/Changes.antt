@@ -1,5 +1,6 @@
--- The effect of a desk's call for a session that settles work or adds an entry of its own (an
--- admission, a load or a deletion), and its answer if a writer may refuse the entry.
+-- The effect of a desk's call for a session that settles work or adds an entry of its own: an
+-- admission, a load or a deletion. A writer may refuse the entry, and the call then answers an
+-- error.
 use Rattle.std.specs.Prelude.{◌≡◌, ◌≢◌, ◌+◌, ℕ, Bool, true, false, List, ◌∷◌, [], ◌++◌, None, Result, Some, Ok, Err}
 use mathlib.Core.List.{IsPrefix}
 use Rattle.std.specs.FinMap as map

@@ -225,8 +225,8 @@ impl<J: Naming, W: EntryWriter> KeptDesk<J, W> {
     }
 
     /// Returns the book, the entries that weren't handed out, the writer, and the numbers of each
-    /// session's changes and additions, if all sessions of the desk are handed in, in any order.
-    /// The call waits for those that read the book.
+    /// session's changes and additions. All sessions of the desk have to be handed in, in any
+    /// order. The call waits for those that read the book.
     ///
     /// Errors: `Session` if some sessions are missing. All that was handed in comes back.
     pub fn close<R: Wait>(

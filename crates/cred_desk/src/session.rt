@@ -21,8 +21,8 @@ use std::sync::ledger::{Book as Total, Share};
 /// Begins requests and closes verifies at the published book, in any thread. A session reads no
 /// older book than one that it has read or was told of.
 ///
-/// Contracts see it as the list of entries that it knows, the number of changes that its settles
-/// made, and the number of entries that it added: admissions, loads and deletions.
+/// Contracts see a session as the list of entries that it knows, the number of changes that its
+/// settles made, and the number of entries that it added (admissions, loads and deletions).
 #[derive(Drop)]
 pub struct Session<J: Naming> {
     reader: BookReader<J>,

@@ -46,10 +46,10 @@ impl TagError {
     }
 }
 
-/// Computes the tag of `len` bytes, 4 to 64, that the setting gives the password: by Argon2 with no
-/// secret and no associated data (RFC 9106, section 3.1), or by scrypt (RFC 7914, section 6). At
-/// most `workers` threads do the work, behind the gate. The tag is the same for any number of
-/// workers.
+/// Computes the tag of `len` bytes, 4 to 64, that the setting gives the password. The function is
+/// Argon2 with no secret and no associated data (RFC 9106, section 3.1), or scrypt (RFC 7914,
+/// section 6). At most `workers` threads do the work, behind the gate. The tag is the same for any
+/// number of workers.
 ///
 /// Errors: `Memory` if there is too little for the setting.
 pub fn tag_of<R: Threads + Sync, G: Gate + Sync>(

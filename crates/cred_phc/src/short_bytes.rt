@@ -60,7 +60,7 @@ impl<const CAP: usize> ShortBytes<CAP> {
     }
 
     /// Returns the bytes that these letters encode, in base64 with no padding (RFC 4648, section
-    /// 4), if there are at least `low` of them and at most `CAP`, which is at most 256.
+    /// 4), if there are `low` to `CAP` of them. `CAP` is at most 256.
     pub fn from_base64(letters: &[u8], low: usize) -> Option<ShortBytes<CAP>>
         requires { CAP ≤ 256 }
         ensures { result ≡ bytes_of low CAP letters.now }

@@ -1,5 +1,5 @@
 //! A block of sixteen words in four vectors, each of a diagonal of the square of four rows of four
-//! words, so that Salsa20/8 works on four quarter rounds at once.
+//! words. So Salsa20/8 does four quarter rounds at once.
 ghost use Rattle.std.specs.{Prelude.◌≡◌, Prelude.ℕ, Prelude.◌<◌, Prelude.[], Prelude.◌∷◌, Prelude.bit_xor, Prelude.slice_index, Simd.Lanes.zip2};
 ghost use Rattle.cred_scrypt.specs.{Diagonals.block_of, Diagonals.transposed, Salsa.add32, Xor.xor_all};
 

@@ -11,8 +11,8 @@ use std::alloc::Global;
 use std::mem;
 
 /// Applies ROMix (RFC 7914, section 5) with N = 2^`ln`, in place, to `block`: 2r blocks of sixteen
-/// 32-bit words. r is at least 1, `ln` at most 24, and `r * N` at most
-/// [`MAX_ROWS`](crate::MAX_ROWS), so the table takes at most 2 GiB.
+/// 32-bit words. `r` is at least 1, `ln` at most 24, and `r * N` at most
+/// [`MAX_ROWS`](crate::MAX_ROWS). So the table has at most 2 GiB.
 ///
 /// Errors: `Memory` if there is not enough for the table and two more pieces; `block` is then
 /// unchanged.

@@ -43,8 +43,8 @@ IsUncleared (Wrong t ∷ before) = IsUncleared before
 IsUncleared (Unjudged t ∷ before) = IsUncleared before
 IsUncleared (Sent t seconds ∷ before) = IsUncleared before
 
--- Between two right answers or forgivings at most as many tries fail as the limit says and as there
--- are short waits, and one more for each longest wait that fits between the first and the last.
+-- Between two right answers or forgivings, at most as many tries fail as the limit and the number
+-- of short waits together, and one more for each longest wait between the first and the last.
 abbrev pub FailsSeldom : ℕ → List Event → Type 0
 FailsSeldom limit history =
     (later stretch before : List Event) → history ≡ later ++ (stretch ++ before)
@@ -73,8 +73,8 @@ IsFailing now (Begun t ∷ before) = IsFailing now before
 IsFailing now (Unjudged t ∷ before) = IsFailing now before
 IsFailing now (Sent t seconds ∷ before) = IsFailing now before
 
--- After a stretch of failing in which as many tries failed or began as may fail, the next begins
--- only when all of them have failed, and the wait after the last failure is over.
+-- A stretch of failing in which as many tries failed or began as may fail. After it the next try
+-- begins only when all of them have failed, and the wait after the last failure is over.
 abbrev pub WaitsBehind : ℕ → List Event → Type 0
 WaitsBehind limit history =
     (later stretch before : List Event) (t : ℕ) → history ≡ later ++ (Begun t ∷ (stretch ++ before))

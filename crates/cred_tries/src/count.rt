@@ -20,7 +20,7 @@ const SHORT_WAITS: u64 = 10;
 pub const MOST_TRIES: u64 = 86;
 
 /// The tries at one name: how many have failed in a row, how many run, and the moment of the last
-/// failure in that row, which is 0 if none has failed.
+/// failure in that row. The moment is 0 if none has failed.
 #[derive(Clone, Copy, Debug)]
 pub(crate) struct Count {
     failed: u64,

@@ -63,8 +63,8 @@ impl Limiter {
 
     /// Asks for a try at a name, at a reading of the clock in seconds.
     ///
-    /// Errors: `AllocError` if memory runs out, only if nothing is counted at the name. Then nothing
-    /// changes.
+    /// Errors: `AllocError` if memory runs out, only if nothing is counted at the name. Then
+    /// nothing changes.
     pub fn begin(&mut self, name: &Name, now: u64) -> Result<Turn, AllocError>
         ensures asked { IfOk result
             (λ turn. (turn, self.new) ≡ begin_outcome self.old name.now now) }
@@ -133,8 +133,8 @@ impl Limiter {
 
     /// Counts a try whose password was wrong, which began and ended at this reading of the clock.
     ///
-    /// Errors: `AllocError` if memory runs out, only if nothing is counted at the name. Then nothing
-    /// changes.
+    /// Errors: `AllocError` if memory runs out, only if nothing is counted at the name. Then
+    /// nothing changes.
     pub fn wrong(&mut self, name: &Name, now: u64) -> Result<(), AllocError>
         requires { IsFree self.old name.now now }
         ensures counted { OnOk result (self.new ≡ after_try self.old name.now now Ending.Wrong) }

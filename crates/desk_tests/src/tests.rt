@@ -1,5 +1,6 @@
-//! Tests of facts that no clause states: the calls succeed, the answers at records from outside,
-//! sessions in threads see the settled changes, and the values that a lack of memory leaves.
+//! Tests of facts that no clause states: the calls succeed and answer as records from outside
+//! demand, and sessions in threads see the settled changes. Others test the values that a lack of
+//! memory leaves.
 
 mod committing;
 mod ending;

@@ -1,5 +1,5 @@
 //! Tests of facts that no clause states: values from outside, parts that threads work side by side,
-//! faults of texts, and the values that a lack of memory leaves.
+//! faults of texts, and results without memory.
 //!
 //! Most tests run a table: one function judges each row, and the test asserts once that no row is
 //! wrong. The reason: each place that may end early beside a value on the heap costs the prover

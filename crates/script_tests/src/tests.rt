@@ -1,5 +1,5 @@
 //! Tests of facts that no clause states: whole scripts with their answers as text, the messages of
-//! a failure, and the values that a lack of memory leaves.
+//! a failure, and results without memory.
 
 mod committers;
 mod keep;

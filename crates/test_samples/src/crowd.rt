@@ -14,7 +14,7 @@ const MOMENT: u64 = 2_000_000;
 
 /// Counts how often each of the first nine parts enters and leaves, and how many were inside at
 /// once at most. In each round, each part enters once. The gate holds parts back until the wanted
-/// number are inside at once, and then holds each part for a moment more, so that one too many has
+/// number are inside at once. Then it holds each part for a moment more, so that one too many has
 /// time to arrive.
 #[derive(Drop)]
 pub struct Crowd {

@@ -89,8 +89,8 @@ fn five_of_many_begin(rt: HostRuntime) {
     assert_eq!(rt; begun_twice(rt.alloc()), Ok((5, 5)));
 }
 
-/// Returns the answers to tries after seven failures, the last of them at 3 s: with a clock that is
-/// set back by an hour and goes on from there, at another name, and after a forgiving.
+/// Returns the answers to tries after seven failures, the last of them at 3 s. The clock is set
+/// back by an hour and goes on from there; one try is at another name, and one after a forgiving.
 fn answers(alloc: Global) -> Result<[Option<u64>; 6], BookError> {
     let mut limiter = Limiter::new(alloc, LIMIT);
     let (ann, bob) = (Name::new(b"ann")?, Name::new(b"bob")?);

@@ -1,5 +1,5 @@
 //! Tests of the number of an operation's hashes, and of their setting, by the lanes that enter a
-//! gate; and that as many threads as there are workers for work a ticket's lanes.
+//! gate. One test shows that as many threads as there are workers for work a ticket's lanes.
 use super::operations::{change, remove, standing, upgrade};
 use super::work::{Entry, begun, book_with};
 use super::{enrol, name, verify};

@@ -46,7 +46,7 @@ fn fill(register: &mut Register, record: Record) -> Result<Option<u32>, BookErro
 }
 
 /// The results of a register with 64 names: the number that wasn't entered, whether a copy keeps a
-/// name that is removed from the register afterwards, and the number of names left.
+/// name that the register later loses, and the number of names left.
 type Shown = (Option<u32>, Result<bool, BookError>, usize);
 
 fn judge(alloc: Global, record: Record) -> Result<Shown, BookError> {

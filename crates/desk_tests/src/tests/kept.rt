@@ -1,5 +1,5 @@
 //! Tests of a kept desk with one session, which admits and deletes names and loads records beside
-//! all other kinds of change; of a full book; and of a lack of memory.
+//! all other kinds of change. Others test a full book, and a lack of memory.
 
 use super::floor::{Answer, Step};
 use super::scene::{DONE, FULL, NO_ACCOUNT, Scene, judge, left_of_act, operates, replied, show};

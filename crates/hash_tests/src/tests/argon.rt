@@ -10,8 +10,7 @@ use std::alloc::Global;
 use std::thread::Threads;
 
 /// Kind, version, memory, passes and lanes; the lengths of password, salt, secret and associated
-/// data; and the seed of the first of these, which grows by 1 from each to the next, and their
-/// step.
+/// data; and their seed and step. The seed grows by 1 from each of these inputs to the next.
 struct Case(Kind, Version, [u32; 3], [usize; 4], (u8, u8));
 
 /// A case, and its tag.

@@ -1,6 +1,5 @@
-//! Tests of `cred_pool`: how often a thread works each part and the gate sees it; that as many
-//! parts are worked side by side as there are workers for, and no more; and that a part is worked
-//! while the gate has it inside.
+//! Tests of `cred_pool`: that a thread works each part once, while the gate has the part inside. As
+//! many parts are worked side by side as there are workers for, and no more.
 ghost use Rattle.std.specs.Prelude.{◌≤◌, ⊤};
 
 use cred_pool::{Gate, Part, run_parts};
@@ -24,8 +23,8 @@ impl Part<u64> for Tally {
     }
 }
 
-/// Returns the visits that a gate counts of the parts that so many workers share, if so many parts
-/// are to be inside at once, and whether each part was worked once.
+/// Returns the visits that a gate counts of parts that so many workers share, and whether each part
+/// was worked once. The gate waits for `wanted` parts to be inside at once.
 fn seen<R: Threads + Sync>(rt: &R, count: usize, workers: u8, wanted: u64) -> (Visits, bool) {
     let gate = Crowd::new(count as u64, wanted);
     let mut parts = [Tally { worked: 0 }; 9];

@@ -67,7 +67,7 @@ fn scrypt_vectors(rt: HostRuntime) {
 }
 
 /// Keys by Python's `hashlib`, which calls OpenSSL: ln, r and p, or the turns; the lengths of the
-/// password and of the salt and the seed, which is 128 more for the salt; and the key.
+/// password and of the salt, and the seed; and the key. The seed of the salt is 128 more.
 const SCRYPT: [((u8, u8, u8), (usize, usize, u8), &str); 3] = [
     ((1, 1, 1), (0, 0, 1), EMPTY_KEY),
     (
