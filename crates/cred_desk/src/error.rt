@@ -13,13 +13,13 @@ pub enum DeskError {
     #[error("out of memory")]
     Memory,
     /// Too few or too many sessions.
-    #[error("the number of sessions is none that can be had")]
+    #[error("the number of sessions is outside its range")]
     Sessions,
     /// Missing sessions.
     #[error("sessions of the desk are missing")]
     Session,
     /// No book to read.
-    #[error("the reader got no place, or was let in to no book")]
+    #[error("the reader got no place, or there is no book to read")]
     Reader,
     /// Unknown name.
     #[error("the name isn't there")]
