@@ -40,8 +40,7 @@ before_first r (suc u) s l four some later =
     let slice : (4 * r + suc u - 1) % 4 ≡ u = omega (arith, four) in
     rw (inner, pass, slice) (ap (λ y. place r l y) (omega (arith, some)))
 
--- how many segments a place that is referred to lies back; none back is the own lane's segment,
--- before k
+-- the number of segments that a reference lies back; none back is the own lane's segment, before k
 pub record IsDistance (r u s l k : ℕ) (there : Place) (back : ℕ) : Type 0 where
   pub number : 4 * there.pass + there.column / s + back ≡ 4 * r + u
   pub slice : there.column / s < 4

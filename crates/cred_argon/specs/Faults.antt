@@ -22,10 +22,10 @@ IsFaultUpTo most a TagLen =
 IsFaultUpTo most a InputLen = ⊥
 IsFaultUpTo most a Memory = ⊥
 
--- of a tag that a record can hold
+-- the error of a tag that a record can hold
 abbrev pub IsFirstFault : Parameters → ArgonError → Type 0
 IsFirstFault a e = IsFaultUpTo MAX_TAG a e
 
--- of any tag that RFC 9106 knows
+-- the error of any tag that RFC 9106 allows
 abbrev pub IsFirstRawFault : Parameters → ArgonError → Type 0
 IsFirstRawFault a e = IsFaultUpTo MAX_RAW_TAG a e

@@ -39,10 +39,10 @@ pub record IsUpTo (most : ℕ) (a : Parameters) : Type 0 where
   pub tag_at_least : MIN_TAG ≤ a.tag_len
   pub tag_at_most : a.tag_len ≤ most
 
--- with a tag that a record can hold
+-- the ranges with a tag that a record can hold
 abbrev pub IsParameters : Parameters → Type 0
 IsParameters a = IsUpTo MAX_TAG a
 
--- with any tag that RFC 9106 knows: its length is written in 32 bits
+-- the ranges with any tag that RFC 9106 allows: its length is written in 32 bits
 abbrev pub IsRaw : Parameters → Type 0
 IsRaw a = IsUpTo MAX_RAW_TAG a

@@ -41,7 +41,7 @@ pub record IsShaped {S : Type 0} (full : Parameters → S → Type 0) (c : Share
   pub middle : 2 ≤ number c.turn → full c.turn.params c.middle
   pub newest : 1 ≤ number c.turn → full c.turn.params c.newest
 
--- their blocks are the cells of their segments, if `holds` says so of a slice
+-- the shared slices hold the cells of their segments, as `holds` says of a slice
 pub record SharedHolds {S : Type 0} (holds : Parameters → List ℕ → ℕ → S → Type 0) (h : List ℕ)
     (c : Shared S) : Type 0 where
   pub oldest : 3 ≤ number c.turn → holds c.turn.params h (number c.turn - 3) c.oldest

@@ -36,7 +36,7 @@ Fed_new h0 key s b state none buffer short =
 
 -- ---- bytes that fit the last block
 
--- how many bytes the last block has
+-- the number of bytes of the last block
 pub length-last : (h0 d b : List ℕ) (s : State) → IsFed h0 d s b → length b ≡ length d - 128 * ((length d - 1) / 128)
 length-last h0 d b s fed = ap length fed.1 ∙ length-drop (128 * ((length d - 1) / 128)) d
 
@@ -71,7 +71,7 @@ Fed_rest h0 d b x s room fed fills =
     let at : 128 * (blocks + 1) ≡ 128 * blocks + 128 = omega arith in
     sym (rw (at, ← drop-drop 128 (128 * blocks) (d ++ x), Fed_drop h0 d b x s fed, ← fills) (drop-append-add b x room))
 
--- how many bytes those are
+-- the number of those bytes
 pub length-rest : (h0 d b x : List ℕ) (s : State) (room : ℕ) → IsFed h0 d s b → length b + room ≡ 128
     → length x - room ≡ length (d ++ x) - 128 * ((length d - 1) / 128 + 1)
 length-rest h0 d b x s room fed fills =
@@ -110,7 +110,7 @@ Taken_whole h0 d b x y s t next room i fed fills taken more whole state count =
     rw at
     (Taken_next h0 (d ++ x) y t next (first + i) taken (omega (arith, length-rest h0 d b x s room fed fills)) block state count)
 
--- what comes after block i is the last block
+-- the bytes after block i are the last block
 pub Fed_long : (h0 d b x c : List ℕ) (s t : State) (room i : ℕ) → IsFed h0 d s b → length b + room ≡ 128 → room < length x
     → IsTaken h0 (d ++ x) t ((length d - 1) / 128 + 1 + i) → i ≡ (length x - room - 1) / 128 → c ≡ drop (128 * i) (drop room x)
     → IsFed h0 (d ++ x) t c

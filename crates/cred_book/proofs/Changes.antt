@@ -28,7 +28,7 @@ whole_stays (Verify name pw) (Some stored) = λ stays. refl
 whole_stays _ _ = λ stays. refl
 
 module _ (book : Accounts) (work : Task) where
-  -- the answer and the book after it are those of the change that was told
+  -- the answer and the book after it are those of the announced change
   abbrev IsTold : Reply × Accounts → Option RecordValue → Type 0
   IsTold commit_outcome copy = MatchOption (change_with (name_of work.0) (whole work.0 copy)) ⊥ (λ change. commit_outcome ≡ (change.reply, map.insert book change.name change.after))
 

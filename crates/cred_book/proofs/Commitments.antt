@@ -22,7 +22,7 @@ module _ (work : Task) (now : Option RecordValue) where
       sym (rw (fresh, copied, ← said, ← made, ← is_change) refl)
 
 module _ (book : Accounts) (work : Task) (name : List ℕ) (is : name ≡ name_of work.0) where
-  -- the definitions, once it is known what stands at the name
+  -- the definitions, once the entry at the name is known
   pub committed_found : (entry : Option (Option RecordValue)) → map.get book name ≡ entry → commit_outcome book work ≡ commit_outcome_at book work entry
   unfolding commit_outcome
   committed_found entry found = ap (λ n. commit_outcome_at book work (map.get book n)) (sym is) ∙ ap (commit_outcome_at book work) found
@@ -39,7 +39,7 @@ module _ (book : Accounts) (work : Task) (name : List ℕ) (is : name ≡ name_o
   by_test now found true = refl
   by_test now found false = ap (λ b. (reply.Changed now, b)) (sym (insert_again book work now found))
 
-  -- what was judged is put at the name, which changes nothing where the judgement is no change
+  -- the judged record is put at the name, which changes nothing if the judgement is no change
   pub commits_judged : (now : Option RecordValue) → map.get book name ≡ Some now → (told : Reply × Option RecordValue × Bool) → told ≡ judgement_at work (Some now)
       → (later : Accounts) → later ≡ map.insert book name told.1 → (told.0, later) ≡ commit_outcome book work
   commits_judged now found told judges later put =

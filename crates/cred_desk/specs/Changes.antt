@@ -19,7 +19,7 @@ abbrev pub refusal_of : {E : Type 0} → KeepError E → BookError
 refusal_of (Book e) = e
 refusal_of (Writer e) = error.Memory
 
--- the session knows this list, and no less than before
+-- the session knows this list, which begins with the list that it knew before
 abbrev pub IsAt : Bool → Accounts → Standing → Standing → Type 0
 IsAt loads opening old new = IsListed loads opening new.known × IsPrefix old.known new.known
 

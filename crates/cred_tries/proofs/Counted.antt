@@ -45,7 +45,7 @@ unfolding made
 is_counted_nothing count is = nothing_made count.failed count.running count.last (all_zero count.failed count.running count.last is)
 
 module _ (counts : CountMap) (name : List ℕ) where
-  -- what is found at a name where this is put, or nothing is
+  -- the count that is found at a name if this is put there, or nothing is
   abbrev found_if : Option Count → Bool → Count
   found_if put here = unwrap_or (cond here put (map.get counts name)) nothing
 

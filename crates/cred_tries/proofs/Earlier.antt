@@ -17,7 +17,7 @@ use Rattle.cred_tries.proofs.Times.{goes_forward}
 use Rattle.cred_tries.proofs.Traced.{ascends, early_of, later_until, told_early}
 
 module _ (limit : ℕ) (count : Count) (t seconds : ℕ) where
-  -- what the count has where a try is too early
+  -- the facts of a count by which a try is too early
   abbrev IsFound : Type 0
   IsFound = (limit ≤ remembered_failures count t) × (rest_of limit count t ≡ seconds) × (0 < seconds)
 

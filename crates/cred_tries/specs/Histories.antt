@@ -7,7 +7,7 @@ use Rattle.cred_tries.specs.declared.count.Place.TheVariants.{Free, Taken, Early
 use Rattle.cred_tries.specs.declared.turn.Ending.{Ending}
 use Rattle.cred_tries.specs.declared.turn.Ending.TheVariants as ending
 
--- each at a moment in seconds
+-- the events, each at a moment in seconds
 pub data Event : Type 0 where
   -- a try begins, or is sent away and told how many seconds it is too early, or 0 if it isn't
   Begun : ℕ → Event

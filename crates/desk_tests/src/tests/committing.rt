@@ -80,7 +80,7 @@ fn committed<J: Naming, R: Threads + Wait + Abort + Sync>(
     Ok((answers, [late, read(&open)]))
 }
 
-/// Does the same as `committed`, over a book of its own.
+/// Runs `committed` over a book of its own.
 fn committed_alone<R: Threads + Wait + Abort + Sync>(
     rt: &R,
     alloc: Global,
