@@ -1,5 +1,5 @@
-//! Tests of the book of accounts, over what is public in `cred_book`: what none of its clauses
-//! says.
+//! Tests of the book of accounts. They show what no clause of `cred_book` says, and use only public
+//! items.
 #![tactic(auto)]
 
 pub mod small;

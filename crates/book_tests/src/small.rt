@@ -1,4 +1,4 @@
-//! A keeper whose capacity is its own.
+//! A keeper with a capacity of its own.
 
 use cred_book::{BookError, Keeper, Name, Register, Reply, Worked};
 use cred_phc::Record;
@@ -15,7 +15,7 @@ pub struct SmallBook {
 }
 
 impl SmallBook {
-    /// A small book with no name.
+    /// Returns a small book with no name.
     pub fn new(alloc: Global) -> SmallBook {
         SmallBook {
             register: Register::new(alloc),

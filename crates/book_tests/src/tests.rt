@@ -1,9 +1,9 @@
-//! Tests: the calls succeed, whole operations answer as records from outside demand and hash no
-//! more often than they must, running out of memory leaves the right values, and no password is
-//! shown.
+//! Tests that the calls succeed, and that whole operations answer as records from outside demand
+//! and hash no more often than they must. Others test the values that a lack of memory leaves, and
+//! that no text shows a password.
 //!
 //! `work` plays whole operations; the other files have the tests. A test gets the values that it
-//! asserts as plain ones, since its proof is far longer where a book is alive beside an assertion.
+//! asserts as plain ones, since its proof is far longer if a book is alive beside an assertion.
 
 mod accounts;
 mod gates;

@@ -14,7 +14,7 @@ pass_before : (r q : ℕ) → 0 < r → r * q ≡ (r - 1) * q + q
 pass_before zero q some = absurd (omega arith)
 pass_before (suc r) q some = let less : suc r - 1 ≡ r = omega arith in rw less (omega arith)
 
--- what is no first block is computed from others
+-- a block that isn't a first block is computed from others
 pub computed_of : (s lanes : ℕ) (p : Place) → IsPlace s lanes p → is_first p ≡ false → IsComputed s lanes p
 computed_of s lanes p inside same = record {
   lane_inside = inside.lane_inside;
@@ -53,7 +53,7 @@ older_earlier a p inside later =
     let back : p.pass * (4 * segment_len a) ≡ (p.pass - 1) * (4 * segment_len a) + 4 * segment_len a = pass_before p.pass (4 * segment_len a) later in
     (record { lane_inside = inside.lane_inside; column_inside = inside.column_inside }, omega (arith, back, some))
 
--- two ways to give the cells that agree on the earlier places
+-- two functions that give cells, and agree on the earlier places
 abbrev Agree : Parameters → Place → (Place → List ℕ) → (Place → List ℕ) → Type 0
 Agree a p f g = (c : Place) → IsPlace (segment_len a) a.lanes c → time_of (segment_len a) c < time_of (segment_len a) p → f c ≡ g c
 

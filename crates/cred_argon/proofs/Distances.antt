@@ -1,5 +1,5 @@
--- Where the block before, and the block that is referred to, lie among the four slices of the
--- memory.
+-- The slices of the block before and of the block that a place refers to, among the four slices of
+-- the memory.
 use Rattle.std.proofs.Common.{◌≡◌, ℕ, zero, suc, ◌<◌, ◌≤◌, ◌+◌, ◌-◌, ◌*◌, ◌/◌, ◌%◌, false, ◌==◌, refl, ap, ap₂, sym, ◌∙◌, inl, inr, arith}
 use Rattle.std.proofs.Math.Nat.{div-add-mod, mod-lt, mul-le-mul_right}
 use Rattle.std.proofs.{lemmas.Nat.div-mul-add, lemmas.Nat.le-div, lemmas.Nat.div_below, lemmas.Nat.mul-add-lt, lemmas.Bool.cases_eq}
@@ -40,8 +40,7 @@ before_first r (suc u) s l four some later =
     let slice : (4 * r + suc u - 1) % 4 ≡ u = omega (arith, four) in
     rw (inner, pass, slice) (ap (λ y. place r l y) (omega (arith, some)))
 
--- how many segments a place that is referred to lies back; none back is the own lane's segment,
--- before k
+-- the number of segments that a reference lies back; none back is the own lane's segment, before k
 pub record IsDistance (r u s l k : ℕ) (there : Place) (back : ℕ) : Type 0 where
   pub number : 4 * there.pass + there.column / s + back ≡ 4 * r + u
   pub slice : there.column / s < 4

@@ -1,4 +1,4 @@
--- What holds of each slot of a vector of eight words.
+-- Facts of each slot of a vector of eight words.
 use Rattle.std.proofs.Common.{◌≡◌, ℕ, ◌<◌, ◌+◌, ◌-◌, ◌*◌, ◌/◌, ◌%◌, ◌^◌, List, [], ◌∷◌, length, slice_index, bit_and, bit_or, bit_xor, arith, refl, subst, sym}
 use Rattle.std.proofs.{lemmas.Nat.and_mask, NetLemmas.Arrays.eight_items}
 use borrow.Enum.Match.{each_below}
@@ -11,7 +11,7 @@ below_four P p0 p1 p2 p3 = each_below 4 P (p3, (p2, (p1, (p0, tt))))
 pub below_eight : (P : ℕ → Type 0) → P 0 → P 1 → P 2 → P 3 → P 4 → P 5 → P 6 → P 7 → (j : ℕ) → j < 8 → P j
 below_eight P p0 p1 p2 p3 p4 p5 p6 p7 = each_below 8 P (p7, (p6, (p5, (p4, (p3, (p2, (p1, (p0, tt))))))))
 
--- what holds of each list of eight elements
+-- a fact of each list of eight elements
 eight_slots : (P : List ℕ → Type 0) → ((a b c d e f g h : ℕ) → P (a ∷ b ∷ c ∷ d ∷ e ∷ f ∷ g ∷ h ∷ [])) → (xs : List ℕ) → length xs ≡ 8 → P xs
 eight_slots P p xs h = subst P (sym (eight_items xs h)) (p _ _ _ _ _ _ _ _)
 
@@ -57,13 +57,13 @@ slots_rotate k low high =
     eight_slots (Rotates k) (λ a0 a1 a2 a3 a4 a5 a6 a7.
     below_eight _ (rw (right, left) refl) (rw (right, left) refl) (rw (right, left) refl) (rw (right, left) refl) (rw (right, left) refl) (rw (right, left) refl) (rw (right, left) refl) (rw (right, left) refl))
 
--- what holds of each of sixteen places
+-- a fact of each of sixteen places
 pub below_sixteen : (P : ℕ → Type 0) → P 0 → P 1 → P 2 → P 3 → P 4 → P 5 → P 6 → P 7
     → P 8 → P 9 → P 10 → P 11 → P 12 → P 13 → P 14 → P 15 → (k : ℕ) → k < 16 → P k
 below_sixteen P a0 a1 a2 a3 b0 b1 b2 b3 c0 c1 c2 c3 d0 d1 d2 d3 =
     each_below 16 P (d3, (d2, (d1, (d0, (c3, (c2, (c1, (c0, (b3, (b2, (b1, (b0, (a3, (a2, (a1, (a0, tt))))))))))))))))
 
--- what four mixings make of a list
+-- a list after four mixings
 pub column_step_is : (v : List ℕ) (q0 q1 q2 q3 : ℕ × ℕ × ℕ × ℕ)
     → q0 ≡ mixing_at v 0 4 8 12 → q1 ≡ mixing_at v 1 5 9 13 → q2 ≡ mixing_at v 2 6 10 14 → q3 ≡ mixing_at v 3 7 11 15
     → q0.0 ∷ q1.0 ∷ q2.0 ∷ q3.0 ∷ q0.1 ∷ q1.1 ∷ q2.1 ∷ q3.1 ∷ q0.2 ∷ q1.2 ∷ q2.2 ∷ q3.2 ∷ q0.3 ∷ q1.3 ∷ q2.3 ∷ q3.3 ∷ [] ≡ column_step v

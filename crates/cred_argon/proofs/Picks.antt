@@ -52,7 +52,7 @@ time_at s l n = let whole : 4 * s * (n / (4 * s)) + n % (4 * s) ≡ n = div-add-
 lane_inside : (s lanes : ℕ) (p : Place) (j2 : ℕ) → p.lane < lanes → reference_lane s lanes p j2 < lanes
 lane_inside s lanes p j2 h = cond_both (segment_of s p == 0) _ _ (λ (l : ℕ). l < lanes) (λ _. h) (λ _. mod-lt j2 (omega arith))
 
--- where it lies, in the own lane or in another
+-- the time of that place, in the own lane or in another
 before : (s lanes : ℕ) (p : Place) (l n : ℕ) (own : Bool) → 2 ≤ s → IsComputed s lanes p → l < lanes → (l == p.lane) ≡ own
     → n < count_of s p own → IsBefore s lanes p (at_time s l (first_of s p + n))
 before s lanes p l n own some computed inside same below =
@@ -89,7 +89,7 @@ start_later r u s later some =
     let part : (u + 1) % 4 * s < 4 * s = mul-lt-mul_of_pos_right (omega arith) some in
     rw (segments, spread (r - 1 + (u + 1) / 4) ((u + 1) % 4) s) (sym (mod-mul-add (r - 1 + (u + 1) / 4) (4 * s) ((u + 1) % 4 * s) part))
 
--- lane and column of the place that the words name, where slice and offset stand for the column
+-- lane and column of the place that the words name, with slice and offset for the column
 column_is : (s lanes : ℕ) (p : Place) (j1 j2 slice offset : ℕ) → 2 ≤ s → IsComputed s lanes p
     → slice ≡ p.column / s → offset ≡ p.column % s
     → let l = if 4 * p.pass + slice == 0 then p.lane else j2 % lanes in
@@ -101,7 +101,7 @@ column_is s lanes p j1 j2 slice offset some computed slice_is offset_is =
     rw (slice_is, offset_is, reference_is s lanes p j1 j2 some computed)
     (mod-add-mod (first_of s p) (4 * s) (pick (count_of s p (l == p.lane)) j1), refl)
 
--- the same for a position
+-- lane and column of the place that the words name at a position
 pub column_of : (s lanes : ℕ) (at : Position) (j1 j2 : ℕ) → 2 ≤ s → IsComputed s lanes (place_of s at) → at.offset < s
     → let l = if 4 * at.pass + at.slice == 0 then at.lane else j2 % lanes in
     (((4 * at.pass + at.slice - 3) * s % (4 * s) + pick (reference_count s (4 * at.pass + at.slice) at.offset (l == at.lane)) j1) % (4 * s)

@@ -1,4 +1,4 @@
--- Lists that are made from a range of numbers.
+-- Lists over a range of numbers.
 use Rattle.std.proofs.Common.{◌≡◌, ℕ, zero, suc, ◌<◌, ◌+◌, [], ◌∷◌, ◌++◌, Bool, true, false, map, refl, ap, ap₂, arith, add-zero, append-nil}
 use Rattle.std.proofs.{lemmas.List.map-append, lemmas.List.Elements.filter-append}
 use Rattle.std.specs.List.{range_with_len, filter}

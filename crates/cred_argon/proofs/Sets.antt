@@ -18,7 +18,8 @@ at_time s l n = place (n / (4 * s)) l (n % (4 * s))
 abbrev pub first_of : ℕ → Place → ℕ
 first_of s p = (segment_of s p - 3) * s
 
--- how many places of a lane are finished for p, and how many of them it may refer to
+-- the number of places of a lane that are finished for p, and the number of those that it may refer
+-- to
 abbrev pub size_of : ℕ → Place → Bool → ℕ
 size_of s p own = finished_count s (segment_of s p) (p.column % s) own
 
@@ -86,7 +87,7 @@ time_is s p =
     let parts : s * (p.column / s) + p.column % s ≡ p.column = div-add-mod p.column s in
     omega (arith, parts)
 
--- a lane's own segment has no place behind its last one
+-- a lane's own segment has no place after its last one
 pub own_least : (own : Bool) (k : ℕ) → (if own then k else 0) ≤ k
 own_least true k = omega arith
 own_least false k = omega arith

@@ -10,7 +10,7 @@ use Rattle.cred_argon.specs.Slices.{MemoryHolds}
 pub shared_begins : (h : List ℕ) (m : Memory) → MemoryHolds h (number m.shared.turn) m → SharedHolds VecHolds h m.shared
 shared_begins h m held = record { oldest = held.at_oldest; middle = held.at_middle; newest = held.at_newest }
 
--- a segment that is to be worked, where it has the first two blocks, or those of the pass before
+-- a segment that is to be worked, and has the first two blocks, or those of the pass before
 pub own_begun : (h : List ℕ) (c : Turn) (l : ℕ) (blocks : List Block) → c.slice < 4
     → (number c ≡ 0 → (i : ℕ) (e : Block) → i < 2 → (slice_index_or blocks i e).0 ≡ cell c.params h (place 0 l i))
     → (4 ≤ number c → HoldsSegment c.params h (number c - 4) l blocks)

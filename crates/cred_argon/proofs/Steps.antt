@@ -1,4 +1,5 @@
--- One block of a segment: what is made of the block before and the reference is the cell.
+-- One block of a segment: the block that the code computes from the block before and the reference
+-- is the cell.
 use Rattle.std.proofs.Common.{◌≡◌, ◌≢◌, ℕ, ◌<◌, ◌≤◌, ◌+◌, ◌-◌, ◌*◌, ◌/◌, ◌%◌, ◌^◌, List, ◌++◌, length, slice_index_or, slice_set, Bool, true, false, Option, Some, None, if◌then◌else◌, slice_index, refl, ap, ap₂, sym, ◌∙◌, inl, inr, arith}
 use Rattle.std.proofs.{lemmas.Nat.div-mul-add, lemmas.Nat.mod-mul-add, lemmas.Bool.cases_eq, lemmas.Bool.Decides.nat_tests}
 use Rattle.std.proofs.lemmas.List.{get_or_append_left, get_or-append_right, set-append_right, get_or-set_same, get_or-set_other, length-append}
@@ -60,7 +61,7 @@ mixed_is c h before other addresses at k w there some computed inside here befor
     (sym (column ∙ ap (λ q. (reference_place s a.lanes q (w % 2 ^ 32) (w / 2 ^ 32)).column) place))
     ∙ ap (λ (v : ℕ). cell a h (reference_place s a.lanes p (v % 2 ^ 32) (v / 2 ^ 32))) word)
 
--- what replaces a block, or is added to it, makes the cell
+-- the block that replaces the old one, or is added to it, makes the cell
 pub replaced_is : (a : Parameters) (h mixed out : List ℕ) (p : Place) → 2 ≤ segment_len a → IsComputed (segment_len a) a.lanes p
     → is_fresh a.version p.pass ≡ true → mixed ≡ compression_at a (cell a h) p → out ≡ mixed → out ≡ cell a h p
 replaced_is a h mixed out p some computed fresh mixed_is made = made ∙ mixed_is ∙ sym (equation a h p some computed true fresh)
@@ -71,7 +72,7 @@ pub added_is : (a : Parameters) (h old mixed out : List ℕ) (p : Place) → 2 �
 added_is a h old mixed out p some computed later old_is mixed_is made =
     made ∙ ap₂ xor_words (old_is (later_pass a.version p.pass later)) mixed_is ∙ sym (equation a h p some computed false later)
 
--- a segment whose blocks before k are done, once the block at k is made of them
+-- a segment whose blocks before k are done, once the block at k is computed from them
 pub own_step : (h : List ℕ) (c : Turn) (l k : ℕ) (done rest : List Block) (made d : Block) → length done ≡ k → 0 < length rest
     → k < segment_len c.params → OwnHolds h c l k (done ++ rest)
     → (DoneHolds h c l done → (0 < c.pass → (slice_index_or rest 0 d).0 ≡ cell c.params h (older (place_in c l (length done))))

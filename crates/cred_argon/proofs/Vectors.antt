@@ -1,5 +1,5 @@
--- The definitions computed at vectors from outside. Those of the compression function and of the
--- address block are made by vectors/compress.py of hash_tests: Argon2 in plain Python, which
+-- The definitions computed at vectors from outside. vectors/compress.py of hash_tests computed
+-- those of the compression function and of the address block: it is Argon2 in plain Python, and
 -- gives the tags of RFC 9106, section 5.
 use Rattle.std.proofs.Common.{◌≡◌, ℕ, List, [], ◌∷◌, refl, replicate, flat_map}
 use Rattle.std.specs.{Prelude.slice_index, List.range_with_len, Int.bytes_high_first}
@@ -66,7 +66,7 @@ place_in_two_lanes = refl
 abbrev standard : Parameters
 standard = parameters V13 Id 32 3 4 32
 
--- the first hash that stands there
+-- the first hash in that section
 abbrev standard_hash : List ℕ
 standard_hash = bytes_high_first 64 0x2889de487eb42ae500c0007ed9252f1069eadec40d5765b485de6dc2437a67b8546a2f0acc1a0882db8fcf74714b472e94df421a5da1112ffa11434370a1e997
 
@@ -74,12 +74,12 @@ first_hash_vector : first_hash standard (replicate 32 1) (replicate 16 2) (repli
 unfolding first_hash blake state_after blake_compress rounds round mix blake_mixing words_of word_at bytes_of work_vector initial_state key_block
 first_hash_vector = refl
 
--- the first word of block 0 that stands there
+-- the first word of block 0 in that section
 first_cell_word : slice_index (first_cell standard_hash 0 0) 0 ≡ 0x6b2e09f10671bd43
 unfolding first_cell hash_prime halves chain blake state_after blake_compress rounds round mix blake_mixing words_of word_at bytes_of work_vector initial_state key_block
 first_cell_word = refl
 
--- of the second lane and slice of the first pass
+-- a word of the address block of the second lane and slice of the first pass
 address_word_vector : slice_index (address_block standard 0 1 1 1) 0 ≡ 4487447645306391564
 unfolding address_block compress columns rows xor_words column_step diagonal_step mixing
 address_word_vector = refl

@@ -1,4 +1,4 @@
--- What the code keeps of address blocks, and what it reads of them.
+-- The address blocks that the code keeps, and the words that it reads from them.
 use Rattle.std.specs.Prelude.{◌≡◌, ℕ, ◌+◌, ◌/◌, List, Bool, true, false, Option, None, Some, slice_index}
 use Rattle.cred_argon.specs.{declared.address.AddressBlock.AddressBlock, declared.turn.Turn.Turn, Cells.is_dependent, Cells.address_block}
 
@@ -6,7 +6,7 @@ use Rattle.cred_argon.specs.{declared.address.AddressBlock.AddressBlock, declare
 abbrev pub follows_blocks : Turn → Bool
 follows_blocks c = is_dependent c.params.kind c.pass c.slice
 
--- what is at hand in a lane's segment: nothing, or the address block of its number, if words come
+-- the address block at hand in a lane's segment: none, or the block of its number, if words come
 -- from the place alone
 abbrev pub KeepsAddresses : Turn → ℕ → Option AddressBlock → Type 0
 KeepsAddresses c lane None = Unit {0}
@@ -14,8 +14,8 @@ KeepsAddresses c lane (Some kept) =
     (follows_blocks c ≡ false)
     × (kept.block.0 ≡ address_block c.params c.pass lane c.slice kept.number)
 
--- what serves an offset: nothing if words come from the blocks before, and otherwise the address
--- block of the offset
+-- the address block that serves an offset: none if words come from the blocks before, and otherwise
+-- the block of the offset
 abbrev pub ServesOffset : Turn → ℕ → ℕ → Option AddressBlock → Type 0
 ServesOffset c lane k None = follows_blocks c ≡ true
 ServesOffset c lane k (Some kept) =

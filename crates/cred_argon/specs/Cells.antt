@@ -20,8 +20,8 @@ is_dependent D pass slice = true
 is_dependent I pass slice = false
 is_dependent Id pass slice = not ((pass == 0) && nat_lt slice 2)
 
--- what the address block of this number is made of, for a lane's segment in a slice of a pass
--- (section 3.4.1.2)
+-- the input of the address block of this number, for a lane's segment in a slice of a pass (section
+-- 3.4.1.2)
 abbrev pub address_input : Parameters → ℕ → ℕ → ℕ → ℕ → List ℕ
 address_input a pass lane slice number =
     pass ∷ lane ∷ slice ∷ (4 * segment_len a * a.lanes) ∷ a.passes ∷ kind_number a.kind ∷ number
@@ -31,7 +31,7 @@ unfoldable pub address_block : Parameters → ℕ → ℕ → ℕ → ℕ → Li
 address_block a pass lane slice number =
     compress (replicate 128 0) (compress (replicate 128 0) (address_input a pass lane slice number))
 
--- the word that stands at a place's position in its segment
+-- the word at a place's position in its segment
 abbrev pub address_word : Parameters → Place → ℕ
 address_word a p =
     let k = p.column % segment_len a in
@@ -67,7 +67,8 @@ compression_at a cells p =
 abbrev pub is_first : Place → Bool
 is_first p = (p.pass == 0) && nat_lt p.column 2
 
--- whether a block replaces what stood at its place: on the first pass, and at version 0x10 on each
+-- whether a block replaces the old one at its place: on the first pass, and at version 0x10 on each
+-- pass
 abbrev pub is_fresh : Version → ℕ → Bool
 is_fresh V10 pass = true
 is_fresh V13 pass = pass == 0

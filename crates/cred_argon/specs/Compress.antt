@@ -34,7 +34,7 @@ column_step v =
     ∷ q0.2 ∷ q1.2 ∷ q2.2 ∷ q3.2
     ∷ q0.3 ∷ q1.3 ∷ q2.3 ∷ q3.3 ∷ []
 
--- the same with each diagonal mixed
+-- sixteen words, seen as four rows of four, with each diagonal mixed
 unfoldable pub diagonal_step : List ℕ → List ℕ
 diagonal_step v =
     let q0 = mixing_at v 0 5 10 15 in

@@ -1,4 +1,4 @@
--- Why parameters are refused: the first of their faults.
+-- The reason for which parameters are refused: the first of their faults.
 use Rattle.std.specs.Prelude.{◌≡◌, ℕ, ◌*◌, ◌<◌, ◌≤◌, ◌⊎◌}
 use Rattle.cred_argon.specs.Parameters.{Parameters}
 use Rattle.cred_argon.specs.declared.params.TheConstants.{MAX_LANES, MAX_MEMORY, MAX_RAW_TAG, MAX_TAG, MIN_TAG}
@@ -22,10 +22,10 @@ IsFaultUpTo most a TagLen =
 IsFaultUpTo most a InputLen = ⊥
 IsFaultUpTo most a Memory = ⊥
 
--- of a tag that a record can hold
+-- the error of a tag that a record can hold
 abbrev pub IsFirstFault : Parameters → ArgonError → Type 0
 IsFirstFault a e = IsFaultUpTo MAX_TAG a e
 
--- of any tag that RFC 9106 knows
+-- the error of any tag that RFC 9106 allows
 abbrev pub IsFirstRawFault : Parameters → ArgonError → Type 0
 IsFirstRawFault a e = IsFaultUpTo MAX_RAW_TAG a e

@@ -17,8 +17,8 @@ HoldsFirstBlocks a h n blocks =
     (l i : ℕ) (d : Block) → l < n → i < 2
     → (slice_index_or blocks (l * segment_len a + i) d).0 ≡ cell a h (place 0 l i)
 
--- segment g of a lane may be worked: of the three slices before it those that exist hold their
--- cells, and the lane's own blocks are those of the pass before, or begin with the first two
+-- segment g of a lane may be worked. Of the three slices before it, those that exist hold their
+-- cells. The lane's own blocks are those of the pass before, or begin with the first two
 pub record IsReady (a : Parameters) (h : List ℕ) (g l : ℕ) (oldest middle newest own : List Block)
     : Type 0 where
   pub three_back : 3 ≤ g → HoldsBlocks a h (g - 3) oldest
@@ -28,7 +28,8 @@ pub record IsReady (a : Parameters) (h : List ℕ) (g l : ℕ) (oldest middle ne
   pub first : g ≡ 0 → (i : ℕ) (d : Block) → i < 2
       → (slice_index_or own i d).0 ≡ cell a h (place 0 l i)
 
--- what the work on segment g of a lane makes of its blocks: its cells, if it may be worked
+-- the work on segment g of a lane turns the segment's blocks into its cells, if the segment may be
+-- worked
 abbrev pub WorksSegment : Parameters → List ℕ → ℕ → ℕ → List Block → List Block → List Block
     → List Block → List Block → Type 0
 WorksSegment a h g l oldest middle newest old new =
@@ -43,8 +44,8 @@ own_blocks a l blocks = take (segment_len a) (drop (l * segment_len a) blocks)
 abbrev pub blocks_before : (ℕ → List Block) → (ℕ → List Block) → ℕ → List Block
 blocks_before fresh worked g = if nat_lt g 4 then fresh g else worked (g - 4)
 
--- a run that is worked segment by segment: the first slice begins with the first two blocks of each
--- lane, and each segment is worked once, after the three slices before it, over its own blocks
+-- a run that is worked segment by segment. The first slice begins with the first two blocks of each
+-- lane. Each segment is worked once, after the three slices before it, over its own blocks
 pub record IsRun (a : Parameters) (h : List ℕ) (fresh worked : ℕ → List Block) : Type 0 where
   pub begun : HoldsFirstBlocks a h a.lanes (fresh 0)
   pub each : (g l : ℕ) → g < 4 * a.passes → l < a.lanes

@@ -1,4 +1,5 @@
--- What an Argon2 tag is asked for (RFC 9106, section 3.1), and how the memory is cut (section 3.2).
+-- The parameters of an Argon2 tag (RFC 9106, section 3.1), and the parts of the memory (section
+-- 3.2).
 use Rattle.std.specs.Prelude.{ℕ, ◌*◌, ◌/◌, ◌≤◌}
 use Rattle.cred_argon.specs.declared.params.TheConstants.{MAX_LANES, MAX_MEMORY, MAX_RAW_TAG, MAX_TAG, MIN_TAG}
 use Rattle.cred_argon.specs.{declared.kind.Kind.Kind, declared.kind.Version.Version}
@@ -38,10 +39,10 @@ pub record IsUpTo (most : ℕ) (a : Parameters) : Type 0 where
   pub tag_at_least : MIN_TAG ≤ a.tag_len
   pub tag_at_most : a.tag_len ≤ most
 
--- with a tag that a record can hold
+-- the ranges with a tag that a record can hold
 abbrev pub IsParameters : Parameters → Type 0
 IsParameters a = IsUpTo MAX_TAG a
 
--- with any tag that RFC 9106 knows: its length is written in 32 bits
+-- the ranges with any tag that RFC 9106 allows: its length is written in 32 bits
 abbrev pub IsRaw : Parameters → Type 0
 IsRaw a = IsUpTo MAX_RAW_TAG a

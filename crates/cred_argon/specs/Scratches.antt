@@ -5,7 +5,7 @@ use Rattle.cred_argon.specs.declared.block.Block.{Block}
 abbrev pub zero_words : List ℕ
 zero_words = replicate 128 0
 
--- a buffer that is zeros to its whole room
+-- a buffer with zeros in its whole room
 abbrev pub IsWiped : {A : Type 0} → Vec Block A → Type 0
 IsWiped buffer = buffer.items ≡ replicate (vec_capacity buffer) (record { 0 = zero_words })
 

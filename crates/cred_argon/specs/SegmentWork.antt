@@ -1,10 +1,10 @@
--- What the work on a lane's segment needs, and what it does.
+-- The condition of the work on a lane's segment, and its effect.
 use Rattle.std.specs.Prelude.{◌≡◌, ℕ, ◌<◌, ◌≤◌, List, Option, Vec, length, vec_len, vec_capacity}
 use Rattle.cred_argon.specs.{declared.address.AddressBlock.AddressBlock, Addresses.KeepsAddresses}
 use Rattle.cred_argon.specs.{declared.block.Block.Block, declared.segment.Segment.Segment, declared.segment.Shared.Shared, Parameters.Parameters, Parameters.segment_len}
 use Rattle.cred_argon.specs.{Turns.OwnHolds, Turns.first_offset, Turns.begun_len, Segments.IsFull, Segments.HoldsSlice, Segments.IsShaped, Segments.SharedHolds}
 
--- of a slice as the vector of its segments
+-- a slice, as the vector of its segments, has all its blocks
 abbrev pub VecIsFull : {A : Type 0} → Parameters → Vec Segment A → Type 0
 VecIsFull a slice = IsFull a slice.items
 
@@ -18,7 +18,7 @@ CanWork c p =
     × (segment_len c.turn.params ≤ vec_capacity p.blocks)
     × (vec_len p.blocks ≡ begun_len c.turn)
 
--- it comes to hold the cells of this pass, if it held those of the pass before
+-- the segment comes to hold the cells of this pass, if it held those of the pass before
 abbrev pub Works : {A : Type 0} → Shared (Vec Segment A) → Segment → Segment → Type 0
 Works c p q =
     (vec_len q.blocks ≡ segment_len c.turn.params) × (q.lane ≡ p.lane)
@@ -43,7 +43,7 @@ pub record IsWorking {A : Type 0} (c : Shared (Vec Segment A)) (start now : Segm
       → OwnHolds h c.turn start.lane (first_offset c.turn) start.blocks.items
       → OwnHolds h c.turn now.lane k now.blocks.items
 
--- the same of lane l's segment, whose blocks are all there
+-- likewise for lane l's segment, which has all its blocks
 pub record IsWorkingAll {S : Type 0} (holds : Parameters → List ℕ → ℕ → S → Type 0) (c : Shared S)
     (l : ℕ) (start now : List Block) (addresses : Option AddressBlock) (s k : ℕ) : Type 0 where
   pub length_is : s ≡ segment_len c.turn.params

@@ -1,5 +1,5 @@
--- What the code's memory holds: four slices, each a list of one segment a lane, and what is shared
--- of them while one is worked.
+-- The code's memory: four slices, each a list of one segment a lane, and the slices that the lanes
+-- share while one is worked.
 use Rattle.std.specs.Prelude.{◌≡◌, ℕ, ◌+◌, ◌-◌, ◌*◌, ◌/◌, ◌%◌, ◌<◌, ◌≤◌, List, length, slice_index_or, vec_len, vec_capacity}
 use Rattle.cred_argon.specs.{declared.block.Block.Block, declared.segment.Segment.Segment, declared.segment.Shared.Shared}
 use Rattle.cred_argon.specs.{Parameters.Parameters, Parameters.segment_len, Places.place, Cells.cell, Turns.number}
@@ -33,15 +33,15 @@ HoldsSlice a h g segments =
     (l : ℕ) (d : Segment) → l < a.lanes
     → HoldsSegment a h g l (slice_index_or segments l d).blocks.items
 
--- what is shared while a slice is worked: those of the three slices before that were worked have
--- all blocks, if `full` says so of a slice
+-- the slices that the lanes share: those of the three slices before that were worked have all
+-- blocks, as `full` says of a slice
 pub record IsShaped {S : Type 0} (full : Parameters → S → Type 0) (c : Shared S) : Type 0 where
   pub slice : c.turn.slice < 4
   pub oldest : 3 ≤ number c.turn → full c.turn.params c.oldest
   pub middle : 2 ≤ number c.turn → full c.turn.params c.middle
   pub newest : 1 ≤ number c.turn → full c.turn.params c.newest
 
--- their blocks are the cells of their segments, if `holds` says so of a slice
+-- the shared slices hold the cells of their segments, as `holds` says of a slice
 pub record SharedHolds {S : Type 0} (holds : Parameters → List ℕ → ℕ → S → Type 0) (h : List ℕ)
     (c : Shared S) : Type 0 where
   pub oldest : 3 ≤ number c.turn → holds c.turn.params h (number c.turn - 3) c.oldest

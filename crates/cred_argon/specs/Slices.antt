@@ -10,7 +10,8 @@ pub record IsMemory (g : ℕ) (m : Memory) : Type 0 where
   pub at_middle : IsSlice m.shared.turn.params g 2 0 m.shared.middle.items
   pub at_newest : IsSlice m.shared.turn.params g 1 0 m.shared.newest.items
 
--- what they hold: the segment to be worked as it was on the pass before, and the three before it
+-- the contents of the slices: the segment to be worked as it was on the pass before, and the three
+-- before it
 pub record MemoryHolds (h : List ℕ) (g : ℕ) (m : Memory) : Type 0 where
   pub begun : g ≡ 0 → (l : ℕ) (d : Segment) (i : ℕ) (e : Block)
       → l < m.shared.turn.params.lanes → i < 2

@@ -1,4 +1,4 @@
--- What a call answers that is asked for a tag.
+-- The answer of a call for a tag.
 use Rattle.std.specs.Prelude.{◌≡◌, ℕ, ◌^◌, ◌≤◌, ◌↔◌, ◌⊎◌, List, length, Vec, Result, Err, IfOk, IfErr}
 use Rattle.cred_argon.specs.{Parameters.Parameters, Argon.argon, declared.error.ArgonError.ArgonError}
 use Rattle.cred_argon.specs.declared.error.ArgonError.TheVariants.{InputLen, Memory}

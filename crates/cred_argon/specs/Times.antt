@@ -14,7 +14,7 @@ finished_count s g k own = min 3 g * s + (if own then k else 0)
 abbrev pub reference_count : ℕ → ℕ → ℕ → Bool → ℕ
 reference_count s g k own = finished_count s g k own - (if own || (k == 0) then 1 else 0)
 
--- where the place that two words name lies in time
+-- the time of the place that two words name
 pub record IsBefore (s lanes : ℕ) (p c : Place) : Type 0 where
   pub column_inside : c.column < 4 * s
   pub lane_inside : c.lane < lanes

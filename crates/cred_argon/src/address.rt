@@ -1,6 +1,6 @@
 //! Address blocks. If the words that name references come from the place alone, they are the words
-//! of blocks that are made of the segment's position and a running number (RFC 9106, section
-//! 3.4.1.2).
+//! of address blocks. Each is computed from the segment's position and a running number (RFC 9106,
+//! section 3.4.1.2).
 ghost use Rattle.std.specs.Prelude.{◌≡◌, ◌+◌, ◌*◌, ◌/◌, IsTrue, ◌↔◌};
 ghost use Rattle.cred_argon.specs.{Parameters.segment_len, Cells.address_input, Cells.address_block};
 
@@ -8,8 +8,8 @@ use crate::block::{Block, compress};
 use crate::params::Params;
 use crate::position::Position;
 
-/// The words that name the references of 128 columns of a segment, and which 128 they are, counted
-/// from 1.
+/// The words that name the references of 128 columns of a segment, and the number of these 128
+/// columns, counted from 1.
 #[derive(Clone, Copy)]
 pub(crate) struct AddressBlock {
     pub(crate) number: u32,
@@ -17,7 +17,7 @@ pub(crate) struct AddressBlock {
 }
 
 impl AddressBlock {
-    /// The address block that a position's word stands in.
+    /// Computes the address block with a position's word.
     #[tactic(auto, unfolding(crate::specs::Cells::address_block))]
     pub(crate) fn at(params: &Params, position: &Position) -> Self
         ensures number { result.number ≡ position.now.offset / 128 + 1 }
@@ -30,7 +30,7 @@ impl AddressBlock {
         AddressBlock { number, block }
     }
 
-    /// Whether a position's word stands in it, in the same segment.
+    /// Whether the address block has a position's word, in the same segment.
     pub(crate) fn is_of(&self, position: &Position) -> bool
         ensures { IsTrue result ↔ (self.now.number ≡ position.now.offset / 128 + 1) }
     {
@@ -38,7 +38,7 @@ impl AddressBlock {
     }
 }
 
-/// The input of the address block of this number.
+/// Returns the input of the address block of this number.
 fn address_input(params: &Params, position: &Position, number: u32) -> Block
     ensures { result.0 ≡ address_input params.now position.now.pass position.now.lane
         position.now.slice number }
@@ -54,7 +54,7 @@ fn address_input(params: &Params, position: &Position, number: u32) -> Block
     Block(words)
 }
 
-/// The number of blocks of the memory.
+/// Returns the number of blocks of the memory.
 fn block_count(params: &Params) -> u64
     ensures { result ≡ 4 * segment_len params.now * params.now.lanes }
 {

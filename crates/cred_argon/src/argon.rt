@@ -16,14 +16,14 @@ use std::alloc::Global;
 use std::marker::Sync;
 use std::thread::Threads;
 
-/// The Argon2 tag of a password and a salt, a secret and associated data, which may be empty (RFC
-/// 9106, section 3.1). In each slice the lanes are worked by at most `workers` threads, behind the
-/// gate; the tag is the same for any number.
+/// Computes the Argon2 tag of a password and a salt, a secret and associated data, which may be
+/// empty (RFC 9106, section 3.1). At most `workers` threads work the lanes of a slice, behind the
+/// gate. The tag is the same for any number of workers.
 ///
-/// The memory that is taken is that of the parameters, at most, and some KiB.
+/// The call allocates at most the memory of the parameters, and some KiB.
 ///
-/// Errors: `InputLen` if an input has 2^32 bytes or more, judged before memory is taken; otherwise
-/// `Memory` if it runs out for the blocks or the tag.
+/// Errors: `InputLen` if an input has 2^32 bytes or more, before the call allocates memory;
+/// otherwise `Memory` if memory for the blocks or the tag runs out.
 pub fn argon2<R: Threads + Sync, G: Gate + Sync>(
     rt: &R,
     alloc: Global,
@@ -54,14 +54,14 @@ pub fn argon2<R: Threads + Sync, G: Gate + Sync>(
     argon2_by(&CrewFn { work_each }, alloc, params, &inputs)
 }
 
-/// The same tag with all work on the caller's thread, so that no runtime is needed: two lanes of a
+/// Computes the same tag on the caller's thread, without a runtime. The thread works two lanes of a
 /// slice at a time, a block of each in turn, between the gate's `enter` and `leave` of both. The
-/// memory is kept from hash to hash, up to the scratch's bound. So a thread that makes many hashes
-/// doesn't have the system take it back each time. A hash never reads what an earlier one left
-/// there.
+/// scratch keeps its memory from hash to hash, up to its bound. So the memory doesn't go back to
+/// the system after each of many hashes. A hash never reads what an earlier hash left in the
+/// memory.
 ///
-/// Beside the memory that is kept, at most that of the parameters is taken, and some KiB. The
-/// errors are the same, and leave the scratch good for the next hash.
+/// Beside the memory that the scratch keeps, the call allocates at most the memory of the
+/// parameters, and some KiB. The errors are the same. The scratch can still serve the next hash.
 pub fn argon2_in<G: Gate>(
     scratch: &mut ArgonScratch,
     alloc: Global,
@@ -76,7 +76,7 @@ pub fn argon2_in<G: Gate>(
     argon2_with(scratch, &Interleaved { gate }, alloc, params, inputs)
 }
 
-/// The same with the lanes of each slice worked by this crew, in memory that is given back.
+/// Computes the same tag with this crew, and frees the memory.
 fn argon2_by<W: Crew<Shared<Vec<Segment>>, Segment>>(
     crew: &W,
     alloc: Global,
@@ -96,7 +96,7 @@ fn argon2_by<W: Crew<Shared<Vec<Segment>>, Segment>>(
     )
 }
 
-/// The same in memory that is kept.
+/// Computes the same tag with this crew, in the scratch's memory.
 fn argon2_with<W: Crew<Shared<Vec<Segment>>, Segment>>(
     scratch: &mut ArgonScratch,
     crew: &W,

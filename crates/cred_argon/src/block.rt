@@ -16,8 +16,9 @@ impl Block {
     pub(crate) const ZERO: Block = Block([0; 128]);
 }
 
-/// The call of G once the new block's first word is computed, which names the block that the next
-/// one refers to. The call may prefetch that block, so that the memory brings it while G goes on.
+/// The call that G makes once it has computed the new block's first word, which names the block
+/// that the next one refers to. The call may prefetch that block, so that the memory brings the
+/// block while G goes on.
 pub(crate) trait Prefetch {
     ghost can_prefetch: { Self → Type 0 };
 
@@ -25,7 +26,7 @@ pub(crate) trait Prefetch {
         requires { can_prefetch self.now };
 }
 
-/// No following block is known: nothing is prefetched.
+/// Prefetches nothing, as no following block is known.
 #[derive(Clone, Copy, Drop)]
 struct NoPrefetch;
 
@@ -37,7 +38,7 @@ impl Prefetch for NoPrefetch {
     fn prefetch(&self, _first_word: u64) {}
 }
 
-/// The compression function G of two blocks (RFC 9106, section 3.5).
+/// Computes the compression function G of two blocks (RFC 9106, section 3.5).
 pub fn compress(x: &Block, y: &Block) -> Block
     ensures { result.0 ≡ compress x.now.0 y.now.0 }
 {
@@ -46,8 +47,8 @@ pub fn compress(x: &Block, y: &Block) -> Block
     out
 }
 
-/// Writes G of two blocks over a third. The left half of each row is written before the right one's
-/// columns are begun, so that what the next block refers to is known early.
+/// Writes G of two blocks over a third. The function writes the left half of each row before it
+/// begins the columns of the right half. So the block that the next one refers to is known early.
 #[inline(always)]
 pub(crate) fn compress_over<F: Prefetch>(x: &Block, y: &Block, out: &mut Block, next: &F)
     requires { F.can_prefetch next.now }
@@ -77,7 +78,7 @@ pub(crate) fn compress_onto<F: Prefetch>(x: &Block, y: &Block, out: &mut Block, 
     add_half(&x.0, &y.0, &mut out.0, 8, right);
 }
 
-/// P on the columns that make the left half of each row.
+/// Applies P to the columns that make the left half of each row.
 #[inline(always)]
 fn left_columns(top: [u64x8; 8], low: [u64x8; 8]) -> [u64x8; 8]
     ensures { (v : List ℕ) → IsRows v 0 top → IsRows v 4 low → IsHalf (columns v) 0 result }
@@ -87,7 +88,7 @@ fn left_columns(top: [u64x8; 8], low: [u64x8; 8]) -> [u64x8; 8]
     ])
 }
 
-/// P on the columns that make the right half of each row.
+/// Applies P to the columns that make the right half of each row.
 #[inline(always)]
 fn right_columns(top: [u64x8; 8], low: [u64x8; 8]) -> [u64x8; 8]
     ensures { (v : List ℕ) → IsRows v 0 top → IsRows v 4 low → IsHalf (columns v) 8 result }
@@ -97,7 +98,7 @@ fn right_columns(top: [u64x8; 8], low: [u64x8; 8]) -> [u64x8; 8]
     ])
 }
 
-/// Four rows of the XOR of two blocks, with P on each.
+/// Returns four rows of the XOR of two blocks, with P applied to each.
 #[inline(always)]
 fn rows_from(x: &[u64; 128], y: &[u64; 128], row: usize) -> [u64x8; 8]
     requires { row + 4 ≤ 8 }
@@ -110,8 +111,8 @@ fn rows_from(x: &[u64; 128], y: &[u64; 128], row: usize) -> [u64x8; 8]
     permuted([a, b, c, d, e, f, g, h])
 }
 
-/// Eight words of a row of the XOR of two blocks, and those of the next row, as two vectors: the
-/// first four of both, and the others of both.
+/// Returns eight words of a row of the XOR of two blocks, and those of the next row. One vector has
+/// the first four words of both rows, the other vector the last four.
 #[inline(always)]
 fn two_rows(x: &[u64; 128], y: &[u64; 128], at: usize) -> (u64x8, u64x8)
     requires { at + 24 ≤ 128 }
@@ -127,9 +128,9 @@ fn two_rows(x: &[u64; 128], y: &[u64; 128], at: usize) -> (u64x8, u64x8)
     side_by_side(xored(x, y, at), xored(x, y, at + 16))
 }
 
-/// Writes the XOR of three blocks over half of each row of a block: the third comes as its half, in
-/// vectors. The rows aren't in a loop. Behind one LLVM would put the steps of P list by list, and
-/// the lists would no longer be mixed side by side.
+/// Writes the XOR of three blocks over half of each row of a block. Of the third block, the
+/// function gets this half, in vectors. The rows aren't in a loop: behind a loop, LLVM would order
+/// the steps of P list by list, and no longer mix the lists side by side.
 #[inline(always)]
 fn write_half(x: &[u64; 128], y: &[u64; 128], out: &mut [u64; 128], at: usize, half: [u64x8; 8])
     requires { at ≤ 8 }
@@ -149,7 +150,8 @@ fn write_half(x: &[u64; 128], y: &[u64; 128], out: &mut [u64; 128], at: usize, h
     write_row(x, y, out, 16 * 7 + at, half[7]);
 }
 
-/// Adds the same to half of each row of a block by XOR. There is no loop for the same reason.
+/// Adds the XOR of three such blocks to half of each row of a block by XOR. The rows aren't in a
+/// loop for the same reason.
 #[inline(always)]
 fn add_half(x: &[u64; 128], y: &[u64; 128], out: &mut [u64; 128], at: usize, half: [u64x8; 8])
     requires { at ≤ 8 }
@@ -170,8 +172,8 @@ fn add_half(x: &[u64; 128], y: &[u64; 128], out: &mut [u64; 128], at: usize, hal
     add_row(x, y, out, 16 * 7 + at, half[7]);
 }
 
-/// Writes the XOR of eight words of three blocks over those of a block: the third's come as a
-/// vector.
+/// Writes the XOR of eight words of three blocks over those of a block. The words of the third
+/// block come as a vector.
 #[inline(always)]
 fn write_row(x: &[u64; 128], y: &[u64; 128], out: &mut [u64; 128], start: usize, words: u64x8)
     requires { start + 8 ≤ 128 }
@@ -186,7 +188,7 @@ fn write_row(x: &[u64; 128], y: &[u64; 128], out: &mut [u64; 128], start: usize,
     write(out, start, xor(xored(x, y, start), words));
 }
 
-/// Adds the same to them by XOR.
+/// Adds the XOR of eight words of three blocks to those of a block by XOR.
 #[inline(always)]
 fn add_row(x: &[u64; 128], y: &[u64; 128], out: &mut [u64; 128], start: usize, words: u64x8)
     requires { start + 8 ≤ 128 }
@@ -202,7 +204,7 @@ fn add_row(x: &[u64; 128], y: &[u64; 128], out: &mut [u64; 128], start: usize, w
     add(out, start, xor(xored(x, y, start), words));
 }
 
-/// The XOR of eight words of each of two blocks.
+/// Returns the XOR of eight words of each of two blocks.
 #[inline(always)]
 fn xored(x: &[u64; 128], y: &[u64; 128], at: usize) -> u64x8
     requires { at + 8 ≤ 128 }
@@ -212,8 +214,8 @@ fn xored(x: &[u64; 128], y: &[u64; 128], at: usize) -> u64x8
     xor(eight_words(x, at), eight_words(y, at))
 }
 
-/// Eight words of a block. Words that are added before they are gathered would not be read as one
-/// vector.
+/// Returns eight words of a block. If the code added the words before it gathered them, it wouldn't
+/// read them as one vector.
 #[inline(always)]
 fn eight_words(x: &[u64; 128], at: usize) -> u64x8
     requires { at + 8 ≤ 128 }
@@ -266,8 +268,8 @@ fn add(out: &mut [u64; 128], at: usize, words: u64x8)
     write(out, at, sum);
 }
 
-/// Prefetches a block. Rattle has no such instruction, so the body is empty: in its place
-/// tools/compile_proved.py puts the processor's prefetches, which change no value.
+/// Prefetches a block. Rattle has no such instruction, so the body is empty.
+/// tools/compile_proved.py replaces this body by the processor's prefetches, which change no value.
 #[inline(never)]
 pub(crate) fn prefetch_block(_block: &Block) {}
 

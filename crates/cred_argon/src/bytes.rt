@@ -4,7 +4,7 @@ ghost use Rattle.cred_blake.specs.Words.{word_at, words_of, bytes_of};
 
 use crate::block::Block;
 
-/// The block of 1024 bytes.
+/// Returns the block of 1024 bytes.
 pub(crate) fn block_of_bytes(bytes: &[u8; 1024]) -> Block
     ensures { result.0 ≡ words_of bytes.now 128 }
 {
@@ -15,7 +15,7 @@ pub(crate) fn block_of_bytes(bytes: &[u8; 1024]) -> Block
     Block(words)
 }
 
-/// The bytes of a block.
+/// Returns the bytes of a block.
 #[tactic(auto, unfolding(cred_blake::specs::Words::bytes_of))]
 pub(crate) fn bytes_of_block(block: &Block) -> [u8; 1024]
     ensures { result ≡ bytes_of block.now.0 }
@@ -27,7 +27,7 @@ pub(crate) fn bytes_of_block(block: &Block) -> [u8; 1024]
     bytes
 }
 
-/// The word at a byte of a block.
+/// Returns the word at a byte of a block.
 #[tactic(auto, unfolding(cred_blake::specs::Words::word_at))]
 fn word_at(bytes: &[u8; 1024], at: usize) -> u64
     requires { at + 8 ≤ 1024 }

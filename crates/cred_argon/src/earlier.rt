@@ -12,7 +12,7 @@ use crate::position::Reference;
 use crate::segment::Shared;
 use crate::slice::Slice;
 
-/// The block before the due one in its lane.
+/// Returns the block before the due one in its lane.
 pub(crate) fn block_before<'a, S: Slice>(
     shared: &'a Shared<S>,
     lane: u32,
@@ -35,7 +35,8 @@ pub(crate) fn block_before<'a, S: Slice>(
     }
 }
 
-/// The slice of a column, and its offset there: a division by few comparisons.
+/// Returns the slice of a column, and the column's offset in that slice: a division by few
+/// comparisons.
 pub(crate) fn slice_and_offset(column: u32, segment_len: u32) -> (u32, u32)
     requires some { 0 < segment_len }
     requires column { column < 4 * segment_len }
@@ -49,7 +50,8 @@ pub(crate) fn slice_and_offset(column: u32, segment_len: u32) -> (u32, u32)
     (2 * pairs + more, offset)
 }
 
-/// Whether a number below two bounds has reached the first, as 0 or 1, and what it has beyond.
+/// Returns 1 if a number below two bounds has reached the bound, otherwise 0, and the rest above
+/// the bound.
 fn past(x: u32, bound: u32) -> (u32, u32)
     requires { x < 2 * bound }
     ensures few { result.0 ≤ 1 }
@@ -59,7 +61,7 @@ fn past(x: u32, bound: u32) -> (u32, u32)
     if x < bound { (0, x) } else { (1, x - bound) }
 }
 
-/// The block that the due one refers to.
+/// Returns the block that the due one refers to.
 pub(crate) fn block_at<'a, S: Slice>(
     shared: &'a Shared<S>,
     lane: u32,
@@ -87,7 +89,7 @@ pub(crate) fn block_at<'a, S: Slice>(
     }
 }
 
-/// A block of another slice, so many slices back.
+/// Returns a block of another slice, so many slices back.
 pub(crate) fn earlier_block<S: Slice>(
     shared: &Shared<S>,
     slice: u32,
@@ -110,8 +112,9 @@ pub(crate) fn earlier_block<S: Slice>(
     earlier_slice(shared, slice, back).block_of(&shared.turn.params, lane, offset)
 }
 
-/// The slice itself, by comparisons with numbers that the compiler doesn't know. Of a `match` on
-/// `back` it would make a jump, which a processor predicts wrong three times of four.
+/// Returns the slice itself, by comparisons with numbers that the compiler doesn't know. The
+/// compiler would turn a `match` on `back` into a jump, which a processor predicts wrong three
+/// times of four.
 fn earlier_slice<S: Slice>(shared: &Shared<S>, slice: u32, back: u32) -> &S
     requires shaped { IsShaped S.is_full shared.now }
     requires slice { slice < 4 }

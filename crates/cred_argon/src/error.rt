@@ -1,4 +1,4 @@
-//! Why a call of this crate was refused.
+//! The errors of this crate's calls.
 
 ghost use Rattle.std.specs.Prelude.{◌≡◌};
 ghost use Rattle.cred_argon.specs.{Errors.error_number, Errors.error_word, declared.error.ArgonError.TheVariants.Memory as OutOfMemory};
@@ -6,7 +6,7 @@ ghost use Rattle.cred_argon.specs.{Errors.error_number, Errors.error_word, decla
 use std::alloc::AllocError;
 use thiserror::Error;
 
-/// Why parameters or inputs were refused, or that memory was.
+/// The reason why a call refused parameters or inputs, or that memory ran out.
 #[derive(Clone, Copy, Debug, PartialEq, Eq, Error)]
 pub enum ArgonError {
     /// The number of lanes isn't 1 to 255.
@@ -24,13 +24,13 @@ pub enum ArgonError {
     /// An input has 2^32 bytes or more.
     #[error("an input is too long")]
     InputLen,
-    /// There was no memory for the blocks or the tag.
+    /// Memory for the blocks or the tag ran out.
     #[error("out of memory")]
     Memory,
 }
 
 impl ArgonError {
-    /// The number of the error, from 1 to 6.
+    /// Returns the number of the error, from 1 to 6.
     pub fn number(self) -> u8
         ensures { result ≡ error_number self }
     {
@@ -44,7 +44,7 @@ impl ArgonError {
         }
     }
 
-    /// The name of the error in lower case, as `taglen`.
+    /// Returns the name of the error in lower case, such as `taglen`.
     pub fn word(self) -> &'static str
         ensures { result.now ≡ error_word self }
     {

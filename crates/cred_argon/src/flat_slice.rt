@@ -1,4 +1,4 @@
-//! A slice in memory of the caller's: the segments of its lanes one after another.
+//! A slice in the caller's memory: the segments of its lanes one after another.
 ghost use Rattle.std.specs.Prelude.{◌≡◌, ◌+◌, ◌*◌, ◌^◌, ◌<◌, ◌≤◌, length};
 ghost use Rattle.cred_argon.specs.{Parameters.segment_len, Lanes.HoldsBlocks};
 
@@ -22,7 +22,7 @@ impl<'a> Slice for FlatSlice<'a> {
     }
 }
 
-/// The index in a slice at which a lane's segment begins.
+/// Returns the index in a slice at which a lane's segment begins.
 pub(crate) fn segment_start(params: &Params, lane: u32) -> usize
     requires { lane < params.now.lanes }
     ensures value { result ≡ lane * segment_len params.now }

@@ -20,7 +20,7 @@ pub struct Inputs<'a> {
     pub assoc: &'a [u8],
 }
 
-/// The first hash, of the parameters and the four inputs, each after its length.
+/// Returns the first hash, of the parameters and the four inputs, each after its length.
 pub(crate) fn first_hash(params: &Params, inputs: &Inputs<'_>) -> Digest
     requires pw { length inputs.now.pw.now < 2 ^ 32 }
     requires salt { length inputs.now.salt.now < 2 ^ 32 }
@@ -65,7 +65,7 @@ fn feed_input(hasher: &mut Blake2b, input: &[u8])
     hasher.update(input);
 }
 
-/// The block of one of the first two columns of a lane.
+/// Returns the block of one of the first two columns of a lane.
 pub(crate) fn first_block(hash: &[u8], lane: u32, column: u32) -> Block
     requires { length hash.now ≡ 64 }
     ensures { result.0 ≡ first_cell hash.now lane column }
@@ -77,7 +77,7 @@ pub(crate) fn first_block(hash: &[u8], lane: u32, column: u32) -> Block
     block_of_bytes(&hprime_block(&input))
 }
 
-/// Writes a piece after the bytes that are there.
+/// Writes a piece at byte `at`, after the bytes before.
 fn put(out: &mut [u8; 72], at: usize, piece: &[u8])
     requires { at + length piece.now ≤ 72 }
     ensures len { length out.new ≡ 72 }

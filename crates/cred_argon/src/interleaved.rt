@@ -5,8 +5,9 @@ ghost use Rattle.cred_argon.specs.{declared.segment.Segment.Segment, SegmentWork
 use crate::segment::{Segment, Shared, work_interleaved};
 use cred_pool::{Crew, Gate, Part};
 
-/// The caller's thread with a gate. It works two lanes interleaved, between the gate's `enter` and
-/// `leave` of both, and the last one of an odd number alone.
+/// The caller's thread with a gate. The thread works two lanes interleaved, between the gate's
+/// `enter` and `leave` of both. If the number of lanes is odd, the thread works the last lane
+/// alone.
 #[derive(Drop)]
 pub(crate) struct Interleaved<'a, G> {
     pub(crate) gate: &'a G,

@@ -9,13 +9,13 @@ pub enum Kind {
     D,
     /// By the place alone.
     I,
-    /// By the place alone in the first half of the first pass, and then by what stands in the
+    /// By the place alone in the first half of the first pass, and then by the contents of the
     /// memory.
     Id,
 }
 
 impl Kind {
-    /// The number of the kind in Argon2's inputs: 0, 1 or 2.
+    /// Returns the number of the kind in Argon2's inputs: 0, 1 or 2.
     pub fn number(self) -> u32
         ensures { result ≡ kind_number self }
     {
@@ -30,14 +30,14 @@ impl Kind {
 /// A version of Argon2 (RFC 9106, section 3.1, version v).
 #[derive(Clone, Copy, Debug, PartialEq, Eq)]
 pub enum Version {
-    /// 0x10, whose later passes overwrite the memory. Old records alone have it.
+    /// 0x10, whose later passes overwrite the memory. Only old records have this version.
     V10,
-    /// 0x13, that of RFC 9106, whose later passes are added to the memory by exclusive or.
+    /// 0x13, the version of RFC 9106, whose later passes add to the memory by exclusive or.
     V13,
 }
 
 impl Version {
-    /// The version's number: 16 or 19.
+    /// Returns the version's number: 16 or 19.
     pub fn number(self) -> u32
         ensures { result ≡ version_number self }
     {

@@ -14,7 +14,7 @@ use crate::tag::tag_of;
 use crate::turn::Turn;
 use std::alloc::Global;
 
-/// Which segment it is: that of a lane in a slice, 0 to 3, of a pass. All are counted from 0.
+/// The pass, the slice (0 to 3) and the lane of a segment. All three are counted from 0.
 #[repr(C)]
 #[derive(Clone, Copy, Debug, PartialEq, Eq)]
 pub struct SegmentIndex {
@@ -23,9 +23,9 @@ pub struct SegmentIndex {
     pub lane: u32,
 }
 
-/// The three slices before the one that is worked: `newest` is the one before it, `oldest` the one
-/// after it, as it was worked on the pass before. On the first pass those that haven't been worked
-/// yet are never read.
+/// The three slices before the current one: `newest` is the slice before it, and `oldest` the slice
+/// after it, as the pass before left that slice. On the first pass no call reads the slices that
+/// haven't been worked yet.
 #[derive(Clone, Copy, Drop)]
 pub struct EarlierSlices<'a> {
     pub oldest: &'a [Block],
@@ -34,9 +34,9 @@ pub struct EarlierSlices<'a> {
 }
 
 /// Writes the first two blocks of each lane into the first slice (RFC 9106, section 3.2, steps 1 to
-/// 4). Its other blocks may be anything.
+/// 4). The slice's other blocks may be anything.
 ///
-/// Errors: `InputLen` if an input has 2^32 bytes or more; `first` is as it was then.
+/// Errors: `InputLen` if an input has 2^32 bytes or more; `first` then stays as it was.
 pub fn begin_lanes(
     params: &Params,
     inputs: &Inputs<'_>,
@@ -58,7 +58,7 @@ pub fn begin_lanes(
     Ok(())
 }
 
-/// The same from the first hash.
+/// Writes the first two blocks of each lane from the first hash.
 fn write_first_blocks(params: &Params, hash: &[u8], first: &mut [Block])
     requires hash { length hash.now ≡ 64 }
     requires room { length first.old ≡ params.now.lanes * segment_len params.now }
@@ -71,11 +71,12 @@ fn write_first_blocks(params: &Params, hash: &[u8], first: &mut [Block])
     }
 }
 
-/// Works a segment (RFC 9106, section 3.2, steps 5 and 6). `own` are its blocks: on the first pass
-/// they may be anything, but for the first two of a lane; later they are those of the pass before.
+/// Works a segment (RFC 9106, section 3.2, steps 5 and 6). `own` are the segment's blocks. On the
+/// first pass these may be anything, but for the first two of a lane. On a later pass they are the
+/// blocks of the pass before.
 ///
 /// If the earlier slices have been worked, the blocks are the standard's after the call. Segments
-/// of one slice read nothing of each other, so they may be worked at the same time.
+/// of one slice read nothing of each other, so threads may work them at the same time.
 pub fn work_lane(
     params: &Params,
     index: SegmentIndex,
@@ -96,9 +97,10 @@ pub fn work_lane(
     work_segment(&shared, index.lane, own);
 }
 
-/// Works the segment of an index, and that of the next lane, a block of each in turn: while one
-/// lane's block is computed, the memory brings what the other lane's next one refers to. `own` are
-/// the blocks of both, one segment behind the other, and each is worked as `work_lane` works it.
+/// Works the segment of an index, and that of the next lane, a block of each in turn. While the
+/// thread computes one lane's block, the memory brings the block that the other lane's next one
+/// refers to. `own` are the blocks of both, one segment behind the other. The call works each
+/// segment as `work_lane` does.
 pub fn work_two_lanes(
     params: &Params,
     index: SegmentIndex,
@@ -125,7 +127,7 @@ pub fn work_two_lanes(
     work_segments(&shared, index.lane, first, second);
 }
 
-/// The values that the lanes of a slice share while it is worked.
+/// Returns the values that the lanes of a slice share while it is worked.
 fn shared_by_lanes<'a>(
     params: &Params,
     index: SegmentIndex,
@@ -156,10 +158,10 @@ fn shared_by_lanes<'a>(
     }
 }
 
-/// The tag, if `last` is the last slice and has been worked on the last pass (RFC 9106, section
-/// 3.2, steps 7 and 8).
+/// Returns the tag, if `last` is the last slice after the last pass (RFC 9106, section 3.2, steps 7
+/// and 8).
 ///
-/// Errors: `Memory` if it runs out for the tag.
+/// Errors: `Memory` if memory for the tag runs out.
 pub fn tag_of_lanes(alloc: Global, params: &Params, last: &[Block]) -> Result<Vec<u8>, ArgonError>
     requires { length last.now ≡ params.now.lanes * segment_len params.now }
     ensures ok { (pw salt secret assoc : List ℕ)

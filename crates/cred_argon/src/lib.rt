@@ -1,11 +1,11 @@
 //! Argon2, the memory-hard function of RFC 9106: kinds d, i and id, version 0x13 and the older
 //! 0x10.
 //!
-//! [`argon2`] makes a tag from a password, a salt and [`Params`], its lanes worked by threads;
-//! [`argon2_in`] makes it on the caller's thread, in memory that is kept from hash to hash.
-//! [`begin_lanes`], [`work_lane`], [`work_two_lanes`] and [`tag_of_lanes`] are its parts, for a
-//! caller who has threads and memory of its own. [`compress`] and [`reference`] are the two parts
-//! that its memory is filled with; look at them alone if you like.
+//! [`argon2`] computes a tag from a password, a salt and [`Params`], and threads work its lanes.
+//! [`argon2_in`] computes the tag on the caller's thread, in memory that an [`ArgonScratch`] keeps
+//! from hash to hash. [`begin_lanes`], [`work_lane`], [`work_two_lanes`] and [`tag_of_lanes`] are
+//! the parts of Argon2, for a caller who has threads and memory of its own. [`compress`] and
+//! [`reference`] are the two functions that fill the memory; look at them alone if you like.
 #![tactic(auto)]
 
 mod address;

@@ -8,7 +8,7 @@ use crate::segment::{Segment, Shared};
 use cred_pool::Crew;
 use std::mem;
 
-/// The slice that is to be worked, and what its lanes share.
+/// The slice that is to be worked, and the values that its lanes share.
 #[derive(Drop)]
 pub(crate) struct Memory {
     pub(crate) current: Vec<Segment>,
@@ -65,7 +65,7 @@ impl Memory {
         crew.work_each(&self.shared, &mut self.current);
     }
 
-    /// The current slice comes to be the newest, and the oldest the current one.
+    /// Makes the current slice the newest, and the oldest slice the current one.
     fn hand_on(&mut self)
         ensures current { self.new.current ≡ self.old.shared.oldest }
         ensures shared { self.new.shared ≡ record self.old.shared {

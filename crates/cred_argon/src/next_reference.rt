@@ -11,8 +11,8 @@ use crate::reference_block::reference_from;
 use crate::segment::{Shared, halves};
 use crate::slice::Slice;
 
-/// The memory, in KiB, that is taken to stay in a processor's second-level cache. There the way to
-/// the next reference takes longer than its prefetch saves.
+/// The size in KiB up to which the code assumes that the memory stays in a processor's second-level
+/// cache. In that cache, finding the next reference takes longer than its prefetch saves.
 const CACHED_MEMORY: u32 = 1024;
 
 /// The reference of the block that follows the one at an offset.
@@ -44,8 +44,9 @@ impl<'a, S: Slice> Prefetch for NextReference<'a, S> {
     }
 }
 
-/// The word that names the reference of an offset: of the block before, or of the addresses. At the
-/// first offset of the next address block it is another word, and another block is prefetched.
+/// Returns the word that names the reference of an offset: a word of the block before, or of the
+/// addresses. At the first offset of the next address block the function returns another word, and
+/// the caller prefetches another block.
 fn reference_word(first_word: u64, addresses: &Option<AddressBlock>, offset: u32) -> u64 {
     match addresses {
         Some(kept) => kept.block.0[offset as usize % 128],
@@ -53,7 +54,7 @@ fn reference_word(first_word: u64, addresses: &Option<AddressBlock>, offset: u32
     }
 }
 
-/// Prefetches the block that the one at an offset refers to, unless it isn't computed yet.
+/// Prefetches the block that the one at an offset refers to, if that block is already computed.
 fn prefetch_reference<S: Slice>(
     shared: &Shared<S>,
     lane: u32,

@@ -26,7 +26,7 @@ pub const MAX_TAG: u32 = 64;
 /// The most bytes of any tag: its length is written in 32 bits (RFC 9106, section 3.1).
 pub const MAX_RAW_TAG: u32 = 4_294_967_295;
 
-/// The law that the ranges, which definitions take from the constants above, are these numbers.
+/// States a law: the ranges that definitions take from the constants above are these numbers.
 pub fn ranges_are_these_numbers()
     ensures lanes { MAX_LANES ≡ 255 }
     ensures memory { MAX_MEMORY ≡ 2097152 }
@@ -93,8 +93,8 @@ struct Costs {
 }
 
 impl Params {
-    /// Parameters of version 0x13 (RFC 9106, section 3.1), with `memory` in KiB and `tag_len` in
-    /// bytes.
+    /// Returns parameters of version 0x13 (RFC 9106, section 3.1), with `memory` in KiB and
+    /// `tag_len` in bytes.
     ///
     /// Errors: `Lanes` if `lanes` is outside 1 to 255; otherwise `Cost` if `memory` is below 8 KiB
     /// a lane or over 2 GiB; otherwise `Passes` if there is no pass; otherwise `TagLen` if the tag
@@ -114,7 +114,7 @@ impl Params {
         Params::with_version(Version::V13, kind, memory, passes, lanes, tag_len)
     }
 
-    /// The same at a version of the caller's choice, with the same errors.
+    /// Returns such parameters at a version of the caller's choice, with the same errors.
     pub fn with_version(
         version: Version,
         kind: Kind,
@@ -136,9 +136,10 @@ impl Params {
         Params::up_to(MAX_TAG, version, kind, costs, tag_len)
     }
 
-    /// The same for a tag that no record has to hold: of 4 bytes or more, as RFC 9106 has it.
+    /// Returns such parameters for a tag that no record has to hold: of 4 bytes or more, as RFC
+    /// 9106 allows.
     ///
-    /// Errors: those of [`new`](Params::new), but `TagLen` if the tag is below 4 bytes alone.
+    /// Errors: those of [`new`](Params::new), but `TagLen` only if the tag is below 4 bytes.
     pub fn raw(
         version: Version,
         kind: Kind,
@@ -160,7 +161,7 @@ impl Params {
         Params::up_to(MAX_RAW_TAG, version, kind, costs, tag_len)
     }
 
-    /// Parameters of a tag of at most `most` bytes.
+    /// Returns parameters of a tag of at most `most` bytes.
     fn up_to(
         most: u32,
         version: Version,
@@ -202,28 +203,28 @@ impl Params {
         })
     }
 
-    /// The version.
+    /// Returns the version.
     pub fn version(&self) -> Version
         ensures { result ≡ self.now.version }
     {
         self.version
     }
 
-    /// The kind.
+    /// Returns the kind.
     pub fn kind(&self) -> Kind
         ensures { result ≡ self.now.kind }
     {
         self.kind
     }
 
-    /// The memory that was asked for, in KiB.
+    /// Returns the memory that was asked for, in KiB.
     pub fn memory(&self) -> u32
         ensures { result ≡ self.now.memory }
     {
         self.memory
     }
 
-    /// The number of passes.
+    /// Returns the number of passes.
     pub fn passes(&self) -> u32
         ensures value { result ≡ self.now.passes }
         ensures some { 1 ≤ result }
@@ -231,7 +232,7 @@ impl Params {
         self.passes
     }
 
-    /// The number of lanes.
+    /// Returns the number of lanes.
     pub fn lanes(&self) -> u32
         ensures value { result ≡ self.now.lanes }
         ensures some { 1 ≤ result }
@@ -240,7 +241,7 @@ impl Params {
         self.lanes
     }
 
-    /// The length of the tag, in bytes.
+    /// Returns the length of the tag, in bytes.
     pub fn tag_len(&self) -> u32
         ensures value { result ≡ self.now.tag_len }
         ensures some { MIN_TAG ≤ result }
@@ -248,7 +249,7 @@ impl Params {
         self.tag_len
     }
 
-    /// The number of columns of a segment: a quarter of a lane.
+    /// Returns the number of columns of a segment: a quarter of a lane.
     pub fn segment_len(&self) -> u32
         ensures value { result ≡ segment_len self.now }
         ensures at_least { 2 ≤ result }

@@ -10,8 +10,8 @@
 //!        3   (d)   12 13 14 15 12 13 14 15      7   (h)   12 13 14 15 12 13 14 15
 //!
 //! So the words of a column are in one slot of four vectors, and P's first half mixes these. For
-//! the second half the rows of each list are rotated, until a slot has the words of a diagonal, and
-//! rotated back afterwards:
+//! the second half, the code rotates the rows of each list until a slot has the words of a
+//! diagonal, and rotates them back afterwards:
 //!
 //!        a   left by three     3  0  1  2
 //!        b   as it is          4  5  6  7
@@ -25,7 +25,7 @@ ghost use Rattle.cred_argon.specs.{Compress.add_product, Compress.mixing, Compre
 
 use std::simd::u64x8;
 
-/// The exclusive or, word by word.
+/// Returns the exclusive or, word by word.
 #[inline(always)]
 pub(crate) fn xor(x: u64x8, y: u64x8) -> u64x8
     ensures { (j : ℕ) → j < 8 → slice_index result j ≡ bit_xor (slice_index x j) (slice_index y j) }
@@ -33,7 +33,7 @@ pub(crate) fn xor(x: u64x8, y: u64x8) -> u64x8
     x ^ y
 }
 
-/// The sum and twice the product of the low halves, word by word.
+/// Returns the sum and twice the product of the low halves, word by word.
 #[inline(always)]
 #[tactic(auto, using(crate::proofs::LayoutLemmas::slots_add))]
 fn add_product(x: u64x8, y: u64x8) -> u64x8
@@ -45,7 +45,7 @@ fn add_product(x: u64x8, y: u64x8) -> u64x8
     x + y + product + product
 }
 
-/// Each word rotated to the right by `by` bits.
+/// Rotates each word to the right by `by` bits.
 #[inline(always)]
 #[tactic(auto, using(crate::proofs::LayoutLemmas::slots_rotate))]
 fn rotate(x: u64x8, by: u64) -> u64x8
@@ -56,8 +56,8 @@ fn rotate(x: u64x8, by: u64) -> u64x8
     (x >> u64x8::splat(by)) | (x << u64x8::splat(64 - by))
 }
 
-/// Four words mixed (GB of RFC 9106, section 3.6) in each slot of the vectors a to d, and of e to
-/// h. The two mixings go on side by side, a step of each: a step waits for the one before, and a
+/// Mixes four words (GB of RFC 9106, section 3.6) in each slot of the vectors a to d, and of e to
+/// h. The two mixings go on side by side, a step of each. A step waits for the one before, and a
 /// processor doesn't look past a whole mixing for other work.
 #[inline(always)]
 #[tactic(auto, unfolding(crate::specs::Compress::mixing))]
@@ -101,7 +101,7 @@ fn mixed(x: [u64x8; 8]) -> [u64x8; 8]
     [a2, b2, c2, d2, e2, f2, g2, h2]
 }
 
-/// A row of each of two lists, rotated to the left by one place.
+/// Rotates a row of each of two lists to the left by one place.
 #[inline(always)]
 fn left_by_one(x: u64x8) -> u64x8
     ensures { result
@@ -111,7 +111,7 @@ fn left_by_one(x: u64x8) -> u64x8
     x.swizzle([1, 2, 3, 0, 5, 6, 7, 4])
 }
 
-/// Rotated by two places.
+/// Rotates such rows by two places.
 #[inline(always)]
 fn left_by_two(x: u64x8) -> u64x8
     ensures { result
@@ -121,7 +121,7 @@ fn left_by_two(x: u64x8) -> u64x8
     x.swizzle([2, 3, 0, 1, 6, 7, 4, 5])
 }
 
-/// Rotated by three places.
+/// Rotates such rows by three places.
 #[inline(always)]
 fn left_by_three(x: u64x8) -> u64x8
     ensures { result
@@ -131,7 +131,7 @@ fn left_by_three(x: u64x8) -> u64x8
     x.swizzle([3, 0, 1, 2, 7, 4, 5, 6])
 }
 
-/// The first half of P: the four words of each column of each list are mixed.
+/// Does the first half of P: mixes the four words of each column of each list.
 #[inline(always)]
 fn column_step(x: [u64x8; 8]) -> [u64x8; 8]
     ensures { (j : ℕ) → j < 4 → list_of j result ≡ column_step (list_of j x) }
@@ -139,7 +139,7 @@ fn column_step(x: [u64x8; 8]) -> [u64x8; 8]
     mixed(x)
 }
 
-/// The second half of P: the four words of each diagonal.
+/// Does the second half of P: mixes the four words of each diagonal.
 #[inline(always)]
 fn diagonal_step(x: [u64x8; 8]) -> [u64x8; 8]
     ensures { (j : ℕ) → j < 4 → list_of j result ≡ diagonal_step (list_of j x) }
@@ -167,7 +167,7 @@ fn diagonal_step(x: [u64x8; 8]) -> [u64x8; 8]
     ]
 }
 
-/// P on each of the four lists.
+/// Applies P to each of the four lists.
 #[inline(always)]
 pub(crate) fn permuted(x: [u64x8; 8]) -> [u64x8; 8]
     ensures { (j : ℕ) → j < 4 → list_of j result ≡ permutation (list_of j x) }

@@ -1,6 +1,6 @@
 //! A place in the memory, on a pass.
 
-/// The block of a lane and column, as it is on a pass (RFC 9106, section 3.2). All three are
+/// The place of a block in a lane and column, on a pass (RFC 9106, section 3.2). All three are
 /// counted from 0.
 #[derive(Clone, Copy, Debug, PartialEq, Eq)]
 pub struct Place {

@@ -1,7 +1,7 @@
-//! The place of the code in the memory, in the terms that it counts by.
+//! The place of a block in the memory, in the terms by which the code counts.
 
-/// The place of a block that is worked (RFC 9106, section 3.4), its column as a slice, 0 to 3, and
-/// an offset in that slice.
+/// The place of a block that is worked (RFC 9106, section 3.4). A slice, 0 to 3, and an offset in
+/// that slice stand for its column.
 #[derive(Clone, Copy)]
 pub(crate) struct Position {
     pub(crate) pass: u32,

@@ -1,5 +1,5 @@
-//! Which block a place refers to (RFC 9106, section 3.4.2): the finished blocks that it may refer
-//! to are one stretch of a lane, so a start and a count stand for their list.
+//! The block that a place refers to (RFC 9106, section 3.4.2). The finished blocks that the place
+//! may refer to are one stretch of a lane, so a start and a count stand for their list.
 ghost use Rattle.std.specs.Prelude.{◌≡◌, ◌+◌, ◌-◌, ◌*◌, ◌/◌, ◌%◌, ◌<◌, ◌≤◌, min, if◌then◌else◌, ◌==◌};
 ghost use Rattle.cred_argon.specs.{declared.params.TheConstants.MAX_MEMORY, Parameters.segment_len};
 ghost use Rattle.cred_argon.specs.{Places.IsComputed, Places.pick, Places.place_of, Places.reference_place, Times.reference_count};
@@ -8,9 +8,9 @@ use crate::params::Params;
 use crate::place::Place;
 use crate::position::{Position, Reference};
 
-/// The lane and the column of the block that the words `j1` and `j2` name at a place (RFC 9106,
-/// section 3.4.2). The place lies in the memory, and isn't one of the first two columns of the
-/// first pass.
+/// Returns the lane and the column of the block that the words `j1` and `j2` name at a place (RFC
+/// 9106, section 3.4.2). The place lies in the memory, and isn't in one of the first two columns on
+/// the first pass.
 pub fn reference(params: &Params, place: &Place, j1: u32, j2: u32) -> (u32, u32)
     requires { IsComputed (segment_len params.now) params.now.lanes place.now }
     ensures lane { result.0
@@ -30,7 +30,7 @@ pub fn reference(params: &Params, place: &Place, j1: u32, j2: u32) -> (u32, u32)
     (reference.lane, reference.column)
 }
 
-/// The same for a position that is worked.
+/// Returns the lane and the column of the block that the words name at a position that is worked.
 pub(crate) fn reference_from(params: &Params, position: &Position, j1: u32, j2: u32) -> Reference
     requires computed { IsComputed (segment_len params.now) params.now.lanes
         (place_of (segment_len params.now) position.now) }
@@ -50,8 +50,8 @@ pub(crate) fn reference_from(params: &Params, position: &Position, j1: u32, j2: 
     Reference { lane, column }
 }
 
-/// The lane that the word `j2` names: in the first segment of all the place's own. A processor needs
-/// some 26 cycles to divide, and none for the numbers that stand here.
+/// Returns the lane that the word `j2` names: in the very first segment, the place's own lane. A
+/// processor needs some 26 cycles to divide, but none to divide by the constants in this function.
 fn lane_for(lanes: u32, position: &Position, j2: u32) -> u32
     requires lane { position.now.lane < lanes }
     ensures value { result ≡ (if 4 * position.now.pass + position.now.slice == 0
@@ -71,9 +71,9 @@ fn lane_for(lanes: u32, position: &Position, j2: u32) -> u32
     }
 }
 
-/// The number of blocks of this lane that may be referred to: those of three segments, or of as
-/// many as there are before, and in the own lane those of the segment so far; less the block
-/// before, or the last one of another lane at a segment's start.
+/// Returns the number of blocks of this lane that the position may refer to. These are the blocks
+/// of three segments, or of as many as come before, and in the own lane those of the segment so
+/// far. The block before doesn't count, nor does the last one of another lane at a segment's start.
 fn count(segment_len: u32, position: &Position, lane: u32) -> u32
     requires slice { position.now.slice < 4 }
     requires offset { position.now.offset < segment_len }
@@ -98,7 +98,7 @@ fn count(segment_len: u32, position: &Position, lane: u32) -> u32
     }
 }
 
-/// The column of the first of them.
+/// Returns the column of the first of these blocks.
 fn start(segment_len: u32, position: &Position) -> u32
     requires slice { position.now.slice < 4 }
     requires some { 0 < segment_len }
@@ -114,7 +114,7 @@ fn start(segment_len: u32, position: &Position) -> u32
     }
 }
 
-/// Which of `count` blocks the word `j1` picks: the later ones more often.
+/// Returns which of `count` blocks the word `j1` picks: the later ones more often.
 fn picked(count: u32, j1: u32) -> u32
     requires { 0 < count }
     ensures value { result ≡ pick count j1 }
@@ -125,7 +125,7 @@ fn picked(count: u32, j1: u32) -> u32
     count - 1 - back as u32
 }
 
-/// A column counted on from a lane's start, which may have gone past the lane's end once.
+/// Returns the column of a count from a lane's start that may have gone past the lane's end once.
 fn wrapped(column: u32, columns: u32) -> u32
     requires { column < 2 * columns }
     ensures value { result ≡ column % columns }

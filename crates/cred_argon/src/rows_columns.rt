@@ -17,7 +17,7 @@ ghost use Rattle.cred_argon.specs.{Compress.permutation, Layout.list_of, Layout.
 use crate::permutation::permuted;
 use std::simd::u64x8;
 
-/// The first halves of two vectors side by side, and the second halves.
+/// Returns the first halves of two vectors side by side, and the second halves.
 #[inline(always)]
 pub(crate) fn side_by_side(a: u64x8, b: u64x8) -> (u64x8, u64x8)
     ensures first { result.0
@@ -33,7 +33,7 @@ pub(crate) fn side_by_side(a: u64x8, b: u64x8) -> (u64x8, u64x8)
     )
 }
 
-/// A vector whose inner pairs of words have changed places.
+/// Exchanges the inner pairs of words of a vector.
 #[inline(always)]
 fn inner_pairs_exchanged(x: u64x8) -> u64x8
     ensures { result
@@ -43,7 +43,7 @@ fn inner_pairs_exchanged(x: u64x8) -> u64x8
     x.swizzle([0, 1, 4, 5, 2, 3, 6, 7])
 }
 
-/// Four columns, whose words lie in vectors of two rows, as four lists.
+/// Returns four columns, whose words lie in vectors of two rows, as four lists.
 #[inline(always)]
 fn lists_of_columns(x: [u64x8; 8]) -> [u64x8; 8]
     ensures { (j : ℕ) → j < 4 → list_of j result ≡ column_of_rows j x }
@@ -60,7 +60,7 @@ fn lists_of_columns(x: [u64x8; 8]) -> [u64x8; 8]
     ]
 }
 
-/// Half of a row and half of the next one, from the vectors of four columns.
+/// Returns half of a row and half of the next one, from the vectors of four columns.
 #[inline(always)]
 fn two_half_rows(a: u64x8, b: u64x8) -> (u64x8, u64x8)
     ensures first { result.0
@@ -76,7 +76,7 @@ fn two_half_rows(a: u64x8, b: u64x8) -> (u64x8, u64x8)
     )
 }
 
-/// Four lists, which are four columns, as half of each row.
+/// Returns four lists, which are four columns, as half of each row.
 #[inline(always)]
 fn half_rows_of_lists(w: [u64x8; 8]) -> [u64x8; 8]
     ensures { (j : ℕ) → j < 4 → column_of_halves j result ≡ list_of j w }
@@ -88,7 +88,8 @@ fn half_rows_of_lists(w: [u64x8; 8]) -> [u64x8; 8]
     [x0, x1, x2, x3, x4, x5, x6, x7]
 }
 
-/// P on each of four columns, which come in vectors of two rows and go as half of each row.
+/// Applies P to each of four columns, which come in vectors of two rows, and returns them as half
+/// of each row.
 #[inline(always)]
 pub(crate) fn four_columns(x: [u64x8; 8]) -> [u64x8; 8]
     ensures { (j : ℕ) → j < 4 → column_of_halves j result ≡ permutation (column_of_rows j x) }

@@ -7,14 +7,13 @@ use crate::segment::Segment;
 use std::alloc::{AllocError, Global};
 use std::marker::Model;
 
-/// Memory for hashes that are made one after another, by
-/// [`argon2_in`](crate::argon2_in). It is kept from hash to hash, up to a bound, and what is kept
-/// holds zeros alone, to its whole room.
+/// Memory for hashes that [`argon2_in`](crate::argon2_in) computes one after another. The scratch
+/// keeps the memory from hash to hash, up to a bound, with zeros in its whole room.
 #[derive(Drop)]
 pub struct ArgonScratch {
     /// The most blocks that are kept. A block is one KiB.
     most: usize,
-    /// For how many there is room in the spare buffers.
+    /// The number of blocks for which the spare buffers have room.
     kept: usize,
     spare: Vec<Vec<Block>>,
 }
@@ -31,8 +30,8 @@ impl Model for ArgonScratch {
 }
 
 impl ArgonScratch {
-    /// Memory that is yet to be taken. Between two hashes at most so many KiB are kept: a hash that
-    /// takes more gives the rest back.
+    /// Returns a scratch without memory. Between two hashes it keeps at most `most` KiB: a hash
+    /// that uses more frees the rest.
     pub fn new(alloc: Global, most: u32) -> ArgonScratch
         ensures { result ≡ most }
     {
@@ -43,14 +42,14 @@ impl ArgonScratch {
         }
     }
 
-    /// The KiB that are kept now.
+    /// Returns the number of KiB that are kept now.
     pub fn kept(&self) -> usize
         ensures { result ≤ self.now }
     {
         self.kept
     }
 
-    /// An empty buffer with room for so many blocks, a spare one if there is one.
+    /// Returns an empty buffer with room for so many blocks, and uses a spare one if possible.
     pub(crate) fn take(&mut self, alloc: Global, len: usize) -> Result<Vec<Block>, AllocError>
         ensures most { self.new ≡ self.old }
         ensures none { IfOk result (λ blocks. vec_len blocks ≡ 0) }
@@ -75,7 +74,7 @@ impl ArgonScratch {
         }
     }
 
-    /// Keeps a buffer, wiped, if there is room for it within the bound. Otherwise it is given back.
+    /// Keeps a buffer, wiped, if the bound has room for it. Otherwise frees the buffer.
     fn keep(&mut self, blocks: Vec<Block>)
         ensures { self.new ≡ self.old }
     {
@@ -93,8 +92,9 @@ impl ArgonScratch {
     }
 }
 
-/// The buffer with zeros in its whole room. They stay in it, so the compiler can't leave them out.
-/// A resize within the room moves nothing, but no clause of it says so: if it did, there is none.
+/// Returns the buffer with zeros in its whole room. The zeros stay in the buffer, so the compiler
+/// can't leave them out. A resize within the room moves nothing, but no clause says so: if it moved
+/// the buffer, the function would return none.
 fn wiped(mut blocks: Vec<Block>) -> Option<Vec<Block>>
     ensures { IfSome result (λ blocks. IsWiped blocks) }
 {

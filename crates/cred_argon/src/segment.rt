@@ -20,8 +20,8 @@ use crate::slice::Slice;
 use crate::turn::Turn;
 use cred_pool::Part;
 
-/// The blocks of one lane in one slice. It has room for all of them from the start; on the first
-/// pass they come one by one.
+/// The blocks of one lane in one slice. A segment has room for all of them from the start; on the
+/// first pass they come one by one.
 #[derive(Drop)]
 pub(crate) struct Segment {
     pub(crate) lane: u32,
@@ -52,8 +52,8 @@ impl Part<Shared<Vec<Segment>>> for Segment {
     }
 }
 
-/// Works the segments of two lanes interleaved, a block of each in turn. While one lane's block is
-/// computed, the memory brings the block that the other lane's next one refers to.
+/// Works the segments of two lanes interleaved, a block of each in turn. While the thread computes
+/// one lane's block, the memory brings the block that the other lane's next one refers to.
 pub(crate) fn work_interleaved(
     shared: &Shared<Vec<Segment>>,
     first: &mut Segment,
@@ -109,7 +109,7 @@ impl Slice for Vec<Segment> {
     }
 }
 
-/// Works a lane's segment whose blocks are all there, on the first pass in any state.
+/// Works a lane's segment that has all its blocks, on the first pass in any state.
 pub(crate) fn work_segment<S: Slice>(shared: &Shared<S>, lane: u32, blocks: &mut [Block])
     requires shaped { IsShaped S.is_full shared.now }
     requires lane { lane < shared.now.turn.params.lanes }
@@ -152,7 +152,7 @@ pub(crate) fn work_segments<S: Slice>(
     }
 }
 
-/// Works the block that is due in a lane's segment whose blocks are all there.
+/// Works the block that is due in a lane's segment that has all its blocks.
 fn work_next<S: Slice>(
     shared: &Shared<S>,
     lane: u32,
@@ -174,7 +174,7 @@ fn work_next<S: Slice>(
     work_offset(shared, lane, offset, addresses, blocks);
 }
 
-/// On the first pass, puts a block more after a segment's blocks, which have room for it.
+/// Adds a block to a segment's blocks on the first pass; they have room for it.
 fn extend(turn: &Turn, blocks: &mut Vec<Block>)
     requires { turn.now.pass ≡ 0 → vec_len blocks.old < vec_capacity blocks.old }
     ensures items { (i : ℕ) (d : Block) → i < vec_len blocks.old
@@ -188,8 +188,8 @@ fn extend(turn: &Turn, blocks: &mut Vec<Block>)
     }
 }
 
-/// If the words that name references come from the place alone, makes the address block of an
-/// offset, unless it is at hand.
+/// Computes the address block of an offset if the words that name references come from the place
+/// alone, unless `addresses` has it.
 fn refresh(turn: &Turn, lane: u32, offset: u32, addresses: &mut Option<AddressBlock>)
     ensures keeps { KeepsAddresses turn.now lane addresses.old
         → KeepsAddresses turn.now lane addresses.new }
@@ -233,7 +233,7 @@ fn work_offset<S: Slice>(
     work_block(shared, &position, done, addresses, &mut rest[0]);
 }
 
-/// Works a block, the due one, after those of its segment that are done.
+/// Works the block that is due, after those of its segment that are done.
 fn work_block<S: Slice>(
     shared: &Shared<S>,
     position: &Position,
@@ -273,7 +273,7 @@ fn work_block<S: Slice>(
     }
 }
 
-/// The word that names a block's reference.
+/// Returns the word that names a block's reference.
 fn word_at(before: &Block, addresses: &Option<AddressBlock>, offset: u32) -> u64
     ensures { result ≡ word_from addresses.now before.now.0 (offset % 128) }
 {
@@ -283,7 +283,7 @@ fn word_at(before: &Block, addresses: &Option<AddressBlock>, offset: u32) -> u64
     }
 }
 
-/// The low and the high half of a word.
+/// Returns the low and the high half of a word.
 pub(crate) fn halves(word: u64) -> (u32, u32)
     ensures low { result.0 ≡ word % 2 ^ 32 }
     ensures high { result.1 ≡ word / 2 ^ 32 }

@@ -6,13 +6,13 @@ use crate::block::Block;
 use crate::params::Params;
 
 /// A slice whose segments have all been worked. Each form of memory says when a slice has all its
-/// blocks, and when they are the cells of a segment, which is counted over all passes.
+/// blocks, and when they are the cells of a segment. Segments are counted over all passes.
 pub(crate) trait Slice {
     ghost is_full: { Parameters → Self → Type 0 };
 
     ghost holds: { Parameters → List ℕ → ℕ → Self → Type 0 };
 
-    /// The block of a lane at an offset.
+    /// Returns the block of a lane at an offset.
     fn block_of(&self, params: &Params, lane: u32, offset: u32) -> &Block
         requires full { is_full params.now self.now }
         requires lane { lane < params.now.lanes }

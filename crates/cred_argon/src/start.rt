@@ -12,8 +12,8 @@ use crate::segment::{Segment, Shared};
 use crate::turn::Turn;
 use std::alloc::{AllocError, Global};
 
-/// The memory with the first two blocks of each lane, from the first hash. It uses the memory that
-/// the scratch has kept.
+/// Returns the memory with the first two blocks of each lane, from the first hash. The function
+/// uses the memory that the scratch has kept.
 pub(crate) fn start(
     alloc: Global,
     scratch: &mut ArgonScratch,
@@ -43,7 +43,7 @@ pub(crate) fn start(
     Ok(Memory { current, shared })
 }
 
-/// A segment with room for its blocks for each lane.
+/// Returns a segment for each lane, with room for its blocks.
 fn empty_slice(
     alloc: Global,
     scratch: &mut ArgonScratch,

@@ -10,7 +10,7 @@ use crate::slice::Slice;
 use cred_blake::hprime;
 use std::alloc::Global;
 
-/// The tag, if the newest slice is the last of the last pass.
+/// Returns the tag, if the newest slice is the last of the last pass.
 pub(crate) fn tag_of<S: Slice>(
     alloc: Global,
     params: &Params,
@@ -31,7 +31,7 @@ pub(crate) fn tag_of<S: Slice>(
     }
 }
 
-/// The last blocks of all lanes combined by XOR.
+/// Returns the last blocks of all lanes combined by XOR.
 fn last_blocks<S: Slice>(params: &Params, newest: &S) -> Block
     requires { S.is_full params.now newest.now }
     ensures { (h : List ℕ) → S.holds params.now h (4 * params.now.passes - 1) newest.now

@@ -1,4 +1,4 @@
-//! Which slice is worked.
+//! The slice that is worked.
 ghost use Rattle.std.specs.Prelude.{◌≡◌, if◌then◌else◌};
 ghost use Rattle.cred_argon.specs.{Cells.is_dependent, Cells.is_fresh, Turns.first_offset, Turns.position_in};
 
@@ -6,7 +6,7 @@ use crate::kind::{Kind, Version};
 use crate::params::Params;
 use crate::position::Position;
 
-/// The slice of a pass that is worked, in a memory of these parameters.
+/// The pass and the slice that are worked, in a memory of these parameters.
 #[derive(Clone, Copy, Drop)]
 pub(crate) struct Turn {
     pub(crate) params: Params,
@@ -36,7 +36,7 @@ impl Turn {
         }
     }
 
-    /// The position of an offset in a lane's segment.
+    /// Returns the position of an offset in a lane's segment.
     pub(crate) fn position(&self, lane: u32, offset: u32) -> Position
         ensures { result ≡ position_in self.now lane offset }
     {
@@ -48,7 +48,8 @@ impl Turn {
         }
     }
 
-    /// The first offset that is worked: the first two blocks of a lane come from the inputs.
+    /// Returns the first offset that is worked: the first two blocks of a lane come from the
+    /// inputs.
     pub(crate) fn first_offset(&self) -> u32
         ensures { result ≡ first_offset self.now }
     {

@@ -1,4 +1,4 @@
--- What decodes is bytes, and their letters are the text.
+-- The result of decoding is bytes, and their letters are the text.
 use Rattle.std.proofs.Common.{◌≡◌, ◌∙◌, ℕ, zero, suc, ◌+◌, ◌*◌, ◌/◌, ◌-◌, ◌<◌, true, false, List, [], ◌∷◌, ◌++◌, length, take, drop, get_or, slice_index, Some, None, arith, inl, inr, refl, ap, sym, subst, ◌⊎◌, take-append-drop, length-drop}
 use Rattle.std.proofs.{lemmas.Bool.cases_lt, lemmas.Grind.same_number_lists, lemmas.List.get_or-drop, lemmas.List.nil_from_length}
 use Rattle.std.specs.{Result.result_ok, declared.option.Option.Option, declared.result.Result.Result}
@@ -108,11 +108,11 @@ none_found : (r : Result (List ℕ) DecodeError) → ((b : List ℕ) → r ≡ O
 none_found (Ok b) h = absurd (h b refl)
 none_found (Err e) h = refl
 
--- what a text would be read as, if it is one of letters
+-- the bytes that a text is read as, if the text is letters
 abbrev pub IsReading : List ℕ → List ℕ → ℕ → Type 0
 IsReading letters bytes n = (m : List ℕ) → IsBytes m → letters ≡ letters_of m → (k : ℕ) → k < n → k < length m → get_or bytes k 0 ≡ get_or m k 0
 
--- a text whose reading is written otherwise is no base64
+-- a text isn't base64 if its reading has other letters
 pub no_bytes : (letters bytes : List ℕ) → IsBytes letters → length bytes ≡ length letters * 3 / 4 → IsReading letters bytes (length bytes)
     → (letters ≡ letters_of bytes → ⊥) → bytes_with letters ≡ None
 unfolding bytes_with letters_of decoded_of

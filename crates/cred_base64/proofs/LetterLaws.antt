@@ -4,15 +4,15 @@ use Rattle.std.proofs.lemmas.Bool.{eqb-true}
 use Rattle.base64.proofs.Tables.{all_below_at}
 use Rattle.cred_base64.specs.Letters.{letter_of}
 
--- 1 from a number on
+-- 0 below a number, and 1 from that number on
 abbrev pub step : ℕ → ℕ → ℕ
 step number least = cond (nat_le least number) 1 0
 
--- what `letter` computes
+-- the result of `letter`
 abbrev pub letter_code : ℕ → ℕ
 letter_code v = 65 + v + 6 * step v 26 - 75 * step v 52 - 15 * step v 62 + 3 * step v 63
 
--- what `sextet_of` computes
+-- the result of `sextet_of`
 abbrev pub sextet_code : ℕ → ℕ
 sextet_code c = (c + 19 - 3 * step c 44 - 12 * step c 48 + 59 * step c 58 - 6 * step c 91) % 64
 

@@ -46,7 +46,7 @@ unfolding letters_of letter_of
 letters_at bytes k h =
     rw append-nil (symbols_at (engine_symbols standard_no_pad) bytes k (omega (arith, length-encode_symbols (engine_symbols standard_no_pad) bytes)))
 
--- so far the letters of these bytes
+-- up to a place, the letters are those of these bytes
 abbrev pub AgreeUpTo : List ℕ → List ℕ → ℕ → Type 0
 AgreeUpTo letters bytes n = (k : ℕ) → k < n → get_or letters k 0 ≡ letter_of (sextet_at bytes k)
 

@@ -15,7 +15,7 @@ use thiserror::Error;
 #[error("not base64 with no padding")]
 pub struct NotBase64;
 
-/// The number of bytes that so many letters encode.
+/// Returns the number of bytes that so many letters encode.
 pub fn decoded_len(letters: usize) -> usize
     ensures { result ≡ letters * 3 / 4 }
 {
@@ -24,7 +24,7 @@ pub fn decoded_len(letters: usize) -> usize
 
 /// Writes the bytes that the letters encode, of which there are `decoded_len(letters.len())`.
 ///
-/// Errors: `NotBase64` if they encode none. Then the bytes are zero.
+/// Errors: `NotBase64` if the letters encode no bytes. Then the bytes are zero.
 pub fn decode(letters: &[u8], bytes: &mut [u8]) -> Result<(), NotBase64>
     requires { length bytes.old ≡ length letters.now * 3 / 4 }
     ensures ok { OnOk result (bytes_with letters.now ≡ Some bytes.new) }
@@ -42,9 +42,9 @@ pub fn decode(letters: &[u8], bytes: &mut [u8]) -> Result<(), NotBase64>
     Err(NotBase64)
 }
 
-/// Whether these are the letters of the bytes, which is how a text is judged: whatever is wrong
-/// with it, what it was read as is written by other letters. Each letter is compared also after one
-/// that differs.
+/// Whether these are the letters of the bytes, by which `decode` judges a text: other letters
+/// encode the bytes that were read from a faulty text. The loop compares each letter, even after
+/// one that differs.
 fn are_letters(letters: &[u8], bytes: &[u8]) -> bool
     ensures same { IsTrue result ↔ (letters.now ≡ letters_of bytes.now) }
     ensures bytes { IsBytes bytes.now }

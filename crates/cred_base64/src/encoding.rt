@@ -7,8 +7,8 @@ ghost use Rattle.cred_base64.specs.Letters.{letters_of};
 use crate::letters::letter;
 use crate::sextets::sextet;
 
-/// The number of letters of so many bytes: four for each three bytes, three for two that are left
-/// over, and two for one.
+/// Returns the number of letters of so many bytes: four for each three bytes, three for two bytes
+/// that are left over, and two for one.
 pub fn encoded_len(bytes: usize) -> usize
     requires { bytes < 2 ^ 63 }
     ensures { result ≡ unpadded_len bytes }

@@ -3,8 +3,8 @@
 ghost use Rattle.std.specs.Prelude.{◌≡◌, ℕ, ◌<◌, nat_le, if◌then◌else◌};
 ghost use Rattle.cred_base64.specs.Letters.{letter_of};
 
-/// The letter of six bits. `A` to `Z`, `a` to `z`, `0` to `9`, `+` and `/` stand for 0 to 63, so
-/// there is a step where each of these runs begins.
+/// Returns the letter of six bits. `A` to `Z`, `a` to `z`, `0` to `9`, `+` and `/` stand for 0 to
+/// 63, so there is a step where each of these runs begins.
 #[tactic(auto, using(crate::proofs::LetterLaws::letter_code_is))]
 pub(crate) fn letter(sextet: u8) -> u8
     requires { sextet < 64 }
@@ -17,7 +17,7 @@ pub(crate) fn letter(sextet: u8) -> u8
     signs as u8
 }
 
-/// The six bits that a letter encodes, and some six bits if the byte is no letter.
+/// Returns the six bits that a letter encodes, and some six bits if the byte is no letter.
 pub(crate) fn sextet_of(letter: u8) -> u8
     ensures letters { (sextet : ℕ) → sextet < 64 → letter ≡ letter_of sextet → result ≡ sextet }
     ensures six_bits { result < 64 }
@@ -30,7 +30,7 @@ pub(crate) fn sextet_of(letter: u8) -> u8
     (lower % 64) as u8
 }
 
-/// 1 if the number is at least this, otherwise 0.
+/// Returns 1 if the number is at least `least`, otherwise 0.
 fn reaches(number: u16, least: u16) -> u16
     requires number { number < 256 }
     requires least { least < 256 }

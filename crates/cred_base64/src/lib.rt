@@ -1,6 +1,6 @@
-//! Base64 with no padding (RFC 4648, section 4) for secrets, as the tags of password records: no
-//! table is read, and no branch and no address depends on a byte or a letter. Only lengths, and
-//! whether a whole text is base64, decide what is done.
+//! Base64 with no padding (RFC 4648, section 4) for secrets, such as the tags of password records.
+//! The code reads no table. No branch and no address depends on a byte or a letter, but only on
+//! lengths and on whether a whole text is base64.
 #![tactic(auto)]
 
 mod decoding;

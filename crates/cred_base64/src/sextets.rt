@@ -6,7 +6,7 @@ ghost use Rattle.cred_base64.specs.{Letters.letters_of, Sextets.sextet_at};
 
 use crate::letters::sextet_of;
 
-/// The six bits at a place of the bytes, with zero bits after the last byte.
+/// Returns the six bits at a place of the bytes, with zero bits after the last byte.
 pub(crate) fn sextet(bytes: &[u8], place: usize) -> u8
     ensures value { result ≡ sextet_at bytes.now place }
     ensures six_bits { result < 64 }
@@ -20,7 +20,8 @@ pub(crate) fn sextet(bytes: &[u8], place: usize) -> u8
     }
 }
 
-/// The byte at a place of those that the letters encode, and some byte if they encode none.
+/// Returns the byte at a place of those that the letters encode, and some byte if the letters
+/// encode none.
 pub(crate) fn byte(letters: &[u8], place: usize) -> u8
     requires { place < length letters.now }
     ensures { (bytes : List ℕ) → IsBytes bytes → letters.now ≡ letters_of bytes
@@ -34,7 +35,7 @@ pub(crate) fn byte(letters: &[u8], place: usize) -> u8
     }
 }
 
-/// The six bits of the letter at a place.
+/// Returns the six bits of the letter at a place.
 fn read(letters: &[u8], place: usize) -> u8
     ensures letters { (bytes : List ℕ) → IsBytes bytes → letters.now ≡ letters_of bytes
         → place < length letters.now → result ≡ sextet_at bytes place }
@@ -43,7 +44,7 @@ fn read(letters: &[u8], place: usize) -> u8
     sextet_of(byte_at(letters, place))
 }
 
-/// The byte at a place, and 0 after the last.
+/// Returns the byte at a place, and 0 after the last.
 fn byte_at(bytes: &[u8], place: usize) -> u8
     ensures { result ≡ slice_index bytes.now place }
 {

@@ -1,4 +1,4 @@
--- How a hasher follows the message that it is fed.
+-- A hasher and the message that it is fed.
 use Rattle.std.proofs.Common.{◌≡◌, ℕ, ◌+◌, ◌-◌, ◌*◌, ◌/◌, ◌%◌, ◌^◌, ◌<◌, ◌≤◌, true, false, List, [], ◌∷◌, ◌++◌, length, take, drop, replicate, refl, ap, sym, ◌∙◌, arith, add-zero, length-append, length-drop}
 use Rattle.std.proofs.Math.Seq.{take-append-add, drop-append-add}
 use Rattle.std.proofs.lemmas.List.{append-nil, drop-append-le, drop-drop, length-replicate}
@@ -25,7 +25,7 @@ length-key_block (k ∷ ks) short =
     let zeros : ℕ = 128 - length (k ∷ ks) in
     omega (arith, length-append (k ∷ ks) (replicate zeros 0), length-replicate {A = ℕ} zeros 0)
 
--- no block is taken in, and the last is the key's, or empty
+-- no block is absorbed, and the last is the key's, or empty
 pub Fed_new : (h0 key : List ℕ) (s : State) (b : List ℕ) → s.h ≡ h0 → s.counter ≡ 0 → b ≡ key_block key → length key ≤ 128
     → IsFed h0 (key_block key ++ []) s b
 Fed_new h0 key s b state none buffer short =
@@ -36,7 +36,7 @@ Fed_new h0 key s b state none buffer short =
 
 -- ---- bytes that fit the last block
 
--- how many bytes the last block has
+-- the number of bytes of the last block
 pub length-last : (h0 d b : List ℕ) (s : State) → IsFed h0 d s b → length b ≡ length d - 128 * ((length d - 1) / 128)
 length-last h0 d b s fed = ap length fed.1 ∙ length-drop (128 * ((length d - 1) / 128)) d
 
@@ -71,7 +71,7 @@ Fed_rest h0 d b x s room fed fills =
     let at : 128 * (blocks + 1) ≡ 128 * blocks + 128 = omega arith in
     sym (rw (at, ← drop-drop 128 (128 * blocks) (d ++ x), Fed_drop h0 d b x s fed, ← fills) (drop-append-add b x room))
 
--- how many bytes those are
+-- the number of those bytes
 pub length-rest : (h0 d b x : List ℕ) (s : State) (room : ℕ) → IsFed h0 d s b → length b + room ≡ 128
     → length x - room ≡ length (d ++ x) - 128 * ((length d - 1) / 128 + 1)
 length-rest h0 d b x s room fed fills =
@@ -85,7 +85,7 @@ drop-rest h0 d b x s room i fed fills =
     let sum : 128 * first + 128 * i ≡ 128 * (first + i) = omega arith in
     rw (Fed_rest h0 d b x s room fed fills) (drop-drop (128 * i) (128 * first) (d ++ x) ∙ ap (λ (k : ℕ). drop k (d ++ x)) sum)
 
--- the block y that the input x fills is taken in
+-- the block y that the input x fills is absorbed
 pub Taken_filled : (h0 d b x y : List ℕ) (s next : State) (room : ℕ) → IsFed h0 d s b → length b + room ≡ 128 → room < length x
     → y ≡ b ++ take room x → next.h ≡ compress s.h y next.counter false → next.counter ≡ (s.counter + 128) % 2 ^ 128
     → IsTaken h0 (d ++ x) next ((length d - 1) / 128 + 1 + 0)
@@ -97,7 +97,7 @@ Taken_filled h0 d b x y s next room fed fills past filled state count =
     rw add-zero
     (Taken_next h0 (d ++ x) y s next blocks before (omega (arith, length-rest h0 d b x s room fed fills)) (filled ∙ block) state count)
 
--- block i after that, y, is taken in
+-- block i after that, y, is absorbed
 pub Taken_whole : (h0 d b x y : List ℕ) (s t next : State) (room i : ℕ) → IsFed h0 d s b → length b + room ≡ 128
     → IsTaken h0 (d ++ x) t ((length d - 1) / 128 + 1 + i) → room + 128 * (i + 1) < length x → y ≡ take 128 (drop (128 * i) (drop room x))
     → next.h ≡ compress t.h y next.counter false → next.counter ≡ (t.counter + 128) % 2 ^ 128
@@ -110,7 +110,7 @@ Taken_whole h0 d b x y s t next room i fed fills taken more whole state count =
     rw at
     (Taken_next h0 (d ++ x) y t next (first + i) taken (omega (arith, length-rest h0 d b x s room fed fills)) block state count)
 
--- what comes after block i is the last block
+-- the bytes after block i are the last block
 pub Fed_long : (h0 d b x c : List ℕ) (s t : State) (room i : ℕ) → IsFed h0 d s b → length b + room ≡ 128 → room < length x
     → IsTaken h0 (d ++ x) t ((length d - 1) / 128 + 1 + i) → i ≡ (length x - room - 1) / 128 → c ≡ drop (128 * i) (drop room x)
     → IsFed h0 (d ++ x) t c

@@ -1,4 +1,4 @@
--- How long the hashes are.
+-- The lengths of the hashes.
 use Rattle.std.proofs.Common.{◌≡◌, ℕ, ◌-◌, ◌/◌, ◌≤◌, List, ◌++◌, length, ap, arith}
 use Rattle.std.proofs.lemmas.List.{length-take-le}
 use Rattle.cred_blake.specs.Blake2b.{blake, block_count, compress, initial_state, key_block, state_after}

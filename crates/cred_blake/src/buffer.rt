@@ -24,7 +24,7 @@ impl Model for Buffer {
 }
 
 impl Buffer {
-    /// No bytes yet.
+    /// Returns a buffer with no bytes.
     pub(crate) fn new() -> Buffer
         ensures { result ≡ [] }
     {
@@ -34,7 +34,7 @@ impl Buffer {
         }
     }
 
-    /// The number of bytes.
+    /// Returns the number of bytes.
     pub(crate) fn len(&self) -> usize
         ensures exact { result ≡ length self.now }
         ensures fits { result ≤ BLOCK_LEN }
@@ -42,7 +42,7 @@ impl Buffer {
         self.len
     }
 
-    /// The bytes so far.
+    /// Returns the bytes so far.
     pub(crate) fn bytes(&self) -> &[u8]
         ensures { result.now ≡ self.now }
     {

@@ -1,4 +1,4 @@
-//! The compression function F of BLAKE2b (RFC 7693, section 3.2), which takes a block of 128 bytes
+//! The compression function F of BLAKE2b (RFC 7693, section 3.2), which mixes a block of 128 bytes
 //! into the state.
 
 ghost use Rattle.std.specs.Prelude.{◌≡◌, ◌+◌, ◌≤◌, ◌<◌, [], length, slice_index, slice_index_or};
@@ -34,7 +34,7 @@ const SIGMA: [[usize; 16]; 10] = [
     [10, 2, 8, 4, 7, 6, 1, 5, 15, 11, 9, 14, 3, 12, 13, 0],
 ];
 
-/// The mixing function G on four words (RFC 7693, section 3.1).
+/// Applies the mixing function G to four words (RFC 7693, section 3.1).
 #[inline(always)]
 #[tactic(auto, unfolding(crate::specs::Blake2b::mixing))]
 fn mixing(a: u64, b: u64, c: u64, d: u64, x: u64, y: u64) -> (u64, u64, u64, u64)
@@ -51,7 +51,7 @@ fn mixing(a: u64, b: u64, c: u64, d: u64, x: u64, y: u64) -> (u64, u64, u64, u64
     (a, b, c, d)
 }
 
-/// G at the places i, j, k, l of the work vector, with two words of the message.
+/// Applies G at the places i, j, k, l of the work vector, with two words of the message.
 #[inline(always)]
 #[tactic(auto, unfolding(crate::specs::Blake2b::mix))]
 fn mix(v: &mut [u64; 16], i: usize, j: usize, k: usize, l: usize, words: (u64, u64))
@@ -66,7 +66,7 @@ fn mix(v: &mut [u64; 16], i: usize, j: usize, k: usize, l: usize, words: (u64, u
     v[l] = d;
 }
 
-/// The message word that round `r` uses at its place `i`.
+/// Returns the message word that round `r` uses at its place `i`.
 #[inline(always)]
 fn word(m: &[u64; 16], r: usize, i: usize) -> u64
     requires { (r < 10) × (i < 16) }
@@ -75,7 +75,7 @@ fn word(m: &[u64; 16], r: usize, i: usize) -> u64
     m[SIGMA[r][i]]
 }
 
-/// One round with row `r` of the schedule: the columns, then the diagonals.
+/// Does one round with row `r` of the schedule: the columns, then the diagonals.
 #[inline(always)]
 #[tactic(auto, unfolding(crate::specs::Blake2b::round))]
 fn round(v: &mut [u64; 16], m: &[u64; 16], r: usize)
@@ -92,7 +92,7 @@ fn round(v: &mut [u64; 16], m: &[u64; 16], r: usize)
     mix(v, 3, 4, 9, 14, (word(m, r, 14), word(m, r, 15)));
 }
 
-/// The twelve rounds, unrolled so that the row of the schedule is a constant in each.
+/// Does the twelve rounds, unrolled so that each has its row of the schedule as a constant.
 #[inline(always)]
 #[tactic(auto, unfolding(crate::specs::Blake2b::rounds))]
 fn rounds(v: &mut [u64; 16], m: &[u64; 16])
@@ -112,7 +112,7 @@ fn rounds(v: &mut [u64; 16], m: &[u64; 16])
     round(v, m, 1);
 }
 
-/// The word at byte `i` of a block.
+/// Returns the word at byte `i` of a block.
 #[inline(always)]
 #[tactic(auto, unfolding(crate::specs::Words::word_at))]
 fn load(block: &[u8], i: usize) -> u64
@@ -131,7 +131,7 @@ fn load(block: &[u8], i: usize) -> u64
     ])
 }
 
-/// The 16 words of a block.
+/// Returns the 16 words of a block.
 #[inline(always)]
 #[tactic(auto, unfolding(crate::specs::Words::words_of))]
 fn words(block: &[u8]) -> [u64; 16]
@@ -158,7 +158,7 @@ fn words(block: &[u8]) -> [u64; 16]
     ]
 }
 
-/// The work vector for a block with this byte counter. `last` sets the final block flag.
+/// Returns the work vector for a block with this byte counter. `last` sets the final block flag.
 #[inline(always)]
 fn work_vector(h: &[u64; 8], counter: u128, last: bool) -> [u64; 16]
     ensures { result ≡ work_vector h.now counter last }

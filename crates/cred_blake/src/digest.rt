@@ -24,7 +24,7 @@ impl Model for Digest {
 }
 
 impl Digest {
-    /// The first `len` bytes of a state.
+    /// Returns the first `len` bytes of a state.
     #[tactic(auto, unfolding(crate::specs::Words::bytes_of))]
     pub(crate) fn of_state(h: &[u64; 8], len: usize) -> Digest
         requires { len ≤ MAX_LEN }
@@ -37,7 +37,7 @@ impl Digest {
         Digest { bytes, len }
     }
 
-    /// The bytes of the digest, of the length that the hasher was made for.
+    /// Returns the bytes of the digest, as many as `Blake2b::new` was asked for.
     pub fn bytes(&self) -> &[u8]
         ensures { result.now ≡ self.now }
     {

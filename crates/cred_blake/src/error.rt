@@ -1,4 +1,4 @@
-//! Why a call of this crate was refused.
+//! The errors of this crate's calls.
 
 ghost use Rattle.std.specs.Prelude.{◌≡◌};
 ghost use Rattle.cred_blake.specs.{Errors.error_number, Errors.error_word, declared.error.BlakeError.TheVariants.Memory as OutOfMemory};
@@ -6,7 +6,7 @@ ghost use Rattle.cred_blake.specs.{Errors.error_number, Errors.error_word, decla
 use std::alloc::AllocError;
 use thiserror::Error;
 
-/// Why a hasher or a hash could not be made.
+/// The reason why a call made no hasher or no hash.
 #[derive(Clone, Copy, Debug, PartialEq, Eq, Error)]
 pub enum BlakeError {
     /// The length of the digest is not 1 to 64 bytes, or that of H' is 0.
@@ -15,13 +15,13 @@ pub enum BlakeError {
     /// The key is longer than 64 bytes.
     #[error("the key is longer than 64 bytes")]
     KeyLen,
-    /// Out of memory: there was not enough for the result.
+    /// There was not enough memory for the result.
     #[error("out of memory")]
     Memory,
 }
 
 impl BlakeError {
-    /// The number of the error, from 1 to 3.
+    /// Returns the number of the error, from 1 to 3.
     pub fn number(self) -> u8
         ensures { result ≡ error_number self }
     {
@@ -32,7 +32,7 @@ impl BlakeError {
         }
     }
 
-    /// The name of the error in lower case, such as `outlen`.
+    /// Returns the name of the error in lower case, such as `outlen`.
     pub fn word(self) -> &'static str
         ensures { result.now ≡ error_word self }
     {

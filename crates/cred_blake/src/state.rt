@@ -9,7 +9,7 @@ use crate::compress::{BLOCK_LEN, IV, compress};
 /// section 2.5).
 const SEQUENTIAL: u64 = 0x01010000;
 
-/// The state after the blocks so far, and how many bytes those blocks had.
+/// The state after the blocks so far, and the number of bytes of those blocks.
 #[derive(Drop)]
 pub(crate) struct State {
     pub(crate) h: [u64; 8],
@@ -17,7 +17,7 @@ pub(crate) struct State {
 }
 
 impl State {
-    /// The state before the first block, for a digest and a key of these lengths, in bytes.
+    /// Returns the state before the first block, for a digest and a key of these lengths, in bytes.
     #[tactic(auto, unfolding(crate::specs::Blake2b::initial_state))]
     pub(crate) fn new(out_len: usize, key_len: usize) -> State
         requires { key_len ≤ 64 }

@@ -11,7 +11,7 @@ use std::alloc::Global;
 /// The number of bytes of each hash in the chain that go into a longer output: its first half.
 const HALF_LEN: usize = MAX_LEN / 2;
 
-/// The hash of two pieces, without a key.
+/// Returns the hash of two pieces, without a key.
 fn hash(out_len: usize, first: &[u8], second: &[u8]) -> Digest
     requires { (1 ≤ out_len) × (out_len ≤ 64) }
     ensures value { result ≡ blake out_len [] (first.now ++ second.now) }
@@ -23,7 +23,7 @@ fn hash(out_len: usize, first: &[u8], second: &[u8]) -> Digest
     hasher.finalize()
 }
 
-/// The half of a 64-byte digest that goes into H'.
+/// Returns the half of a 64-byte digest that goes into H'.
 fn first_half(digest: &Digest) -> &[u8]
     requires { length digest.now ≡ 64 }
     ensures value { result.now ≡ take 32 digest.now }
@@ -64,7 +64,7 @@ fn write_hash_prime(out: &mut [u8], input: &[u8])
     put(out, HALF_LEN * half_count, last.bytes());
 }
 
-/// H' of `input`, `len` bytes long.
+/// Returns H' of `input`, `len` bytes long.
 ///
 /// Errors: `OutLen` if `len` is 0; `Memory` if there is not enough for the result.
 pub fn hprime(alloc: Global, len: u32, input: &[u8]) -> Result<Vec<u8>, BlakeError>
@@ -81,7 +81,7 @@ pub fn hprime(alloc: Global, len: u32, input: &[u8]) -> Result<Vec<u8>, BlakeErr
     Ok(out)
 }
 
-/// H' of `input`, 1024 bytes long: a block of Argon2. It allocates no memory.
+/// Returns H' of `input`, 1024 bytes long: a block of Argon2. The call allocates no memory.
 pub fn hprime_block(input: &[u8]) -> [u8; 1024]
     ensures { result ≡ hash_prime 1024 input.now }
 {

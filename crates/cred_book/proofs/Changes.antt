@@ -1,4 +1,4 @@
--- What a commit changes: what its work told, or nothing.
+-- The change of a commit: the one that its work told, or none.
 use Rattle.std.proofs.Common.{◌≡◌, Bool, true, false, Option, Some, None, MatchOption, if◌then◌else◌, not, refl, ap, ◌∙◌}
 use Rattle.std.proofs.lemmas.Bool.{cond_both}
 use Rattle.std.specs.FinMap as map
@@ -16,7 +16,7 @@ Outcome = Reply × Option RecordValue
 abbrev IsStill : Option RecordValue → Outcome → Type 0
 IsStill now outcome = makes_change outcome.0 ≡ false → outcome.1 ≡ now
 
--- where an operation makes no change, it leaves what stood
+-- an operation that makes no change leaves the record as it was
 pub whole_stays : (request : Request) (now : Option RecordValue) → IsStill now (whole request now)
 whole_stays (Enrol name pw setting) None = λ stays. absurd cc
 whole_stays (Replace name pw new setting) (Some stored) = cond_both (right stored pw) _ _ (IsStill (Some stored)) (λ _ h. absurd cc) (λ _ h. refl)
@@ -28,7 +28,7 @@ whole_stays (Verify name pw) (Some stored) = λ stays. refl
 whole_stays _ _ = λ stays. refl
 
 module _ (book : Accounts) (work : Task) where
-  -- the answer and the book after it are those of the change that was told
+  -- the answer and the book after it are those of the announced change
   abbrev IsTold : Reply × Accounts → Option RecordValue → Type 0
   IsTold commit_outcome copy = MatchOption (change_with (name_of work.0) (whole work.0 copy)) ⊥ (λ change. commit_outcome ≡ (change.reply, map.insert book change.name change.after))
 

@@ -1,4 +1,4 @@
--- A commit and a judgement, by what stands at the name.
+-- A commit and a judgement, by the record at the name.
 use Rattle.std.proofs.Common.{◌≡◌, ◌<◌, ℕ, List, Bool, true, false, Option, Some, None, Result, Err, arith, refl, sym, ap, ◌∙◌}
 use Rattle.std.proofs.lemmas.Bool.{false≢true}
 use Rattle.std.specs.FinMap as map
@@ -22,7 +22,7 @@ module _ (work : Task) (now : Option RecordValue) where
       sym (rw (fresh, copied, ← said, ← made, ← is_change) refl)
 
 module _ (book : Accounts) (work : Task) (name : List ℕ) (is : name ≡ name_of work.0) where
-  -- the definitions, once it is known what stands at the name
+  -- the definitions, once the entry at the name is known
   pub committed_found : (entry : Option (Option RecordValue)) → map.get book name ≡ entry → commit_outcome book work ≡ commit_outcome_at book work entry
   unfolding commit_outcome
   committed_found entry found = ap (λ n. commit_outcome_at book work (map.get book n)) (sym is) ∙ ap (commit_outcome_at book work) found
@@ -39,7 +39,7 @@ module _ (book : Accounts) (work : Task) (name : List ℕ) (is : name ≡ name_o
   by_test now found true = refl
   by_test now found false = ap (λ b. (reply.Changed now, b)) (sym (insert_again book work now found))
 
-  -- what was judged is put at the name, which changes nothing where the judgement is no change
+  -- the judged record is put at the name, which changes nothing if the judgement is no change
   pub commits_judged : (now : Option RecordValue) → map.get book name ≡ Some now → (told : Reply × Option RecordValue × Bool) → told ≡ judgement_at work (Some now)
       → (later : Accounts) → later ≡ map.insert book name told.1 → (told.0, later) ≡ commit_outcome book work
   commits_judged now found told judges later put =
@@ -47,12 +47,12 @@ module _ (book : Accounts) (work : Task) (name : List ℕ) (is : name ≡ name_o
       let whole_commit = committed_found (Some now) found ∙ by_test now there (same now work.1) in
       sym (whole_commit ∙ rw (← judges, ← is, ← put) refl)
 
--- what isn't shown isn't there
+-- a book that doesn't show a name doesn't have it
 pub not_shown : (book : Accounts) (name : List ℕ) (e : BookError) → Shows book name (Err e) → map.get book name ≡ None
 not_shown book name error.NoAccount h = h
 not_shown book name _ h = absurd h
 
--- a new name that there is room for is refused for want of memory alone
+-- only want of memory refuses a new name that there is room for
 pub not_refused : (room : ℕ) (old new : Accounts) (name : List ℕ) (now : Option RecordValue) (e : BookError) → EntersWithin room old new name now (Err e) → (◌≡◌ {A = Result (Unit {0}) BookError} (Err e) (Err error.Memory) → ⊥)
     → map.contains_key old name ≡ false → map.len old < room → ⊥
 not_refused room old new name now error.Exists h granted absent few = false≢true (sym absent ∙ h.0)

@@ -1,5 +1,5 @@
--- Entries in the order of their keys: what a binary search finds among them, and what a write at
--- its place does.
+-- Entries in the order of their keys: the result of a binary search among them, and the effect of a
+-- write at its place.
 use Rattle.std.proofs.Common.{◌≡◌, ℕ, zero, suc, ◌+◌, ◌<◌, List, [], ◌∷◌, length, get_or, set, Some, None, Result, Ok, Err, T, Bool, true, false, not, refl, sym, ap, ◌∙◌, arith, ◌&&◌}
 use Rattle.std.proofs.lemmas.{Cmp.alike_right, List.Sorted.searchable_from_sorted}
 use Rattle.std.specs.{List.insert, List.remove, List.Sorted.IsSearchInRange, List.Sorted.IsBinarySearchResult}
@@ -57,7 +57,7 @@ module _ {K X : Type 0} (R : K → K → Ordering) (o : IsTotalOrder R) where
   place_behind : (e : K × X) (es : List (K × X)) (q : K) (i : ℕ) → IsPlaceOf R (e ∷ es) q (suc i) → IsPlaceOf R es q i
   place_behind e es q i p = record { within = omega (arith, p.within); before = λ k d lt. p.before (suc k) d (omega arith); here = p.here }
 
-  -- at the key's place stands what is found, and what is put goes there
+  -- the entry at the key's place is the one that is found, and a new entry goes there
   pub at_place : (es : List (K × X)) (q : K) (i : ℕ) (d : K × X) → IsPlaceOf R es q i → (find R q es ≡ Some (get_or es i d).1) × ((v : X) → put R q v es ≡ set es i ((get_or es i d).0, v))
   at_place [] q i d p = absurd (omega (arith, p.within))
   at_place (e ∷ es) q zero d p = rw (turned o e.0 q Equal (p.here d)) (refl, λ v. refl)

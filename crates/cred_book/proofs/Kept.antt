@@ -1,4 +1,4 @@
--- What entries in order say of their map, and what a write among a book's entries does to it.
+-- Entries in order and their map, and the effect of a write among a book's entries on it.
 use Rattle.std.proofs.Common.{refl, ◌≡◌, ℕ, ◌<◌, ◌≤◌, List, [], ◌++◌, append-nil, length, get_or, set, Bool, cond, not, T, Option, Some, None, true, false, is_some, sym, ap, subst, ◌∙◌, arith}
 use Rattle.std.proofs.lemmas.Cmp.{alike_right}
 use Rattle.std.specs.{List.insert, List.remove, Ordering.is_eq, Ordering.eq_by_cmp}

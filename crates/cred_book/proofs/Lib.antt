@@ -1,6 +1,5 @@
--- Lemmas: sorted entries and a book kept as such, equality of records, commits and what they change,
--- what a yes says,
--- and of whom an answer tells.
+-- Lemmas: sorted entries and a book kept as such, equality of records, commits and their changes,
+-- the meaning of a yes, and the account of an answer.
 pub mod Changes
 pub mod Commitments
 pub mod Entries

@@ -1,4 +1,4 @@
--- What a yes says of the password.
+-- The meaning of a yes for the password.
 use Rattle.std.proofs.Common.{◌≡◌, ℕ, List, Bool, true, false, length, Option, Some, None, if◌then◌else◌, refl}
 use Rattle.std.specs.Bool.{Decides}
 use Rattle.std.specs.FinMap as map

@@ -1,4 +1,4 @@
--- What the entries of a tree say of a register's map, and what a write among them does to it.
+-- The entries of a tree and a register's map, and the effect of a write among them on it.
 use Rattle.std.proofs.Common.{◌≡◌, ◌≤◌, ℕ, List, [], ◌∷◌, length, Option, Some, is_some, true, cond, T, refl, sym, ap, ◌∙◌}
 use Rattle.std.specs.{List.AllByRecursion, List.Sorted.IsStrictlySortedBy, Ordering.is_eq}
 use Rattle.std.specs.declared.cmp.Ordering.{Ordering}

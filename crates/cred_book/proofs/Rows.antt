@@ -25,7 +25,7 @@ module _ {V : Type 0} (rows : Rows V) (key : List ℕ) where
   tied row is q Equal c = sym is ∙ map.get_tied nat_list_cmp_total rows q key c
   tied row is q _ c = refl
 
-  -- what stands may be put there again
+  -- a row that is put at its own key again changes nothing
   pub row_again : (row : Option V) → map.get rows key ≡ row → with_row rows key row ≡ rows
   row_again row is = same_rows _ _ (λ q. get_row row q ∙ tied row is q _ refl)
 
@@ -40,11 +40,11 @@ row_over {V = V} rows key first row = same_rows _ _ (λ q.
     over false there = refl
 
 module _ (book : Accounts) (name : List ℕ) where
-  -- a name that isn't there is taken away
+  -- removing a name that isn't there changes nothing
   pub remove_absent : map.contains_key book name ≡ false → map.remove book name ≡ book
   remove_absent absent = row_again book name None (no_some _ absent)
 
-  -- a new name is taken away again
+  -- removing a new name again leaves the old book
   pub remove_again : (now : Option RecordValue) → map.contains_key book name ≡ false → map.remove (map.insert book name now) name ≡ book
   remove_again now absent = row_over book name (Some now) None ∙ remove_absent absent
 

@@ -1,4 +1,4 @@
--- Of which account an answer tells, and what of a password counts.
+-- The account of which an answer tells, and the part of a password that counts.
 use Rattle.std.proofs.Common.{◌≡◌, ◌≢◌, ℕ, List, length, Bool, true, false, cond, Option, Some, None, IfSome, unwrap_or, Ordering, Equal, is_eq, refl, ap, ◌∙◌}
 use Rattle.std.specs.FinMap as map
 use Rattle.std.specs.{Cmp.Lexicographic.nat_list_cmp_total, Ordering.eq_by_cmp, Str.bytes_eq}

@@ -19,7 +19,7 @@ module _ {V R : Type 0} (rows : Rows V) (update : Update V R) where
   abbrev updated_if : Bool → Rows V
   updated_if done = if done then with_row rows update.operation.key update.after else rows
 
-  -- one that is done is the whole operation on what stands
+  -- an update that is done is the whole operation on the present row
   pub stepped : IsWorked update → IsConditional rows update → update.is_done ≡ true
       → ◌≡◌ {A = R × Rows V} (update.reply, updated rows update) (outcome_on rows update.operation)
   unfolding outcome_on
@@ -81,7 +81,7 @@ or_else (inl a) f = inl a
 or_else (inr b) f = inr (f b)
 
 module _ {V R : Type 0} (update : Update V R) where
-  -- an update that comes between is at the same key and done, or leaves the row
+  -- an update in between is at the same key and done, or leaves the row as it is
   passed : (rows : Rows V) (between : Update V R) (done : Bool) (order : Ordering) → between.is_done ≡ done → name_cmp update.operation.key between.operation.key ≡ order
       → ((between.is_done ≡ true) × (between.operation.key ≡ update.operation.key)) ⊎ (standing (updated rows between) update ≡ standing rows update)
   passed rows between false order is cmp = inr (ap (λ s. standing s update) (left rows between is))

@@ -7,7 +7,7 @@ use Rattle.cred_book.specs.Names.{name_cmp}
 abbrev pub Accounts : Type 0
 Accounts = map.FinMap name_cmp (Option RecordValue)
 
--- how many names a book has room for
+-- the number of names that a book has room for
 abbrev pub most_accounts : ℕ
 most_accounts = 4096
 
@@ -17,17 +17,17 @@ with_entry book name now =
     if map.contains_key book name || nat_lt (map.len book) most_accounts
     then map.insert book name now else book
 
--- how the code keeps it: entries in the order of their names, with room for all that may come
+-- a book as the code keeps it: entries in the order of their names, with room for all that may come
 pub record IsKept (entries : List (List ℕ × Option RecordValue)) (capacity : ℕ) : Type 0 where
   pub sorted : T (map.is_sorted name_cmp entries)
   pub few : length entries ≤ most_accounts
   pub room : most_accounts ≤ capacity
 
--- how many names a register may have
+-- the number of names that a register may have
 abbrev pub register_capacity : ℕ
 register_capacity = 16777216
 
--- how a register keeps it: entries in the order of their names, and not too many
+-- a book as a register keeps it: entries in the order of their names, and not too many
 pub record IsRegister (entries : List (List ℕ × Option RecordValue)) : Type 0 where
   pub sorted : T (map.is_sorted name_cmp entries)
   pub few : length entries ≤ register_capacity

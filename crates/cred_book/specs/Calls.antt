@@ -1,12 +1,12 @@
--- What each call does to a book, by its answer.
+-- The effect of each call on a book, by its answer.
 use Rattle.std.specs.Prelude.{◌≡◌, ℕ, ◌<◌, ◌≤◌, List, Option, Some, None, Result, Ok, Err, true, false}
 use Rattle.std.specs.FinMap as map
 use Rattle.cred_phc.specs.Values.{RecordValue}
 use Rattle.cred_book.specs.{Accounts.Accounts, Accounts.most_accounts, declared.error.BookError.BookError}
 use Rattle.cred_book.specs.declared.error.BookError.TheVariants as error
 
--- a new name is there from now on, with this record or none, where there is room for so many names;
--- memory runs out only if it would have been added
+-- the book has a new name from now on, with this record or none, if there is room for so many
+-- names; memory runs out only if the name would have been added
 abbrev pub EntersWithin : ℕ → Accounts → Accounts → List ℕ → Option RecordValue
     → Result (Unit {0}) BookError → Type 0
 EntersWithin room old new name now (Ok _) =
@@ -19,7 +19,7 @@ EntersWithin room old new name now (Err error.Memory) =
     (map.contains_key old name ≡ false) × (map.len old < room) × (new ≡ old)
 EntersWithin room old new name now (Err _) = ⊥
 
--- likewise, with no record
+-- likewise for a name with no record
 abbrev pub AdmitsWithin : ℕ → Accounts → Accounts → List ℕ → Result (Unit {0}) BookError → Type 0
 AdmitsWithin room old new name result = EntersWithin room old new name None result
 
@@ -27,7 +27,7 @@ AdmitsWithin room old new name result = EntersWithin room old new name None resu
 abbrev pub Admits : Accounts → Accounts → List ℕ → Result (Unit {0}) BookError → Type 0
 Admits old new name result = AdmitsWithin most_accounts old new name result
 
--- the name has this record from now on; memory runs out only if the name is there
+-- the name has this record from now on; memory runs out only if the book has the name
 abbrev pub Loads : Accounts → Accounts → List ℕ → RecordValue → Result (Unit {0}) BookError → Type 0
 Loads old new name stored (Ok _) =
     (map.contains_key old name ≡ true) × (new ≡ map.insert old name (Some stored))
@@ -35,7 +35,7 @@ Loads old new name stored (Err error.NoAccount) = (map.contains_key old name ≡
 Loads old new name stored (Err error.Memory) = (map.contains_key old name ≡ true) × (new ≡ old)
 Loads old new name stored (Err _) = ⊥
 
--- the record that stands at the name
+-- the record at the name
 abbrev pub Shows : Accounts → List ℕ → Result (Option RecordValue) BookError → Type 0
 Shows book name (Ok stored) = map.get book name ≡ Some stored
 Shows book name (Err error.NoAccount) = map.get book name ≡ None

@@ -1,4 +1,4 @@
--- What beginnings and commits do, by their answers.
+-- The effects of beginnings and commits, by their answers.
 use Rattle.std.specs.Prelude.{◌≡◌, ℕ, List, Bool, true, false, if◌then◌else◌, Option, Some, None, Result, Ok, Err}
 use Rattle.std.specs.FinMap as map
 use Rattle.cred_phc.specs.Values.{RecordValue}
@@ -15,8 +15,8 @@ Begins book request (Ok ticket) =
 Begins book request (Err e) =
     (e ≡ (request, error.NoAccount)) × (map.get book (name_of request) ≡ None)
 
--- the reply where this record stands, which is the copied one or not, with the record after and
--- whether that is a change
+-- the reply at this record, which is the copied one or not, with the record after, and whether that
+-- is a change
 abbrev pub judgement_if : Task → Option RecordValue → Bool → Reply × Option RecordValue × Bool
 judgement_if work now is_copy =
     if is_copy
@@ -49,7 +49,7 @@ Commits old new work (Ok r) = (r, new) ≡ commit_outcome old work
 Commits old new work (Err (back, error.Memory)) = (back ≡ work) × (new ≡ old)
 Commits old new work (Err (back, _)) = ⊥
 
--- an entry is put at a name that is there
+-- an entry is put at a name that the book has
 abbrev pub Sets : Accounts → Accounts → List ℕ → Option RecordValue
     → Result (Unit {0}) BookError → Type 0
 Sets old new name now (Ok _) = (map.contains_key old name ≡ true) × (new ≡ map.insert old name now)

@@ -1,4 +1,4 @@
--- What makes a closure one that makes tags.
+-- The property that makes a closure a maker of tags.
 use Rattle.std.specs.Prelude.{◌≡◌, ℕ, ◌≤◌, List, Result, IfOk}
 use denote.Ref.{Bor}
 use denote.Param.Members.{Shared}

@@ -14,7 +14,7 @@ is_name_byte b =
 abbrev pub is_name : List ℕ → Bool
 is_name bytes = nat_le 1 (length bytes) && (nat_le (length bytes) 32 && list_all is_name_byte bytes)
 
--- what making a name answers
+-- the answer of a call that makes a name
 abbrev pub made_name : List ℕ → Result (List ℕ) BookError
 made_name bytes = if is_name bytes then Ok bytes else Err error.Name
 

@@ -9,14 +9,14 @@ use Rattle.cred_book.specs.declared.request.Request.TheVariants.{Enrol, Verify, 
 abbrev pub IsPasswordOf : RecordValue → List ℕ → Type 0
 IsPasswordOf stored pw = tag stored.setting (length stored.tag) pw ≡ stored.tag
 
--- a record stands at the name, and the password is one of its
+-- the name has a record, and the password is one of its passwords
 abbrev pub IsPasswordAt : Accounts → List ℕ → List ℕ → Type 0
 IsPasswordAt book name pw =
     (stored : RecordValue) × (map.get book name ≡ Some (Some stored)) × IsPasswordOf stored pw
 
 -- ---- others in their place
 
--- the request with another password in the place of each
+-- the request with another password for each
 abbrev pub with_passwords : (List ℕ → List ℕ) → Request → Request
 with_passwords other (Enrol name pw setting) = Enrol name (other pw) setting
 with_passwords other (Verify name pw) = Verify name (other pw)
@@ -24,7 +24,7 @@ with_passwords other (Change name pw new setting) = Change name (other pw) (othe
 with_passwords other (Upgrade name pw setting) = Upgrade name (other pw) setting
 with_passwords other (Remove name pw) = Remove name (other pw)
 
--- each other one has the tag of the password in whose place it stands, under this setting
+-- each other password has the tag of the one that it replaces, under this setting
 abbrev pub KeepsTags : (List ℕ → List ℕ) → SettingValue → ℕ → Type 0
 KeepsTags other setting len = (pw : List ℕ) → tag setting len (other pw) ≡ tag setting len pw
 

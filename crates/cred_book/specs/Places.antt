@@ -1,4 +1,4 @@
--- Where a key is among entries in the order of their keys, or where it would go.
+-- The place of a key among entries in the order of their keys, or the gap for it.
 use Rattle.std.specs.{Prelude.◌≡◌, Prelude.ℕ, Prelude.◌<◌, Prelude.◌≤◌, Prelude.List, Prelude.length, Prelude.slice_index_or, declared.cmp.Ordering.Ordering}
 use Rattle.std.specs.declared.cmp.Ordering.TheVariants.{Less, Equal, Greater}
 

@@ -1,6 +1,6 @@
--- A store of rows that many clients change by conditional updates, such as a table of a database;
--- and beside it the history of one thread, which does whole operations one by one. A row is
--- whatever the store keeps at a key: a record or none, or a text of any scheme.
+-- A store of rows that many clients change by conditional updates, such as a table of a database.
+-- Beside it, the history of one thread, which does whole operations one by one. A row is whatever
+-- the store keeps at a key: a record or none, or a text of any scheme.
 use Rattle.std.specs.Prelude.{◌≡◌, ◌↔◌, ◌⊎◌, ⊤, ℕ, List, [], ◌∷◌, Bool, true, if◌then◌else◌, Option, Some, None}
 use Rattle.std.specs.FinMap as map
 use Rattle.cred_phc.specs.Values.{RecordValue}
@@ -12,13 +12,13 @@ use Rattle.cred_book.specs.declared.request.Request.{Request}
 abbrev pub Rows : Type 0 → Type 0
 Rows V = map.FinMap name_cmp V
 
--- what is to be done at one key, whatever stands there: the reply, and the row after. `None` is no
--- row, so that what makes a row puts `Some` in the place of `None`
+-- an operation at one key, for whatever row is there: the reply, and the row after. `None` is no
+-- row, so an operation that makes a row turns `None` into `Some`
 pub record Operation (V R : Type 0) : Type 0 where
   pub key : List ℕ
   pub act : Option V → R × Option V
 
--- this row, or none, is put at a key in place of what stands there
+-- the rows with this row, or none, at a key
 abbrev pub with_row : {V : Type 0} → Rows V → List ℕ → Option V → Rows V
 with_row rows key None = map.remove rows key
 with_row rows key (Some row) = map.insert rows key row
@@ -39,15 +39,15 @@ abbrev pub IsWorked : {V R : Type 0} → Update V R → Type 0
 IsWorked {V = V} {R = R} update =
     ◌≡◌ {A = R × Option V} (update.reply, update.after) (update.operation.act update.copy)
 
--- the row that stands at the update's key
+-- the row at the update's key
 abbrev pub standing : {V R : Type 0} → Rows V → Update V R → Option V
 standing rows update = map.get rows update.operation.key
 
--- what the store owes: it does an update only if the copy stands
+-- the duty of a store: it does an update only if the row still equals the copy
 abbrev pub IsConditional : {V R : Type 0} → Rows V → Update V R → Type 0
 IsConditional rows update = update.is_done ≡ true → standing rows update ≡ update.copy
 
--- and what it needn't: it does each such update, so none fails by a lost connection
+-- no duty, but possible: the store does each such update, so none fails by a lost connection
 abbrev pub IsExact : {V R : Type 0} → Rows V → Update V R → Type 0
 IsExact rows update = (update.is_done ≡ true) ↔ (standing rows update ≡ update.copy)
 
@@ -121,7 +121,7 @@ update_of task is_done = record {
   is_done = is_done;
 }
 
--- what stands instead of the copy is told
+-- the refusal tells the row that is there instead of the copy
 abbrev pub refusal : Option (Option RecordValue) → Reply
 refusal None = reply.NoAccount
 refusal (Some now) = reply.Changed now

@@ -1,4 +1,4 @@
--- One whole operation, done at the record that stands.
+-- One whole operation, done at the present record.
 use Rattle.std.specs.Prelude.{ℕ, List, length, Bool, true, false, ◌&&◌, not, ◌==◌, if◌then◌else◌, Option, Some, None}
 use Rattle.std.specs.Str.{bytes_eq}
 use Rattle.std.specs.FinMap as map

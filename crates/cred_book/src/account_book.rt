@@ -1,4 +1,4 @@
-//! What every book does, whatever it keeps its accounts in.
+//! The calls of every book, whatever map keeps its accounts.
 
 ghost use Rattle.std.specs.Prelude.{◌≡◌, ◌+◌, ◌<◌, ◌≤◌, IfErr, IfOk, MatchBool, true};
 ghost use Rattle.std.specs.FinMap as map;
@@ -40,7 +40,8 @@ impl<M: AccountMap> AccountBook<M> {
     /// Adds a name, with no record.
     ///
     /// Errors: `Exists` if the book has the name; `Full` if it has as many as it can hold, which is
-    /// 4096 for a `Book` and 2^24 for a `Register`; `Memory`, but never for a `Book`.
+    /// 4096 for a `Book` and 2^24 for a `Register`; `Memory` if memory runs out, but never for a
+    /// `Book`.
     pub fn admit(&mut self, name: Name) -> Result<(), BookError>
         ensures done { AdmitsWithin M.CAPACITY self.old self.new name result }
         ensures granted { result ≡ Err BookError.Memory → M.may_run_out }
@@ -58,7 +59,7 @@ impl<M: AccountMap> AccountBook<M> {
         self.accounts.enter(name, stored)
     }
 
-    /// Removes a name with its record. Without that name, nothing changes.
+    /// Removes a name with its record. If the book doesn't have the name, nothing changes.
     pub fn remove(&mut self, name: &Name)
         ensures { self.new ≡ map.remove self.old name.now }
     {
@@ -80,14 +81,14 @@ impl<M: AccountMap> AccountBook<M> {
         self.len() >= M::CAPACITY
     }
 
-    /// The number of names that can still be added.
+    /// Returns the number of names that can still be added.
     pub fn room(&self) -> usize
         ensures { map.len self.now + result ≡ M.CAPACITY }
     {
         M::CAPACITY - self.len()
     }
 
-    /// The number of names.
+    /// Returns the number of names.
     pub fn len(&self) -> usize
         ensures len { result ≡ map.len self.now }
         ensures few { map.len self.now ≤ M.CAPACITY }
@@ -105,7 +106,7 @@ impl<M: AccountMap> AccountBook<M> {
         self.set(name, Some(stored))
     }
 
-    /// The account's record, if it has one.
+    /// Returns the account's record, if it has one.
     ///
     /// Errors: `NoAccount` if the book doesn't have the name.
     pub fn show(&self, name: &Name) -> Result<Option<Record>, BookError>
@@ -140,8 +141,8 @@ impl<M: AccountMap> AccountBook<M> {
         }
     }
 
-    /// The reply to a commit of this work now, the record of the account after it (none if the book
-    /// doesn't have the name), and whether the commit would be a change.
+    /// Returns the reply that a commit of this work would have now, the record that it would leave,
+    /// and whether it would be a change. The record is none if the book doesn't have the name.
     pub fn judge(&self, worked: &Worked) -> (Reply, Option<Record>, bool)
         ensures { result ≡ judgement self.now worked.now }
     {
@@ -172,9 +173,9 @@ impl<M: AccountMap> AccountBook<M> {
         self.accounts.replace(name, stored);
     }
 
-    /// An equal book.
+    /// Copies the book.
     ///
-    /// Errors: `Memory`.
+    /// Errors: `Memory` if memory runs out.
     pub fn copy(&self) -> Result<AccountBook<M>, BookError>
         ensures equal { IfOk result (λ book. book ≡ self.now) }
         ensures memory { IfErr result (λ e. e ≡ BookError.Memory) }
@@ -184,7 +185,7 @@ impl<M: AccountMap> AccountBook<M> {
     }
 }
 
-/// Such a book keeps itself, and waits for nobody.
+/// Such a book is its own keeper, and its calls wait for nobody.
 impl<M: AccountMap> Keeper for AccountBook<M> {
     ghost use Rattle.std.specs.Prelude.{◌≡◌, IfErr};
     ghost use Rattle.cred_book.specs.Calls.{AdmitsWithin, Loads};

@@ -1,4 +1,4 @@
-//! Where a book keeps its accounts.
+//! The map in which a book keeps its accounts.
 
 use crate::error::BookError;
 use crate::name::Name;
@@ -21,7 +21,7 @@ pub trait AccountMap: Drop {
     /// Whether memory may run out as a name is added.
     ghost may_run_out: { Type 0 };
 
-    /// What the map has at the name: a record or none, if it has the name.
+    /// Returns what the map has at the name: a record or none, if the map has the name.
     fn get(&self, name: &Name) -> Option<Option<Record>>
         ensures { result ≡ map.get (accounts self.now) name.now };
 
@@ -32,22 +32,23 @@ pub trait AccountMap: Drop {
 
     /// Adds a name, with a record or none.
     ///
-    /// Errors: `Exists` if the map has the name; `Full` if it has `CAPACITY` names; `Memory`.
+    /// Errors: `Exists` if the map has the name; `Full` if it has `CAPACITY` names; `Memory` if
+    /// memory runs out.
     fn enter(&mut self, name: Name, stored: Option<Record>) -> Result<(), BookError>
         ensures done { EntersWithin CAPACITY (accounts self.old) (accounts self.new) name stored
             result }
         ensures granted { result ≡ Err BookError.Memory → may_run_out };
 
-    /// Removes a name with its record. Without that name, nothing changes.
+    /// Removes a name with its record. If the map doesn't have the name, nothing changes.
     fn remove(&mut self, name: &Name)
         ensures { accounts self.new ≡ map.remove (accounts self.old) name.now };
 
-    /// The number of names.
+    /// Returns the number of names.
     fn len(&self) -> usize
         ensures len { result ≡ map.len (accounts self.now) }
         ensures few { map.len (accounts self.now) ≤ CAPACITY };
 
-    /// An equal map.
+    /// Copies the map.
     fn copy(&self) -> Result<Self, AllocError>
         ensures { IfOk result (λ other. accounts other ≡ accounts self.now) };
 }

@@ -25,7 +25,7 @@ const MOST_ACCOUNTS: usize = 4096;
 pub type Book = AccountBook<AccountArray>;
 
 impl Book {
-    /// A book with no names.
+    /// Returns a book with no names.
     ///
     /// Errors: `Memory` if there is not enough for 4096 accounts.
     pub fn new(alloc: Global) -> Result<Book, BookError>
@@ -38,7 +38,7 @@ impl Book {
         })
     }
 
-    /// The book of a register, for code that works on a `Book` alone.
+    /// Returns the book of a register, for code that works on a `Book` alone.
     ///
     /// Errors: `Full` if the register has more than 4096 names; `Memory` if there is not enough
     /// for 4096 accounts.
@@ -62,7 +62,7 @@ impl Book {
         })
     }
 
-    /// The names with their records, in the order of the names.
+    /// Returns the names with their records, in the order of the names.
     pub fn iter(&self) -> slice::Iter<'_, (Name, Option<Record>)>
         ensures { iter_rest result ≡ map.entries self.now }
     {
@@ -70,8 +70,8 @@ impl Book {
         accounts.entries.iter()
     }
 
-    /// Stores this record at the account, or none. A new name is added if the book has room;
-    /// without room nothing changes.
+    /// Stores this record at the account, or none. The call adds a new name if the book has room,
+    /// and otherwise changes nothing.
     pub fn put(&mut self, name: &Name, now: Option<Record>)
         ensures { self.new ≡ with_entry self.old name.now now }
     {
@@ -166,7 +166,7 @@ impl AccountMap for AccountArray {
     }
 }
 
-/// The index of the name, or the index at which it would be inserted.
+/// Returns the index of the name, or the index at which it would be inserted.
 fn place_of(entries: &[(Name, Option<Record>)], name: &Name) -> Result<usize, usize>
     requires { T (map.is_sorted name_cmp entries.now) }
     ensures { MatchResult result (IsPlaceOf name_cmp entries.now name.now)

@@ -6,7 +6,7 @@ ghost use Rattle.cred_book.specs.{Errors.error_number, Errors.error_word, declar
 use std::alloc::AllocError;
 use thiserror::Error;
 
-/// Why bytes are no name, or why a book refuses a call.
+/// The reason why bytes are no name, or why a book refuses a call.
 #[derive(Clone, Copy, Debug, PartialEq, Eq, Error)]
 pub enum BookError {
     /// The book has the name already.
@@ -27,7 +27,7 @@ pub enum BookError {
 }
 
 impl BookError {
-    /// The number of the error, from 1 to 5.
+    /// Returns the number of the error, from 1 to 5.
     pub fn number(self) -> u8
         ensures { result ≡ error_number self }
     {
@@ -40,7 +40,7 @@ impl BookError {
         }
     }
 
-    /// The name of the error in lower case, such as `noaccount`.
+    /// Returns the name of the error in lower case, such as `noaccount`.
     pub fn word(self) -> &'static str
         ensures { result.now ≡ error_word self }
     {

@@ -10,8 +10,8 @@ use std::sync::Wait;
 
 /// Keeps a book: its calls answer from the book and change it.
 ///
-/// The calls that take `rt` may wait. They answer `Memory` if memory runs out and no other error
-/// is due; nothing is changed then.
+/// The calls that take `rt` may wait. They answer `Memory` if memory runs out and no other error is
+/// due, and then change nothing.
 pub trait Keeper {
     ghost use Rattle.cred_book.specs.Accounts.{Accounts, most_accounts};
     ghost use Rattle.std.specs.Prelude.{◌≡◌, ℕ, true};
@@ -36,7 +36,7 @@ pub trait Keeper {
     fn load<R: Wait>(&mut self, rt: &R, name: &Name, stored: Record) -> Result<(), BookError>
         ensures { Loads (book self.old) (book self.new) name.now stored result };
 
-    /// The account's record, if it has one.
+    /// Returns the account's record, if it has one.
     ///
     /// Errors: `NoAccount` if the book doesn't have the name.
     fn show(&self, name: &Name) -> Result<Option<Record>, BookError>
@@ -58,7 +58,7 @@ pub trait Keeper {
 
     /// Does the whole operation if the record still equals the copy, and otherwise nothing.
     ///
-    /// Errors: `Memory`; the work comes back.
+    /// Errors: `Memory` if memory runs out; the work comes back.
     fn commit<R: Wait>(&mut self, rt: &R, worked: Worked) -> Result<Reply, (Worked, BookError)>
         ensures { Commits (book self.old) (book self.new) worked result };
 }

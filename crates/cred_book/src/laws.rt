@@ -13,8 +13,8 @@ ghost use Rattle.cred_book.specs.Works.{Task, makes_change, name_of, seq, whole}
 use crate::reply::Reply;
 use crate::request::Request;
 
-/// A commit that makes a change makes the one that its work announced, and any other commit leaves
-/// the book unchanged. A commit answers and does what `judge` says.
+/// A commit that makes a change makes the change that its work announced, and any other commit
+/// leaves the book unchanged. A commit answers and does what `judge` says.
 pub fn change_is_committed()
     ensures change { (book : Accounts) (work : Task)
         → makes_change (commit_outcome book work).0 ≡ true
@@ -28,8 +28,8 @@ pub fn change_is_committed()
         ≡ ((judgement book work).0, judged_book book work (judgement book work)) }
 {}
 
-/// `Yes` is answered exactly if the password's tag is the record's, and only while the account has
-/// that record.
+/// A commit answers `Yes` exactly if the password's tag is the record's, and only while the account
+/// has that record.
 pub fn yes_is_the_password()
     ensures at_copy { (name pw : List ℕ) (stored : RecordValue)
         → ((whole (Request.Verify name pw) (Some stored)).0 ≡ Reply.Yes) ↔ IsPasswordOf stored pw }
@@ -41,8 +41,9 @@ pub fn yes_is_the_password()
         → IsPasswordAt book name pw }
 {}
 
-/// An answer tells of its own account alone, and leaves every other as it is. Any two books that
-/// have the same record at that name give the same answer, whatever else they have.
+/// An answer tells of its own account alone, and its operation leaves every other account as it is.
+/// Any two books that have the same record at that name give the same answer, whatever else they
+/// have.
 pub fn an_answer_tells_of_one_account()
     ensures tells { (one other : Accounts) (request : Request)
         → map.get one (name_of request) ≡ map.get other (name_of request)
@@ -51,10 +52,10 @@ pub fn an_answer_tells_of_one_account()
         → name ≢ name_of request → map.get (seq book request).1 name ≡ map.get book name }
 {}
 
-/// A password counts by its tags alone. Another may replace it that has the same tag under the
-/// setting of the existing record, and under that of the record that the request may make: then the
-/// request has the same answer and leaves the same record. So no answer and no record tells more of
-/// a password than such a tag does.
+/// A password counts by its tags alone. Another password may replace it if both have the same tags:
+/// under the setting of the existing record, and under that of the record that the request may
+/// make. The request then has the same answer and leaves the same record. So no answer and no
+/// record tells more of a password than such a tag does.
 #[tactic(auto, using(crate::proofs::Telling::as_whole))]
 pub fn a_password_counts_by_its_tags()
     ensures { (other : List ℕ → List ℕ) (request : Request) (now : Option RecordValue)
@@ -63,10 +64,9 @@ pub fn a_password_counts_by_its_tags()
         → whole (with_passwords other request) now ≡ whole request now }
 {}
 
-/// An operation sees a password in its tags alone, whatever function makes them. With other
-/// passwords it does what it does with its own, if each of these has the tags of the one in its
-/// place. Where all passwords have the same tags, all get the same answer and leave the same
-/// record.
+/// An operation sees only the tags of a password, whatever function computes them. With other
+/// passwords that have the same tags, an operation does what it does with its own. If all passwords
+/// have the same tags, all get the same answer and leave the same record.
 pub fn passwords_are_seen_by_their_tags()
     ensures whole { (request : Request) (now : Option RecordValue)
         → whole_by tag request now ≡ whole request now }
@@ -75,16 +75,17 @@ pub fn passwords_are_seen_by_their_tags()
         ≡ whole_by (λ setting len pw. tag_by setting len (other pw)) request now }
 {}
 
-/// For a store of rows, such as a table in a database, whose clients do any operations. Each is a
-/// function from the row at its key, or from no row, to a reply and the row after. The store does a
-/// client's update only if the row still equals the client's copy, and compares and writes in one
-/// step. A key without a row counts as a row of its own, which a copy may be of.
+/// Speaks of a store of rows, such as a table in a database, whose clients do any operations. An
+/// operation is a function from the row at its key, or from no row, to a reply and the row after.
+/// The store does a client's update only if the row still equals the client's copy. The store
+/// compares the row with the copy, and writes the row, in one step. A copy may also say that a key
+/// has no row.
 ///
-/// The replies to the updates that the store does are those of one thread that does the same whole
-/// operations in the same order, and the rows at the end are the same. An update that leaves its
-/// copy needs only a second look at the row. A store that does every update whose copy still stands
-/// refuses one only after another update at its key since the copy: so of clients that begin again
-/// some client always gets on.
+/// One thread that does the same whole operations in the same order gives the same replies as the
+/// updates that the store does, and leaves the same rows. An update that leaves its copy as it is
+/// needs only a second look at the row. Some stores do every update whose copy still equals the
+/// row. Such a store refuses an update only after another update at its key since the copy. So of
+/// clients that begin again, some client always gets on.
 pub fn updates_are_one_history<V, R>()
     ensures replies { (store : Rows V) (updates : List (Update V R)) → IsLog store updates
         → replies_done updates ≡ seq_replies store (operations_done updates) }
@@ -98,8 +99,8 @@ pub fn updates_are_one_history<V, R>()
 {}
 
 /// The five requests are such operations, on rows that each have a record or none. A request that
-/// makes no change leaves its copy. A store that does every update whose copy still stands answers
-/// as [`Book`](crate::Book) commits.
+/// makes no change leaves its copy. A store that does every update whose copy still equals the row
+/// answers as [`Book`](crate::Book) commits.
 pub fn requests_are_operations()
     ensures whole { (book : Accounts) (request : Request)
         → outcome_on book (operation_of request) ≡ seq book request }

@@ -33,9 +33,9 @@ impl Model for Name {
 }
 
 impl Name {
-    /// These bytes as a name.
+    /// Returns these bytes as a name.
     ///
-    /// Errors: `Name` if they are not a name.
+    /// Errors: `Name` if the bytes are not a name.
     pub fn new(bytes: &[u8]) -> Result<Name, BookError>
         ensures { result ≡ made_name bytes.now }
     {
@@ -48,7 +48,7 @@ impl Name {
         }
     }
 
-    /// The bytes, 1 to 32 of them.
+    /// Returns the bytes, 1 to 32 of them.
     pub fn bytes(&self) -> &[u8]
         ensures value { result.now ≡ self.now }
         ensures is_name { IsTrue (is_name self.now) }

@@ -32,7 +32,7 @@ pub struct Hashing<'a, R, G> {
 }
 
 impl<R: Threads + Sync, G: Gate + Sync> Hashing<'_, R, G> {
-    /// The effect of the whole operation at the ticket's copy.
+    /// Returns the effect of the whole operation at the ticket's copy.
     pub(crate) fn outcome(&self, ticket: &Ticket) -> Result<Outcome, TagError>
         ensures { IfOk result (λ outcome. outcome ≡ whole ticket.now.0 ticket.now.1) }
     {
@@ -46,8 +46,8 @@ impl<R: Threads + Sync, G: Gate + Sync> Hashing<'_, R, G> {
         .outcome(ticket)
     }
 
-    /// Whether the record is one of this password: the tag of the password under the record's
-    /// setting, with the length of the record's tag, is the record's tag.
+    /// Whether the record is one of this password: whether the password's tag under the record's
+    /// setting, of the same length, is the record's tag.
     ///
     /// Errors: `Memory` if there is not enough for the setting.
     #[tactic(auto, unfolding(crate::specs::Works::right))]
@@ -59,7 +59,7 @@ impl<R: Threads + Sync, G: Gate + Sync> Hashing<'_, R, G> {
         Ok(found == tag)
     }
 
-    /// The record of this password under this setting, with a tag of 32 bytes.
+    /// Returns the record of this password under this setting, with a tag of 32 bytes.
     ///
     /// Errors: `Memory` if there is not enough for the setting.
     pub fn made(&self, setting: &Setting, pw: &Password) -> Result<Record, TagError>
@@ -86,12 +86,12 @@ impl<R: Threads + Sync, G: Gate + Sync> Hashing<'_, R, G> {
     }
 }
 
-/// A maker of passwords' tags: threads, or the caller's thread alone. The operations are written
-/// once for both.
+/// Computes tags of passwords, in threads or on the caller's thread alone. So the operations are
+/// written once for both.
 pub(crate) trait TagMaker {
     ghost ready: { Self → Type 0 };
 
-    /// The tag of `len` bytes, 4 to 64, that the setting gives the password.
+    /// Returns the tag of `len` bytes, 4 to 64, that the setting gives the password.
     ///
     /// Errors: `Memory` if there is not enough for the setting.
     fn tag(&self, setting: &Setting, len: u8, pw: &Password) -> Result<Tag, TagError>
@@ -101,8 +101,8 @@ pub(crate) trait TagMaker {
         ensures { IfOk result (λ found. found ≡ tag setting.now len pw.now) };
 }
 
-/// A closure as a maker of tags, such as one that calls [`tag_of`]. It is ready if the closure's
-/// own contract says that it makes tags.
+/// A closure as a maker of tags, such as one that calls [`tag_of`]. The maker is ready if the
+/// closure's own contract says that the closure computes tags.
 #[derive(Drop)]
 struct TagFn<F> {
     tag: F,
@@ -118,9 +118,9 @@ impl<F: Fn(&Setting, u8, &Password) -> Result<Tag, TagError>> TagMaker for TagFn
     }
 }
 
-/// The caller's thread, which needs no runtime. It works the lanes or pieces in turn, with the gate
-/// around each, in memory that it keeps from tag to tag. A maker is shared while it makes a tag, so
-/// the memory is in a cell.
+/// The caller's thread, which needs no runtime. The thread works the lanes or pieces in turn, with
+/// the gate around each, in memory that the maker keeps from tag to tag. A maker is shared while it
+/// computes a tag, so the memory is in a cell.
 #[derive(Drop)]
 pub(crate) struct HashingIn<'a, G> {
     pub(crate) alloc: Global,
@@ -148,14 +148,14 @@ impl<G: Gate> TagMaker for HashingIn<'_, G> {
     }
 }
 
-/// The operations, by the tags that `maker` makes.
+/// The operations, with the tags that `maker` computes.
 #[derive(Drop)]
 pub(crate) struct Operations<M> {
     pub(crate) maker: M,
 }
 
 impl<M: TagMaker> Operations<M> {
-    /// The effect of the whole operation at the ticket's copy.
+    /// Returns the effect of the whole operation at the ticket's copy.
     pub(crate) fn outcome(&self, ticket: &Ticket) -> Result<Outcome, TagError>
         requires { M.ready self.now.maker }
         ensures { IfOk result (λ outcome. outcome ≡ whole ticket.now.0 ticket.now.1) }
@@ -213,8 +213,8 @@ impl<M: TagMaker> Operations<M> {
         Ok((reply, Some(*stored)))
     }
 
-    /// The effect of a change. A wrong password costs as many hashes as a right one: a service
-    /// may answer both alike, and the time must not tell them apart.
+    /// Computes the effect of a change. A wrong password costs as many hashes as a right one: a
+    /// service may answer both alike, and the time must not tell them apart.
     fn change(
         &self,
         stored: &Record,
@@ -236,7 +236,8 @@ impl<M: TagMaker> Operations<M> {
         Ok((Reply::Replaced, Some(made)))
     }
 
-    /// The effect of an upgrade. As in a change, the time doesn't tell a right password.
+    /// Computes the effect of an upgrade. As in a change, the time doesn't tell whether a password
+    /// is right.
     fn upgrade(
         &self,
         stored: &Record,
@@ -283,7 +284,7 @@ impl<M: TagMaker> Operations<M> {
         Ok(found == tag)
     }
 
-    /// The record of this password under this setting.
+    /// Returns the record of this password under this setting.
     fn made(&self, setting: &Setting, pw: &Password) -> Result<Record, TagError>
         requires { M.ready self.now.maker }
         ensures { IfOk result (λ stored. stored ≡ new_record setting.now pw.now) }

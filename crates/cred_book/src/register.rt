@@ -18,11 +18,11 @@ const CAPACITY: usize = 16_777_216;
 
 /// A map from at most 2^24 names to at most one record each.
 ///
-/// A register allocates memory only as a name is added.
+/// A register allocates memory only when a call adds a name.
 pub type Register = AccountBook<AccountTree>;
 
 impl Register {
-    /// A register with no names.
+    /// Returns a register with no names.
     pub fn new(alloc: Global) -> Register
         ensures { result ≡ map.empty }
     {
@@ -34,7 +34,7 @@ impl Register {
         }
     }
 
-    /// The names with their records, in the order of the names.
+    /// Returns the names with their records, in the order of the names.
     pub fn iter(&self) -> btree_map::Iter<'_, Name, Slot>
         ensures { result ≡ map.entries self.now }
     {
@@ -43,7 +43,7 @@ impl Register {
     }
 }
 
-/// Accounts in a tree, which takes memory as a name is added.
+/// Accounts in a tree, which allocates memory when a call adds a name.
 #[derive(Drop)]
 pub struct AccountTree {
     alloc: Global,
@@ -104,7 +104,8 @@ impl AccountMap for AccountTree {
             }
             return Err(BookError::Memory);
         };
-        // One search of the tree adds a new name. The record of an existing name is put back.
+        // One search of the tree adds a new name. If the name exists, the code below puts its
+        // record back.
         match self.slots.insert(name, slot) {
             Ok(None) => Ok(()),
             Ok(Some(there)) => {

@@ -17,7 +17,7 @@ pub enum Reply {
     Absent,
     /// The account has the new password's record now.
     Replaced,
-    /// The password is wrong, and nothing was done.
+    /// The password is wrong, and the commit did nothing.
     Wrong,
     /// The record was rehashed.
     Upgraded,
@@ -25,9 +25,9 @@ pub enum Reply {
     Kept,
     /// The record was removed.
     Removed,
-    /// The record isn't the one that was copied at the begin, but `now`; nothing was done.
+    /// The record is no longer the copy from the begin, but `now`; the commit did nothing.
     Changed { now: Option<Record> },
-    /// The book doesn't have the name; nothing was done.
+    /// The book doesn't have the name; the commit did nothing.
     NoAccount,
 }
 

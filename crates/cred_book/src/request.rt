@@ -26,8 +26,7 @@ pub enum Request {
         new_pw: Password,
         setting: Setting,
     },
-    /// Rehashes the same password, unless it has this scheme with these costs
-    /// already.
+    /// Rehashes the same password, unless its record has this scheme with these costs already.
     Upgrade {
         name: Name,
         pw: Password,
@@ -43,7 +42,7 @@ pub enum Request {
 impl Request {
     ghost use Rattle.cred_book.specs.Works.{is_for_current, name_of};
 
-    /// The account's name.
+    /// Returns the account's name.
     pub fn name(&self) -> Name
         ensures { result ≡ name_of self.now }
     {
@@ -56,8 +55,8 @@ impl Request {
         }
     }
 
-    /// Whether the setting of a new record, if the request has one, is not of version 0x10, which
-    /// only old records have.
+    /// Whether the request has no setting of version 0x10 for a new record: only old records have
+    /// that version.
     pub fn is_for_current(&self) -> bool
         ensures { result ≡ is_for_current self.now }
     {

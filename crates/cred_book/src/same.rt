@@ -1,4 +1,4 @@
-//! Whether two records are equal.
+//! The test whether two records are equal.
 
 ghost use Rattle.std.specs.Prelude.{◌≡◌, ◌↔◌, IsTrue, Option, true};
 ghost use Rattle.cred_phc.specs.Values.{RecordValue};
@@ -6,7 +6,7 @@ ghost use Rattle.cred_book.specs.Works.{same};
 
 use cred_phc::Record;
 
-/// Whether all their parts are equal, or both are none.
+/// Whether all parts of the two records are equal, or both are none.
 pub(crate) fn is_same(a: &Option<Record>, b: &Option<Record>) -> bool
     ensures { result ≡ same a.now b.now }
 {
@@ -19,7 +19,7 @@ fn is_equal(a: &Option<Record>, b: &Option<Record>) -> bool
     *a == *b
 }
 
-/// A law: the test by which definitions compare records is equality.
+/// States a law: the test by which definitions compare records is equality.
 pub fn same_is_equality()
     ensures { (a b : Option RecordValue) → (same a b ≡ true) ↔ (a ≡ b) }
 {}

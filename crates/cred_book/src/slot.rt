@@ -34,7 +34,7 @@ impl Slot {
         Ok(Slot { place })
     }
 
-    /// The record, if there is one.
+    /// Returns the record, if there is one.
     pub fn stored(&self) -> Option<Record>
         ensures { result ≡ self.now }
     {

@@ -17,7 +17,7 @@ use std::marker::Model;
 use std::mem;
 use std::thread::Threads;
 
-/// A request with a copy of its account's record, taken at the begin.
+/// A request with a copy of its account's record from the begin.
 #[derive(Debug, Drop)]
 pub struct Ticket {
     request: Request,
@@ -33,29 +33,29 @@ impl Model for Ticket {
 }
 
 impl Ticket {
-    /// A ticket for a store other than a [`Book`](crate::Book). A copy that was never the
-    /// account's record does no harm, since the commit compares it.
+    /// Returns a ticket for a store other than a [`Book`](crate::Book). A copy that was never the
+    /// account's record does no harm, since the commit compares the copy with the record.
     pub fn new(request: Request, copy: Option<Record>) -> Ticket
         ensures { result ≡ (request, copy) }
     {
         Ticket { request, copy }
     }
 
-    /// The request.
+    /// Returns the request.
     pub fn request(&self) -> Request
         ensures { result ≡ self.now.0 }
     {
         self.request
     }
 
-    /// The copy: the account's record at the begin, if it had one.
+    /// Returns the copy: the account's record at the begin, if it had one.
     pub fn copy(&self) -> Option<Record>
         ensures { result ≡ self.now.1 }
     {
         self.copy
     }
 
-    /// Hashes, with no lock held, in at most `workers` threads.
+    /// Hashes the passwords, with no lock held, in at most `workers` threads.
     ///
     /// Errors: the ticket comes back if memory runs out.
     pub fn work<R: Threads + Sync, G: Gate + Sync>(
@@ -78,8 +78,8 @@ impl Ticket {
         self.worked(outcome)
     }
 
-    /// Hashes on the caller's thread, without a runtime, in memory that is kept from hash to
-    /// hash.
+    /// Hashes the passwords on the caller's thread, without a runtime, in memory that the scratch
+    /// keeps from hash to hash.
     ///
     /// Errors: the ticket comes back if memory runs out. The scratch can still serve the next
     /// ticket.
@@ -104,7 +104,8 @@ impl Ticket {
         self.worked(outcome)
     }
 
-    /// The ticket with the effect of its operation at the copy, or alone if hashing failed.
+    /// Returns the ticket with the effect of its operation at the copy, or the ticket alone if
+    /// hashing failed.
     fn worked(self, outcome: Result<Outcome, TagError>) -> Result<Worked, Ticket>
         requires { IfOk outcome (λ outcome. outcome ≡ whole self.0 self.1) }
         ensures worked { IfOk result (λ worked. worked ≡ self) }
@@ -141,36 +142,36 @@ impl Model for Worked {
 }
 
 impl Worked {
-    /// The request.
+    /// Returns the request.
     pub fn request(&self) -> Request
         ensures { result ≡ self.now.0 }
     {
         self.ticket.request()
     }
 
-    /// The copy: the account's record at the begin, if it had one.
+    /// Returns the copy: the account's record at the begin, if it had one.
     pub fn copy(&self) -> Option<Record>
         ensures { result ≡ self.now.1 }
     {
         self.ticket.copy()
     }
 
-    /// The reply at the copy.
+    /// Returns the reply at the copy.
     pub fn reply(&self) -> Reply
         ensures { result ≡ (whole self.now.0 self.now.1).0 }
     {
         self.reply
     }
 
-    /// The record after the operation at the copy, if there is one.
+    /// Returns the record after the operation at the copy, if there is one.
     pub fn after(&self) -> Option<Record>
         ensures { result ≡ (whole self.now.0 self.now.1).1 }
     {
         self.after
     }
 
-    /// The reply to a commit at an account with the record `now`, the record after it, and whether
-    /// the commit is a change.
+    /// Returns the reply to a commit at an account with the record `now`, the record after it, and
+    /// whether the commit is a change.
     pub(crate) fn judgement_at(&self, now: Option<Record>) -> (Reply, Option<Record>, bool)
         ensures { result ≡ judgement_at self.now (Some now) }
     {
@@ -181,8 +182,8 @@ impl Worked {
         (reply, self.after(), reply.makes_change())
     }
 
-    /// The change that a commit of this work makes, or `None` if it makes none even at the copied
-    /// record. A commit that finds another record makes no change.
+    /// Returns the change that a commit of this work makes, or `None` if it makes none even at the
+    /// copied record. A commit that finds another record makes no change.
     #[tactic(auto, unfolding(crate::specs::Changes::change_of))]
     pub fn change(&self) -> Option<Change>
         ensures { result ≡ change_of self.now }
@@ -195,9 +196,9 @@ impl Worked {
         Some(Change { name, after, reply })
     }
 
-    /// The same work, as that of a verify.
+    /// Returns the same work as the work of a verify.
     ///
-    /// Errors: the work comes back if it is another operation's.
+    /// Errors: the work comes back if it is the work of another operation.
     pub fn into_verify(self) -> Result<VerifyWorked, Worked>
         ensures verify { IfOk result (λ verify. (verify ≡ self) × (is_verify self.0 ≡ true)) }
         ensures other { IfErr result (λ back. (back ≡ self) × (is_verify self.0 ≡ false)) }
@@ -230,7 +231,7 @@ impl Model for VerifyWorked {
 }
 
 impl VerifyWorked {
-    /// The work itself.
+    /// Returns the work itself.
     pub fn worked(&self) -> &Worked
         ensures worked { result.now ≡ self.now }
         ensures verify { is_verify self.now.0 ≡ true }

@@ -1,5 +1,5 @@
--- A commit that makes a change leaves what some operation makes, and one that makes none leaves the
--- book.
+-- A commit that makes a change leaves what some operation makes, and any other commit leaves the
+-- book as it was.
 use Rattle.std.proofs.Common.{◌≡◌, ℕ, List, Bool, true, false, Option, Some, None, if◌then◌else◌, not, refl, sym, ap, ◌∙◌}
 use Rattle.std.proofs.lemmas.Bool.{cond_both, not-false}
 use Rattle.std.specs.FinMap as map
@@ -23,7 +23,7 @@ Outcome = Reply × Option RecordValue
 abbrev IsSound : Option RecordValue → Outcome → Type 0
 IsSound now outcome = makes_change outcome.0 ≡ true → Follows now (state_of outcome.1)
 
--- where one makes a change, what it leaves follows what stood
+-- if an operation makes a change, the state that it leaves follows the one before
 whole_follows : (request : Request) → HavePasswords request → (now : Option RecordValue) → IsSound now (whole request now)
 whole_follows (Enrol name pw setting) held None change = (pw, held, refl)
 whole_follows (Verify name pw) held (Some stored) change = absurd (verify (right stored pw) change)
@@ -72,7 +72,7 @@ after_list : (book : Accounts) (list : List Entry) (e : Option Entry) → after 
 after_list book list None = refl
 after_list book list (Some e) = after_snoc book list e
 
--- what was judged is entered, or nothing is
+-- the judged change is entered, or nothing is
 entered : (book : Accounts) (name : List ℕ) (now : Option RecordValue) (change : Bool)
     → after_entry book (if change then Some (entry name now) else None) ≡ (if change then map.insert book name now else book)
 entered book name now true = put_entry book name now

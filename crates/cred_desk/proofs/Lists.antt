@@ -21,11 +21,11 @@ pub listed_snoc : (loads : Bool) (book : Accounts) (list : List Entry) (entry : 
 listed_snoc loads book [] entry listed allowed = (allowed, tt)
 listed_snoc loads book (e ∷ list) entry listed allowed = (listed.0, listed_snoc loads (put book e) list entry listed.1 allowed)
 
--- what operations alone made goes on with what one of them makes
+-- a list that operations alone made goes on with an entry that one of them makes
 pub legal_snoc : (book : Accounts) (list new : List Entry) (entry : Entry) → new ≡ list ++ entry ∷ [] → IsMade (after book list) entry → IsLegal book list → IsLegal book new
 legal_snoc book list new entry is made legal = subst (IsLegal book) (sym is) (listed_snoc false book list entry legal made)
 
--- where no loads may stand in a list, operations alone made it
+-- if a list may have no loads, operations alone made it
 pub legal_if : (loads : Bool) (book : Accounts) (list : List Entry) → loads ≡ false → IsListed loads book list → IsLegal book list
 legal_if loads book list none listed = subst (λ b. IsListed b book list) none listed
 
@@ -34,7 +34,7 @@ pub length_list_after : (list : List Entry) (change : Option Entry) → length (
 length_list_after list None = omega arith
 length_list_after list (Some entry) = length-append list (entry ∷ [])
 
--- what holds of the elements before a place, and of the one there
+-- a fact of the elements before a place, and of the one there
 pub all_more : {A : Type 0} (P : A → Type 0) (xs : List A) (i : ℕ) (x : A) → i < length xs → x ≡ get_or xs i x → P x → ((k : ℕ) (d : A) → k < i → P (get_or xs k d)) → (k : ℕ) (d : A) → k < i + 1 → P (get_or xs k d)
 all_more P xs i x within is here before k d lt = elim (cases_eq k i) [
   | inl same ↦ rw same (subst P (get_or_read xs i x within is d) here)

@@ -1,5 +1,6 @@
--- What a desk does for a session that settles work or adds an entry of its own (an admission, a
--- load or a deletion), and what it answers if a writer may refuse the entry.
+-- The effect of a desk's call for a session that settles work or adds an entry of its own: an
+-- admission, a load or a deletion. A writer may refuse the entry, and the call then answers an
+-- error.
 use Rattle.std.specs.Prelude.{◌≡◌, ◌≢◌, ◌+◌, ℕ, Bool, true, false, List, ◌∷◌, [], ◌++◌, None, Result, Some, Ok, Err}
 use mathlib.Core.List.{IsPrefix}
 use Rattle.std.specs.FinMap as map
@@ -13,12 +14,12 @@ use Rattle.cred_desk.specs.declared.entry.AccountState.TheVariants as state
 use Rattle.cred_desk.specs.{declared.entry.Entry.Entry, declared.writer.KeepError.KeepError}
 use Rattle.cred_desk.specs.declared.writer.KeepError.TheVariants.{Book, Writer}
 
--- what a book would say: if a writer refuses an entry, the change would have been done
+-- the error of a book: if a writer refuses an entry, the book would have done the change
 abbrev pub refusal_of : {E : Type 0} → KeepError E → BookError
 refusal_of (Book e) = e
 refusal_of (Writer e) = error.Memory
 
--- the session knows this list, and no less than before
+-- the session knows this list, which begins with the list that it knew before
 abbrev pub IsAt : Bool → Accounts → Standing → Standing → Type 0
 IsAt loads opening old new = IsListed loads opening new.known × IsPrefix old.known new.known
 
@@ -37,14 +38,14 @@ Settles loads opening old new work (Err e) =
     IsAt loads opening old new × (entry_of (after opening new.known) work ≢ None)
     × IsUncounted old new
 
--- whether one who keeps the book may have this stand at a name
+-- whether one who keeps the book may put this state at a name
 abbrev pub MayStand : Accounts → List ℕ → AccountState → Type 0
 MayStand book name state.NoRecord = IsAdmitted book (entry name None)
 MayStand book name (state.Record stored) = IsLoaded book (entry name (Some stored))
 MayStand book name state.NoAccount = IsDeleted book (deletion name)
 
--- what may be said of a book in which it can't be had. A name isn't taken away if it isn't there,
--- and memory runs out only if it is
+-- the errors of a book at which this state can't be put. A name that the book lacks isn't deleted,
+-- and memory runs out only if the book has the name
 abbrev pub Refuses : Accounts → List ℕ → AccountState → BookError → Type 0
 Refuses book name state.NoRecord e = Admits book book name (Err e)
 Refuses book name (state.Record stored) e = Loads book book name stored (Err e)
@@ -52,9 +53,9 @@ Refuses book name state.NoAccount error.NoAccount = map.contains_key book name �
 Refuses book name state.NoAccount error.Memory = map.contains_key book name ≡ true
 Refuses book name state.NoAccount _ = ⊥
 
--- an entry is added at a list that begins with the known one, if it may be there, and no other one:
--- the session counts one. If it is refused, for what may be said of the book then, the session
--- knows that list, and nothing is counted
+-- an entry, and no other, is added at a list that begins with the known one, if the entry is
+-- allowed there, and the session counts one. If the entry is refused, by an error of the book at
+-- that list, the session knows that list, and nothing is counted
 abbrev pub Adds : {E : Type 0} → Naming → Standing → Standing → Entry
     → Result (List Entry) (KeepError E) → Type 0
 Adds name old new added (Ok told) =

@@ -1,4 +1,4 @@
--- What a commit answers, and what becomes of the list.
+-- The answer of a commit, and the list after it.
 use Rattle.std.specs.Prelude.{◌≡◌, ℕ, List, [], ◌∷◌, ◌++◌, if◌then◌else◌, Option, Some, None}
 use Rattle.cred_phc.specs.Values.{IsPassword}
 use Rattle.cred_book.specs.{Accounts.Accounts, Commits.judgement, Works.Task, Works.name_of, declared.reply.Reply.Reply, declared.request.Request.Request}
@@ -26,12 +26,12 @@ LeadsTo name copy last entry list = IsListed name.loads copy (list_after [] last
     × IsAllowed name.loads (after copy (list_after [] last)) entry
     × (put (after copy (list_after [] last)) entry ≡ after name.opening list)
 
--- how many changes it is
+-- the number of changes: one for an entry
 abbrev pub weight : Option Entry → ℕ
 weight None = 0
 weight (Some entry) = 1
 
--- the passwords of a request are ones
+-- the passwords of a request have at most 256 bytes
 abbrev pub HavePasswords : Request → Type 0
 HavePasswords (Enrol name pw setting) = IsPassword pw
 HavePasswords (Verify name pw) = IsPassword pw

@@ -7,7 +7,7 @@ use Rattle.cred_desk.specs.declared.entry.AccountState.{AccountState}
 use Rattle.cred_desk.specs.declared.entry.AccountState.TheVariants as state
 use Rattle.cred_desk.specs.declared.entry.Entry.{Entry}
 
--- what stands at a name that is there
+-- the state of a name that the book has
 abbrev pub state_of : Option RecordValue → AccountState
 state_of None = state.NoRecord
 state_of (Some stored) = state.Record stored
@@ -22,13 +22,13 @@ deletion name = record { name = name; now = state.NoAccount }
 
 -- ---- books
 
--- the book in which this stands at the name
+-- the book with this state at the name
 abbrev pub with_state : Accounts → List ℕ → AccountState → Accounts
 with_state book name (state.Record stored) = map.insert book name (Some stored)
 with_state book name state.NoRecord = map.insert book name None
 with_state book name state.NoAccount = map.remove book name
 
--- the book after an entry, whose name is added if it isn't there
+-- the book after an entry, whose name is added if the book lacks it
 abbrev pub put : Accounts → Entry → Accounts
 put book entry = with_state book entry.name entry.now
 
@@ -47,8 +47,8 @@ IsOpened stored = (pw : List ℕ) × IsPassword pw × (right stored pw ≡ true)
 abbrev pub IsMinted : RecordValue → Type 0
 IsMinted stored = (pw : List ℕ) × IsPassword pw × (stored.tag ≡ tag stored.setting 32 pw)
 
--- what an operation may leave at a name in place of what was there: a new record if there was none
--- or its password was known, and none if it was known. The name stays
+-- the state that an operation may leave at a name: a new record if there was none or its password
+-- was known, and no record if the password was known. The name stays
 abbrev pub Follows : Option RecordValue → AccountState → Type 0
 Follows None state.NoRecord = ⊥
 Follows None (state.Record new) = IsMinted new
@@ -72,19 +72,19 @@ abbrev pub IsAdmitted : Accounts → Entry → Type 0
 IsAdmitted book entry = (map.contains_key book entry.name ≡ false) × (map.len book < most_accounts)
     × (entry.now ≡ state.NoRecord)
 
--- a record at a name that is there
+-- a record at a name that the book has
 abbrev pub IsLoaded : Accounts → Entry → Type 0
 IsLoaded book entry = (map.contains_key book entry.name ≡ true)
     × ((stored : RecordValue) × (entry.now ≡ state.Record stored))
 
--- a name that is there, which is taken away
+-- a name that the book has, which is deleted
 abbrev pub IsDeleted : Accounts → Entry → Type 0
 IsDeleted book entry = (map.contains_key book entry.name ≡ true) × (entry.now ≡ state.NoAccount)
 
 -- ---- lists
 
--- an entry that may come next: of an operation, and if loads may stand in the list, of one who
--- keeps the book
+-- an entry that may come next: of an operation, or, if the list may have loads, of one who keeps
+-- the book
 abbrev pub IsAllowed : Bool → Accounts → Entry → Type 0
 IsAllowed false book entry = IsMade book entry
 IsAllowed true book entry = IsMade book entry

@@ -1,4 +1,4 @@
--- What the name of a desk or of a committer stands for.
+-- The meaning of the name of a desk or of a committer.
 use Rattle.std.specs.Prelude.{◌≡◌, ℕ, Bool}
 use Rattle.logbook.specs.Pages.{Book}
 use Rattle.cred_book.specs.Accounts.{Accounts}
@@ -14,7 +14,7 @@ Naming = record {
   loads : Bool;
 }
 
--- what a clause sees of a list that was opened, before it has a name: which one it is, and which
+-- a list that was opened, as a clause sees it before it has a name: which list it is, and which
 -- ledgers count what its sessions do and what is handed out
 pub record NewList : Type 0 where
   pub list : Book

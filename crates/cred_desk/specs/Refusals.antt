@@ -19,7 +19,8 @@ refusal_word Reader = codes "reader"
 refusal_word NoAccount = codes "noaccount"
 refusal_word Older = codes "older"
 
--- why a desk or a committer isn't made, by whether the number of sessions is one that can be had
+-- the reason why a call makes no desk or committer, by whether the number of sessions is in its
+-- range
 abbrev pub IsRefusedToMake : Bool → DeskError → Type 0
 IsRefusedToMake fits Memory = fits ≡ true
 IsRefusedToMake fits Sessions = fits ≡ false

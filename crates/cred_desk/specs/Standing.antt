@@ -1,4 +1,4 @@
--- What a clause sees of a session, and what its calls do.
+-- A session as a clause sees it, and the effects of its calls.
 use Rattle.std.specs.Prelude.{◌≡◌, ◌≢◌, ◌<◌, ℕ, List, [], length, Some, None, Result, Ok, Err}
 use Rattle.std.specs.FinMap as map
 use Rattle.cred_book.specs.{Accounts.Accounts, Works.Task, Works.name_of, declared.reply.Reply.Reply, declared.request.Request.Request}
@@ -8,16 +8,16 @@ use Rattle.cred_desk.specs.declared.error.DeskError.TheVariants as error
 pub record Standing : Type 0 where
   -- the list that it knows
   pub known : List Entry
-  -- how many changes its settles made
+  -- the number of changes that its settles made
   pub count : ℕ
-  -- how many entries it added: admissions, loads and deletions
+  -- the number of entries that it added: admissions, loads and deletions
   pub additions : ℕ
 
 -- a session that knows nothing, and has done nothing
 abbrev pub IsNew : Standing → Type 0
 IsNew s = (s.known ≡ []) × (s.count ≡ 0) × (s.additions ≡ 0)
 
--- it made no change and no addition
+-- the session made no change and no addition
 abbrev pub IsUncounted : Standing → Standing → Type 0
 IsUncounted old new = (new.count ≡ old.count) × (new.additions ≡ old.additions)
 
@@ -47,7 +47,8 @@ ClosesAt book old new work (Err (back, error.Sessions)) = ⊥
 ClosesAt book old new work (Err (back, error.Session)) = ⊥
 ClosesAt book old new work (Err (back, error.NoAccount)) = ⊥
 
--- why a desk isn't closed, by how many sessions it has and those handed in: some are missing
+-- the reason why a desk isn't closed, by how many sessions it has and those handed in: some are
+-- missing
 abbrev pub IsMissed : ℕ → List Standing → DeskError → Type 0
 IsMissed all given error.Session = length given ≢ all
 IsMissed all given _ = ⊥

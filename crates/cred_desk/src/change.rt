@@ -6,8 +6,8 @@ ghost use Rattle.cred_desk.specs.{Commits.HavePasswords, Commits.entry_of, Commi
 use crate::entry::{AccountState, Entry};
 use cred_book::{Book, Reply, Request, Worked};
 
-/// The answer that the commit of the work has at this book, and the entry that it makes if it is a
-/// change.
+/// Returns the answer that the commit of the work has at this book, and the entry that the commit
+/// makes if it is a change.
 pub(crate) fn judge(book: &Book, work: &Worked) -> (Reply, Option<Entry>)
     ensures reply { result.0 ≡ reply_of book.now work.now }
     ensures entry { result.1 ≡ entry_of book.now work.now }
@@ -24,7 +24,7 @@ pub(crate) fn judge(book: &Book, work: &Worked) -> (Reply, Option<Entry>)
     (reply, Some(Entry { name, now }))
 }
 
-/// A request's passwords have at most 256 bytes, which their accessor tells.
+/// Proves that a request's passwords have at most 256 bytes, as their accessor says.
 fn hold_passwords(request: &Request)
     ensures { HavePasswords request.now }
 {

@@ -29,13 +29,13 @@ use std::sync::ledger::{Book as Total, Share};
 /// Settles one work after another, and counts the entries. Contracts see it as its list.
 pub(crate) struct Clerk<J: Naming, W: EntryWriter> {
     pub(crate) publisher: Publisher<J>,
-    /// Has each entry before anybody sees it.
+    /// The recorder, which gets each entry before anybody sees it.
     pub(crate) recorder: Recorder<J, W>,
     pub(crate) total: Total<J>,
     /// The share into which those of the sessions are merged.
     pub(crate) spare: Share<J>,
     pub(crate) sessions: u8,
-    /// Empty, with room for each session.
+    /// Empty tallies, with room for each session.
     pub(crate) tallies: Tallies,
 }
 
@@ -69,8 +69,8 @@ impl<J: Naming, W: EntryWriter> Model for Clerk<J, W> {
 impl<J: Naming, W: EntryWriter> Clerk<J, W> {
     /// Commits the work for the session, which knows the list after it from then on.
     ///
-    /// Errors: `Memory` if it runs out for a change; the writer's own. The list stays then, the
-    /// session knows it, and the work comes back.
+    /// Errors: `Memory` if memory for a change runs out; the writer's own error. The list stays
+    /// then, the session knows it, and the work comes back.
     #[tactic(auto, using(crate::proofs::Lists::length_list_after))]
     pub(crate) fn settle<R: Wait>(
         &mut self,
@@ -142,9 +142,10 @@ impl<J: Naming, W: EntryWriter> Clerk<J, W> {
         self.recorder.hand_out(handed, told.front())
     }
 
-    /// Looks whether these are all sessions of the desk. None knows more than the journal.
+    /// Tests whether these are all sessions of the desk, and finds that none knows more than the
+    /// journal.
     ///
-    /// Errors: `Session` if some are missing.
+    /// Errors: `Session` if some sessions are missing.
     pub(crate) fn look(&mut self, sessions: &[Session<J>]) -> Result<(), DeskError>
         ensures same { self.new ≡ self.old }
         ensures all { MatchResult result (λ _. length sessions.now ≡ J.parts)
@@ -158,7 +159,7 @@ impl<J: Naming, W: EntryWriter> Clerk<J, W> {
         Ok(())
     }
 
-    /// Lets nobody in to the book from now on, waits for those that read it, and takes all apart.
+    /// Admits no more readers to the book, waits for those that read it, and takes the clerk apart.
     pub(crate) fn end<R: Wait>(self, rt: &R, handed: Handed<J>) -> (Estate<J>, W)
         ensures listed { IsListed J.loads J.opening self }
         ensures rest { self ≡ handed ++ result.0.remains.journal.items }
@@ -204,10 +205,10 @@ impl<J: Naming, W: EntryWriter> Clerk<J, W> {
     }
 }
 
-/// Keeps an entry, and then shows it: once the writer has it, nothing can fail.
+/// Keeps an entry, and then shows the entry: once the writer has it, nothing can fail.
 ///
-/// Errors: `Memory` if it runs out, or if the list has 2^64 - 1 entries; the writer's own. Nothing
-/// changes then.
+/// Errors: `Memory` if memory runs out, or if the list has 2^64 - 1 entries; the writer's own
+/// error. Nothing changes then.
 fn keep_and_show<J: Naming, W: EntryWriter, R: Wait>(
     rt: &R,
     publisher: &mut Publisher<J>,

@@ -27,14 +27,14 @@ pub struct Closed {
 }
 
 impl Closed {
-    /// The number of names in its book.
+    /// Returns the number of names in the desk's book.
     pub fn len(&self) -> usize
         ensures { result ≡ map.len self.now.book }
     {
         self.book.len()
     }
 
-    /// The names of its book with their records, in the order of the names.
+    /// Returns the names of the desk's book with their records, in the order of the names.
     pub fn iter(&self) -> slice::Iter<'_, (Name, Option<Record>)>
         ensures { iter_rest result ≡ map.entries self.now.book }
     {
@@ -75,7 +75,7 @@ impl fmt::Debug for Remains {
 /// The values left by a kept desk that was closed with all its sessions.
 #[derive(Drop)]
 pub struct Kept<W> {
-    /// Its journal has the entries that weren't handed out.
+    /// The closed desk. Its journal has the entries that weren't handed out.
     pub closed: Closed,
     /// The number of entries that each session added (admissions, loads and deletions), in the
     /// order of the counts.
@@ -89,7 +89,7 @@ pub struct Unclosed<J: Naming, W: EntryWriter> {
     pub desk: KeptDesk<J, W>,
     pub handed: Handed<J>,
     pub sessions: Vec<Session<J>>,
-    /// `Session`: some are missing.
+    /// `Session`, since some sessions are missing.
     pub error: DeskError,
 }
 

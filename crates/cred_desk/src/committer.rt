@@ -1,4 +1,4 @@
-//! The one who keeps a published book: what it changes, its sessions see.
+//! The committer, which keeps a published book: its sessions see each change.
 
 ghost use Rattle.std.specs.Prelude.{◌≡◌, ◌+◌, ◌^◌, ◌++◌, ◌∷◌, [], All, IfErr, IfOk, IsOk, MatchResult, None, Some, length, nat_le, true, vec_len};
 ghost use mathlib.Core.List.{IsPrefix};
@@ -23,7 +23,7 @@ use std::fmt;
 use std::marker::Model;
 use std::sync::Wait;
 
-/// Keeps a book that sessions read while it changes. It isn't `Drop`: end it by `end`.
+/// Keeps a book that sessions read while it changes. A committer isn't `Drop`: end it by `end`.
 ///
 /// Contracts see it as the list of entries that it has published.
 pub struct Committer<J: Naming> {
@@ -55,8 +55,8 @@ impl<J: Naming> fmt::Debug for Committer<J> {
 impl<J: Naming> Committer<J> {
     /// Copies the book, and shows it to so many sessions, 0 to 128 of them.
     ///
-    /// Errors: `Sessions` for another number, which is judged first; `Memory` if it runs out;
-    /// `Reader` if a session gets no place to read, which isn't met.
+    /// Errors: `Sessions` for another number, before any other error; `Memory` if memory runs out;
+    /// `Reader` if a session gets no place to read, which never occurs.
     pub fn new<R: Wait>(
         rt: &R,
         alloc: Global,
@@ -86,11 +86,11 @@ impl<J: Naming> Committer<J> {
         Ok((Committer { publisher }, sessions))
     }
 
-    /// Does the whole operation, if the record is the one that was copied, and otherwise nothing,
-    /// and tells the list then.
+    /// Does the whole operation if the record is the one that was copied, and otherwise nothing.
+    /// Returns the reply, and the list after the call.
     ///
-    /// Errors: `Memory` for a change if the list has 2^64 - 1 entries, which isn't met: it takes no
-    /// memory. Nothing changes then, and the work comes back.
+    /// Errors: `Memory` for a change if the list has 2^64 - 1 entries, which never occurs: the call
+    /// allocates no memory. Nothing changes then, and the work comes back.
     pub fn commit_told<R: Wait>(
         &mut self,
         rt: &R,
@@ -135,8 +135,8 @@ impl<J: Naming> Committer<J> {
         Ok(())
     }
 
-    /// Finds that what the session knows is a beginning of the list. So whatever a session reads is
-    /// of this list, and if it has learned what `commit_told` told last it knows the whole.
+    /// Finds that what the session knows is a beginning of the list. So a session reads only books
+    /// of this list. A session that has learned what `commit_told` told last knows the whole list.
     pub fn covers(&mut self, session: &Session<J>)
         ensures begins { IsPrefix session.now.known self.new }
         ensures same { self.new ≡ self.old }
@@ -144,7 +144,7 @@ impl<J: Naming> Committer<J> {
         self.publisher.covers(session.known());
     }
 
-    /// Lets go of the book. It waits for those that read it.
+    /// Releases the book, and waits for those that read it.
     pub fn end<R: Wait>(self, rt: &R) {
         let Committer { publisher } = self;
         publisher.finish(rt);

@@ -20,13 +20,14 @@ use std::fmt;
 use std::marker::Model;
 use std::sync::{Mutex, Wait};
 
-/// Keeps a book that sessions read while they change it, and a journal of all changes. It isn't
+/// Keeps a book that sessions read while they change it, and a journal of all changes. A desk isn't
 /// `Drop`: end it by `close` or `end`.
 ///
-/// It is a kept desk whose writer keeps nothing, and whose naming allows no additions.
+/// A `Desk` is a kept desk whose writer keeps nothing, and whose naming allows no additions.
 pub struct Desk<J: Naming> {
     desk: KeptDesk<J, Unkept>,
-    /// Behind a lock since sessions share the desk, and a token can't be shared. Nobody takes it.
+    /// The token, behind a lock since sessions share the desk, and a token can't be shared. Nobody
+    /// takes this lock.
     handed: Mutex<Unhanded<J>>,
 }
 
@@ -62,11 +63,11 @@ impl<J: Naming> fmt::Debug for Desk<J> {
 }
 
 impl<J: Naming> Desk<J> {
-    /// Copies the book, and shows it to so many sessions, 1 to 128 of them. The names are those of
-    /// the book from then on.
+    /// Copies the book, and shows it to so many sessions, 1 to 128 of them. The desk keeps the
+    /// names of the book from then on.
     ///
-    /// Errors: `Sessions` for another number, which is judged first; `Memory` if it runs out;
-    /// `Reader` if a session gets no place to read, which isn't met.
+    /// Errors: `Sessions` for another number, before any other error; `Memory` if memory runs out;
+    /// `Reader` if a session gets no place to read, which never occurs.
     pub fn new<R: Wait>(
         rt: &R,
         alloc: Global,
@@ -92,13 +93,13 @@ impl<J: Naming> Desk<J> {
         }
     }
 
-    /// Waits for the lock, and does the whole operation, if the record is the one that was copied,
-    /// and otherwise nothing. The session knows the list after it from then on, and counts a
-    /// change. The ticket may be of another session, or of another desk: a copy of a record is all
-    /// that it has.
+    /// Waits for the lock, and does the whole operation if the record is the one that was copied,
+    /// and otherwise nothing. From then on the session knows the list after the call, and counts a
+    /// change if there was one. The ticket may be of another session, or of another desk: it has
+    /// only a copy of a record.
     ///
-    /// Errors: `Memory` if it runs out for a change. Nothing changes then but that the session
-    /// knows the list at which the change was due, and the work comes back.
+    /// Errors: `Memory` if memory for a change runs out. Then the session only learns the list at
+    /// which the change was due, and the work comes back.
     pub fn settle<R: Wait>(
         &self,
         rt: &R,
@@ -118,7 +119,7 @@ impl<J: Naming> Desk<J> {
     /// Returns the book, the journal and the counts, if all sessions of the desk are handed in, in
     /// any order. The call waits for those that read the book.
     ///
-    /// Errors: `Session` if some are missing. The desk and the sessions come back.
+    /// Errors: `Session` if some sessions are missing. The desk and the sessions come back.
     #[tactic(auto, using(crate::proofs::Lists::legal_if))]
     pub fn close<R: Wait>(
         self,
@@ -165,8 +166,8 @@ impl<J: Naming> Desk<J> {
     /// that are left: the journal begins with the list of each. The call waits for those that read
     /// the book.
     ///
-    /// The journal is the whole one with no session handed in too; but then that is tested alone,
-    /// as nothing in the contract knows what was settled.
+    /// The journal is whole even if no session is handed in. Only a test shows this, since nothing
+    /// in the contract then knows what was settled.
     #[tactic(auto, using(crate::proofs::Lists::legal_if))]
     pub fn give_up<R: Wait>(self, rt: &R, sessions: &[Session<J>]) -> Remains
         ensures legal { IsLegal J.opening result.journal.items }
@@ -179,7 +180,7 @@ impl<J: Naming> Desk<J> {
         remains
     }
 
-    /// Lets go of the desk. It waits for those that read the book.
+    /// Releases the desk, and waits for those that read the book.
     pub fn end<R: Wait>(self, rt: &R) {
         let Desk { desk, handed } = self;
         let Unhanded { handed } = handed.into_inner();

@@ -10,7 +10,7 @@ pub enum AccountState {
     Record(Record),
     /// The name alone, without a record.
     NoRecord,
-    /// Not even the name.
+    /// No record and no name.
     NoAccount,
 }
 
@@ -29,7 +29,7 @@ impl From<Option<Record>> for AccountState {
     }
 }
 
-/// A change: what stands at a name from then on.
+/// A change: the state of a name from then on.
 #[derive(Clone, Copy, Debug, PartialEq, Eq)]
 pub struct Entry {
     pub name: Name,

@@ -1,4 +1,4 @@
-//! Why a call on a desk, a committer or a session is refused.
+//! The errors of calls on a desk, a committer or a session.
 
 ghost use Rattle.std.specs.Prelude.{◌≡◌};
 ghost use Rattle.cred_desk.specs.{Refusals.refusal_number, Refusals.refusal_word, declared.error.DeskError.TheVariants.Memory as OutOfMemory};
@@ -6,25 +6,25 @@ ghost use Rattle.cred_desk.specs.{Refusals.refusal_number, Refusals.refusal_word
 use std::alloc::AllocError;
 use thiserror::Error;
 
-/// Why a desk, a committer or a session isn't made, or doesn't do what it is asked.
+/// The reason why a call returns no desk, committer or session, or doesn't do what it is asked.
 #[derive(Clone, Copy, Debug, PartialEq, Eq, Error)]
 pub enum DeskError {
     /// No memory.
     #[error("out of memory")]
     Memory,
     /// Too few or too many sessions.
-    #[error("the number of sessions is none that can be had")]
+    #[error("the number of sessions is outside its range")]
     Sessions,
     /// Missing sessions.
     #[error("sessions of the desk are missing")]
     Session,
     /// No book to read.
-    #[error("the reader got no place, or was let in to no book")]
+    #[error("the reader got no place, or there is no book to read")]
     Reader,
     /// Unknown name.
     #[error("the name isn't there")]
     NoAccount,
-    /// A book older than what the session knows. It isn't met.
+    /// A book older than what the session knows. This never occurs.
     #[error("the book that was read is older than what is known")]
     Older,
 }
@@ -38,7 +38,7 @@ impl From<AllocError> for DeskError {
 }
 
 impl DeskError {
-    /// The number of the refusal, from 1 to 6.
+    /// Returns the number of the refusal, from 1 to 6.
     pub fn number(self) -> u8
         ensures { result ≡ refusal_number self }
     {
@@ -52,7 +52,7 @@ impl DeskError {
         }
     }
 
-    /// The name of the refusal in lower case, as `noaccount`.
+    /// Returns the name of the refusal in lower case, such as `noaccount`.
     pub fn word(self) -> &'static str
         ensures { result.now ≡ refusal_word self }
     {

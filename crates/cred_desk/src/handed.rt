@@ -8,8 +8,8 @@ use std::fmt;
 use std::marker::Model;
 use std::sync::ledger::{Blank, Book as Total, Share};
 
-/// The entries that a desk has handed out. There is one for each desk, and it can be neither copied
-/// nor let go of: whatever ends the desk takes it.
+/// The entries that a desk has handed out. Each desk has one such token. Nobody can copy or drop
+/// it: the call that ends the desk takes it.
 ///
 /// Contracts see it as the list of these entries.
 pub struct Handed<J: Naming> {
@@ -34,7 +34,7 @@ impl<J: Naming> fmt::Debug for Handed<J> {
     }
 }
 
-/// The desk's own half: what it has handed out, which is what the token says.
+/// The desk's own half: the entries that it has handed out, as the token says too.
 #[derive(Drop)]
 pub(crate) struct Cut<J: Naming> {
     list: Front<J>,
@@ -53,7 +53,7 @@ impl<J: Naming> Model for Cut<J> {
 }
 
 impl<J: Naming> Cut<J> {
-    /// Before anything is handed out, with the token.
+    /// Returns the desk's half before anything is handed out, with the token.
     pub(crate) fn open(blank: Blank, list: &Front<J>) -> (Cut<J>, Handed<J>)
         requires blank { (blank.name ≡ J.handouts) × (blank.parts ≡ 1) }
         requires empty { list.now ≡ [] }
@@ -94,7 +94,7 @@ impl<J: Naming> Cut<J> {
         handed.list = list.again();
     }
 
-    /// Finds that this was handed out, and lets go of it.
+    /// Finds that this was handed out, and uses up the token.
     pub(crate) fn end(self, handed: Handed<J>)
         ensures { handed ≡ self }
     {

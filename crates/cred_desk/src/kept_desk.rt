@@ -28,11 +28,11 @@ use std::sync::{Mutex, MutexGuard, Wait};
 /// A desk that hands each entry to a writer, under its lock and before anybody sees it. So what the
 /// writer keeps is the journal, or while an entry is added the journal with that entry.
 ///
-/// If its naming allows loads, names are admitted and deleted, and records loaded, while sessions
-/// live. Each of these adds an entry, and counts as an addition.
+/// If its naming allows loads, callers admit and delete names, and load records, while sessions
+/// live. Each of these calls adds an entry, and counts as an addition.
 ///
-/// It isn't `Drop`: end it by `close`, `finish`, `give_up` or `end`. Each of these takes the one
-/// token of what the desk handed out. So the token can't be lost, and a session can.
+/// A kept desk isn't `Drop`: end it by `close`, `finish`, `give_up` or `end`. Each of these takes
+/// the one token of what the desk handed out. So the token can't be lost, but a session can.
 pub struct KeptDesk<J: Naming, W: EntryWriter> {
     clerk: Mutex<Clerk<J, W>>,
 }
@@ -44,8 +44,8 @@ impl<J: Naming, W: EntryWriter> fmt::Debug for KeptDesk<J, W> {
 }
 
 impl<J: Naming, W: EntryWriter> KeptDesk<J, W> {
-    /// Copies the book, and shows it to so many sessions, 1 to 128 of them. The writer is one that
-    /// keeps no entry yet. The token says that nothing was handed out yet.
+    /// Copies the book, and shows it to so many sessions, 1 to 128 of them. The writer keeps no
+    /// entry yet. The token says that the desk has handed out nothing yet.
     ///
     /// Errors: those of `Desk::new`. The writer comes back.
     pub fn new<R: Wait>(
@@ -98,13 +98,13 @@ impl<J: Naming, W: EntryWriter> KeptDesk<J, W> {
         }
     }
 
-    /// Waits for the lock, and does the whole operation, if the record is the one that was copied,
-    /// and otherwise nothing. The session knows the list after it from then on, and counts a
-    /// change.
+    /// Waits for the lock, and does the whole operation if the record is the one that was copied,
+    /// and otherwise nothing. From then on the session knows the list after the call, and counts a
+    /// change if there was one.
     ///
-    /// Errors: `Memory` if it runs out for a change; the writer's own if it doesn't keep the entry.
-    /// Nothing changes then but that the session knows the list at which the change was due, and
-    /// the work comes back.
+    /// Errors: `Memory` if memory for a change runs out; the writer's own error if it doesn't keep
+    /// the entry. Then the session only learns the list at which the change was due, and the work
+    /// comes back.
     pub fn settle<R: Wait>(
         &self,
         rt: &R,
@@ -117,7 +117,7 @@ impl<J: Naming, W: EntryWriter> KeptDesk<J, W> {
     {
         let mut clerk = self.clerk.lock(rt);
         let settled = clerk.settle(rt, session, work);
-        // Its drop would ask that a clerk be `Drop`.
+        // To drop the guard, a clerk would have to be `Drop`.
         MutexGuard::unlock(clerk);
         match settled {
             Ok(done) => Ok(done),
@@ -125,12 +125,12 @@ impl<J: Naming, W: EntryWriter> KeptDesk<J, W> {
         }
     }
 
-    /// Waits for the lock, and adds a name with no record. The session knows the list after it from
-    /// then on, and counts an addition.
+    /// Waits for the lock, and adds a name with no record. From then on the session knows the list
+    /// after the addition, and counts one addition more.
     ///
-    /// Errors: `Exists` if the name exists; `Full` if the book has 4096 names; `Memory` if it
-    /// runs out, or the writer's own, if the name would have been added. Nothing changes then but
-    /// that the session knows the list at which it was refused.
+    /// Errors: `Exists` if the name exists; `Full` if the book has 4096 names; `Memory` if memory
+    /// runs out, or the writer's own error, if the name would have been added. Then the session
+    /// only learns the list at which the desk refused the name.
     pub fn admit<R: Wait>(
         &self,
         rt: &R,
@@ -147,12 +147,12 @@ impl<J: Naming, W: EntryWriter> KeptDesk<J, W> {
         admitted
     }
 
-    /// Waits for the lock, and puts a record at a name, in place of an existing one. The
-    /// session knows the list after it from then on, and counts an addition.
+    /// Waits for the lock, and puts a record at a name, in place of an existing one. From then on
+    /// the session knows the list after the load, and counts one addition more.
     ///
-    /// Errors: `NoAccount` if the name doesn't exist; `Memory` if it runs out, or the writer's own,
-    /// if the record would have been put. Nothing changes then but that the session knows the list
-    /// at which it was refused.
+    /// Errors: `NoAccount` if the name doesn't exist; `Memory` if memory runs out, or the writer's
+    /// own error, if the record would have been put. Then the session only learns the list at which
+    /// the desk refused the record.
     pub fn load<R: Wait>(
         &self,
         rt: &R,
@@ -170,16 +170,16 @@ impl<J: Naming, W: EntryWriter> KeptDesk<J, W> {
         loaded
     }
 
-    /// Waits for the lock, and takes a name away, with the record if it has one. So there is
-    /// room for another name. The session knows the list after it from then on, and counts an
-    /// addition.
+    /// Waits for the lock, and deletes a name, with the record if it has one. So there is room for
+    /// another name. From then on the session knows the list after the deletion, and counts one
+    /// addition more.
     ///
-    /// A ticket that was begun at the name is answered `Reply::NoAccount` as it is settled, unless
-    /// somebody admitted the name again.
+    /// A ticket that was begun at the name gets the answer `Reply::NoAccount` when it is settled,
+    /// unless somebody admitted the name again.
     ///
-    /// Errors: `NoAccount` if the name doesn't exist; `Memory` if it runs out, or the writer's own,
-    /// if the name would have been taken away. Nothing changes then but that the session knows the
-    /// list at which it was refused.
+    /// Errors: `NoAccount` if the name doesn't exist; `Memory` if memory runs out, or the writer's
+    /// own error, if the name would have been deleted. Then the session only learns the list at
+    /// which the desk refused the deletion.
     pub fn delete<R: Wait>(
         &self,
         rt: &R,
@@ -213,7 +213,7 @@ impl<J: Naming, W: EntryWriter> KeptDesk<J, W> {
     }
 
     /// Waits for the lock, and hands out the entries after those that were handed out before. The
-    /// desk lets go of them.
+    /// desk no longer keeps these.
     pub fn checkpoint<R: Wait>(&self, rt: &R, handed: &mut Handed<J>) -> Vec<Entry>
         ensures entries { handed.new ≡ handed.old ++ result.items }
         ensures listed { IsListed J.loads J.opening handed.new }
@@ -225,10 +225,10 @@ impl<J: Naming, W: EntryWriter> KeptDesk<J, W> {
     }
 
     /// Returns the book, the entries that weren't handed out, the writer, and the numbers of each
-    /// session's changes and additions, if all sessions of the desk are handed in, in any order.
-    /// The call waits for those that read the book.
+    /// session's changes and additions. All sessions of the desk have to be handed in, in any
+    /// order. The call waits for those that read the book.
     ///
-    /// Errors: `Session` if some are missing. All that was handed in comes back.
+    /// Errors: `Session` if some sessions are missing. All that was handed in comes back.
     pub fn close<R: Wait>(
         self,
         rt: &R,
@@ -321,7 +321,7 @@ impl<J: Naming, W: EntryWriter> KeptDesk<J, W> {
     /// `sessions` are some that are left: the list begins with the one of each. The call waits for
     /// those that read the book.
     ///
-    /// The list is the whole one with no session handed in too: the writer keeps it.
+    /// The list is whole even if no session is handed in: the writer keeps it.
     pub fn give_up<R: Wait>(
         self,
         rt: &R,

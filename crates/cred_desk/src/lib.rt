@@ -1,9 +1,9 @@
-//! A book of accounts that sessions in threads of their own read while one committer changes it,
-//! and a desk that settles their work behind a lock and keeps a journal of it.
+//! A book of accounts that sessions in threads of their own read while one committer changes it. A
+//! desk settles their work behind a lock, and keeps a journal of the changes.
 //!
-//! [`Desk::new`] gives out [`Session`]s, one for each thread; [`Desk::settle`] commits and
-//! [`Desk::close`] gives the [`Closed`] book. [`Committer`] keeps a book for one thread that also
-//! admits and loads.
+//! [`Desk::new`] returns [`Session`]s, one for each thread. [`Desk::settle`] commits a session's
+//! work, and [`Desk::close`] returns the [`Closed`] book. [`Committer`] keeps a book for one thread
+//! that also admits names and loads records.
 #![tactic(auto)]
 
 mod change;

@@ -23,14 +23,14 @@ pub(crate) struct Made<J: Naming> {
     pub(crate) sessions: Vec<Session<J>>,
     pub(crate) total: Total<J>,
     pub(crate) spare: Share<J>,
-    /// For the count of what is handed out.
+    /// The token for the count of what is handed out.
     pub(crate) handouts: Blank,
 }
 
 /// Copies the book, and shows it to so many sessions.
 ///
-/// Errors: `Memory` if it runs out; `Reader` if a session gets no place to read. The first that is
-/// met is answered.
+/// Errors: `Memory` if memory runs out; `Reader` if a session gets no place to read. The first
+/// error that occurs is the answer.
 pub(crate) fn make<J: Naming, R: Wait>(
     rt: &R,
     alloc: Global,
@@ -70,7 +70,7 @@ pub(crate) fn make<J: Naming, R: Wait>(
     }
 }
 
-/// Two copies of the book, of which readers see one.
+/// Copies the book twice, and shows readers one of the copies.
 fn open_writer<J: Naming, R: Wait>(
     alloc: Global,
     rt: &R,
@@ -86,7 +86,7 @@ fn open_writer<J: Naming, R: Wait>(
 {
     let first = Shown::of(book, front)?;
     let second = Shown::of(book, front)?;
-    // A writer's contract doesn't say what becomes of the second value.
+    // The contract of a writer doesn't say what becomes of the second value.
     let unsaid = Shown::empty(alloc, front)?;
     let readers = usize::from(sessions.max(1));
     let mut writer = BookWriter::<J>::new(alloc, first, unsaid, readers)?;
@@ -94,7 +94,7 @@ fn open_writer<J: Naming, R: Wait>(
     Ok(writer)
 }
 
-/// So many sessions, each with a part of the share.
+/// Returns so many sessions, each with a part of the share.
 fn seats<J: Naming>(
     alloc: Global,
     writer: &BookWriter<J>,

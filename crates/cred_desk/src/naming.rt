@@ -18,7 +18,7 @@ pub trait Naming: Ledger {
     /// The name of the list.
     ghost list: { Book };
 
-    /// The ledger that counts the entries which are handed out of it.
+    /// The ledger that counts the entries that the desk hands out of the list.
     ghost handouts: { ℕ };
 
     /// The opening book.
@@ -78,7 +78,7 @@ impl Model for Opened {
 }
 
 impl Opened {
-    /// For a desk or a committer with so many sessions.
+    /// Returns an empty list for a desk or a committer with so many sessions.
     pub fn new(sessions: u8) -> Opened
         ensures { result.sessions ≡ sessions }
     {
@@ -89,7 +89,8 @@ impl Opened {
         }
     }
 
-    /// The list under a name, if nobody holds it yet, and what the two counts are opened from.
+    /// Returns the list under a name, if nobody holds it yet, and the blanks from which the two
+    /// counts are opened.
     pub(crate) fn named<J: Naming>(self) -> (Option<History<J>>, Blank, Blank)
         requires { self.list ≡ J.list }
         ensures list { IfSome result.0 (λ list. list ≡ []) }

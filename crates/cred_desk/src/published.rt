@@ -24,7 +24,7 @@ pub(crate) struct Shown<J: Naming> {
 }
 
 impl<J: Naming> Shown<J> {
-    /// A copy of the book, with its list.
+    /// Returns a copy of the book, with its list.
     pub(crate) fn of(book: &Book, front: &Front<J>) -> Result<Shown<J>, AllocError>
         ensures book { IfOk result (λ shown. shown.book ≡ book.now) }
         ensures front { IfOk result (λ shown. shown.front ≡ front.now) }
@@ -35,7 +35,7 @@ impl<J: Naming> Shown<J> {
         })
     }
 
-    /// No account, beside a list.
+    /// Returns a book with no account, beside a list.
     pub(crate) fn empty(alloc: Global, front: &Front<J>) -> Result<Shown<J>, AllocError> {
         Ok(Shown {
             book: Book::new(alloc).map_err(|_| AllocError)?,
@@ -47,7 +47,7 @@ impl<J: Naming> Shown<J> {
 /// The next values that readers see: the book with one entry more, and the list then.
 #[derive(Drop)]
 pub(crate) struct Step<J: Naming> {
-    /// The one before, which the spare copy lacks.
+    /// The entry before, which the spare copy lacks.
     pub(crate) last: Option<Entry>,
     pub(crate) entry: Entry,
     pub(crate) front: Front<J>,
@@ -80,8 +80,8 @@ fn apply<J: Naming>(book: &mut Book, change: &Entry)
     }
 }
 
-/// Absorbs nothing. The writer's log of entries would take memory, so it stays empty: the copies
-/// are changed where they lie.
+/// Absorbs nothing. The writer's log of entries would need memory, so it stays empty, and the
+/// writer changes the copies in place.
 impl<J: Naming> Absorb<Entry> for Shown<J> {
     type State = ();
 
@@ -126,8 +126,8 @@ pub(crate) type BookReader<J> = Reader<Shown<J>, (), Published<J>>;
 
 pub(crate) type BookWriter<J> = Writer<Shown<J>, Entry, (), Published<J>>;
 
-/// Shows readers the book with the step's entry, and its list. It waits for those that still read
-/// the copy from before, and takes no memory.
+/// Shows readers the book with the step's entry, and its list. The call waits for those that still
+/// read the copy from before, and allocates no memory.
 pub(crate) fn show<J: Naming, R: Wait>(writer: &mut BookWriter<J>, rt: &R, step: Step<J>)
     requires { LeadsTo J.Naming writer.old.desk.spare.value.book step.last step.entry step.front }
     ensures front { writer.new.desk.shown.value.front ≡ step.front }

@@ -1,4 +1,4 @@
-//! The one who changes the published book.
+//! The publisher, which changes the published book.
 
 ghost use Rattle.std.specs.Prelude.{◌≡◌, ◌+◌, ◌<◌, ◌^◌, ◌++◌, ◌∷◌, [], MatchBool, length};
 ghost use mathlib.Core.List.{IsPrefix};
@@ -14,7 +14,7 @@ use left_right::Absorb;
 use std::marker::Model;
 use std::sync::Wait;
 
-/// Contracts see it as its list.
+/// Changes the published book. Contracts see a publisher as its list.
 pub(crate) struct Publisher<J: Naming>
 where
     Shown<J>: Absorb<Entry, State = ()>,
@@ -49,7 +49,7 @@ where
 }
 
 impl<J: Naming> Publisher<J> {
-    /// A publisher with no entry yet.
+    /// Returns a publisher with no entry yet.
     pub(crate) fn new(writer: BookWriter<J>, history: History<J>) -> Publisher<J>
         requires empty { history ≡ [] }
         requires shown { (writer.desk.shown.value.front ≡ [])
@@ -64,7 +64,7 @@ impl<J: Naming> Publisher<J> {
         }
     }
 
-    /// The present book.
+    /// Returns the present book.
     pub(crate) fn book(&self) -> &Book
         ensures book { result.now ≡ after J.opening self.now }
         ensures listed { IsListed J.loads J.opening self.now }
@@ -72,7 +72,7 @@ impl<J: Naming> Publisher<J> {
         &self.writer.published().book
     }
 
-    /// The present list.
+    /// Returns the present list.
     pub(crate) fn front(&self) -> &Front<J>
         ensures { result.now ≡ self.now }
     {
@@ -88,7 +88,7 @@ impl<J: Naming> Publisher<J> {
         self.history.covers(known);
     }
 
-    /// The same of what somebody was told.
+    /// Finds that a list that somebody was told is a beginning of the present one.
     pub(crate) fn covers_heard(&mut self, heard: &Heard<J>)
         ensures begins { IsPrefix heard.now self.new }
         ensures same { self.new ≡ self.old }
@@ -96,7 +96,7 @@ impl<J: Naming> Publisher<J> {
         self.history.covers_trace(&heard.trace);
     }
 
-    /// The present list, for sessions to learn.
+    /// Returns the present list, for sessions to learn.
     pub(crate) fn told(&self) -> Told<J>
         ensures told { result ≡ self.now }
         ensures listed { IsListed J.loads J.opening self.now }
@@ -104,14 +104,14 @@ impl<J: Naming> Publisher<J> {
         Told::new(self.front().again())
     }
 
-    /// Whether it has as many entries as can be counted, 2^64 - 1.
+    /// Whether the list has as many entries as can be counted, 2^64 - 1.
     pub(crate) fn is_full(&self) -> bool
         ensures { MatchBool result (length self.now + 1 ≡ 2 ^ 64) (length self.now + 1 < 2 ^ 64) }
     {
         self.front().len() == u64::MAX
     }
 
-    /// Adds an entry to the list and the published book. Nothing of that can fail.
+    /// Adds an entry to the list and the published book. The call can't fail.
     #[tactic(auto, using(crate::proofs::Lists::legal_snoc))]
     pub(crate) fn show<R: Wait>(&mut self, rt: &R, entry: Entry)
         requires allowed { IsAllowed J.loads (after J.opening self.old) entry }
@@ -132,7 +132,7 @@ impl<J: Naming> Publisher<J> {
         self.last = Some(entry);
     }
 
-    /// Lets nobody in to the book from now on, waits for those that read it, and gives the book.
+    /// Admits no more readers to the book, waits for those that read it, and returns the book.
     pub(crate) fn finish<R: Wait>(self, rt: &R) -> Book
         ensures book { result ≡ after J.opening self }
         ensures listed { IsListed J.loads J.opening self }

@@ -1,4 +1,4 @@
-//! The journal of a desk, beside the writer of its owner's.
+//! The journal of a desk, beside its owner's writer.
 
 ghost use Rattle.std.specs.Prelude.{◌≡◌, ◌++◌, ◌∷◌, [], MatchResult};
 ghost use Rattle.cred_book.specs.declared.error.BookError.TheVariants.{Memory as memory};
@@ -13,13 +13,13 @@ use core::mem::replace;
 use std::alloc::Global;
 use std::marker::Model;
 
-/// Hands each entry to the writer, and keeps those that weren't handed out yet. Contracts see it as
-/// the list of all.
+/// Hands each entry to the writer, and keeps those that weren't handed out yet. Contracts see a
+/// recorder as the list of all entries.
 pub(crate) struct Recorder<J: Naming, W: EntryWriter> {
     alloc: Global,
     /// The entries that were handed out.
     cut: Cut<J>,
-    /// Those after them.
+    /// The entries after those that were handed out.
     journal: Vec<Entry>,
     writer: W,
 }
@@ -36,7 +36,7 @@ impl<J: Naming, W: EntryWriter> Model for Recorder<J, W> {
 }
 
 impl<J: Naming, W: EntryWriter> Recorder<J, W> {
-    /// A recorder with no entry.
+    /// Returns a recorder with no entry.
     pub(crate) fn new(alloc: Global, cut: Cut<J>, writer: W) -> Recorder<J, W>
         requires cut { cut ≡ [] }
         requires kept { W.keeps writer [] }
@@ -50,10 +50,10 @@ impl<J: Naming, W: EntryWriter> Recorder<J, W> {
         }
     }
 
-    /// Reserves room in the journal, hands the entry to the writer, and keeps it.
+    /// Reserves room in the journal, hands the entry to the writer, and keeps the entry.
     ///
-    /// Errors: `Memory` if it runs out, before the writer is asked; the writer's own. The journal
-    /// stays then.
+    /// Errors: `Memory` if memory runs out, before the writer gets the entry; the writer's own
+    /// error. The journal stays as it was then.
     pub(crate) fn take(&mut self, new: &Entry) -> Result<(), KeepError<W::Error>>
         ensures { MatchResult result (λ _. self.new ≡ self.old ++ new.entry.now ∷ [])
             (λ e. (self.new ≡ self.old) × (refusal_of e ≡ memory)) }
@@ -75,7 +75,7 @@ impl<J: Naming, W: EntryWriter> Recorder<J, W> {
         replace(&mut self.journal, Vec::new(self.alloc))
     }
 
-    /// The entries after those that were handed out, and the writer.
+    /// Returns the entries after those that were handed out, and the writer.
     pub(crate) fn into_rest(self, handed: Handed<J>) -> (Vec<Entry>, W)
         ensures rest { self ≡ handed ++ result.0.items }
         ensures kept { W.keeps result.1 self }

@@ -18,18 +18,18 @@ use std::fmt;
 use std::marker::Model;
 use std::sync::ledger::{Book as Total, Share};
 
-/// Begins requests and closes verifies at the published book, in any thread. It reads no older book
-/// than it has read or was told of.
+/// Begins requests and closes verifies at the published book, in any thread. A session reads no
+/// older book than one that it has read or was told of.
 ///
-/// Contracts see it as the list of entries that it knows, the number of changes that its settles
-/// made, and the number of entries that it added: admissions, loads and deletions.
+/// Contracts see a session as the list of entries that it knows, the number of changes that its
+/// settles made, and the number of entries that it added (admissions, loads and deletions).
 #[derive(Drop)]
 pub struct Session<J: Naming> {
     reader: BookReader<J>,
     known: Front<J>,
     settled: u64,
     added: u64,
-    /// Of all entries of the desk, those that it made.
+    /// The share of the desk's entries that this session made.
     share: Share<J>,
 }
 
@@ -63,7 +63,7 @@ impl<J: Naming> fmt::Debug for Session<J> {
 }
 
 impl<J: Naming> Session<J> {
-    /// A session that knows nothing and has settled nothing.
+    /// Returns a session that knows nothing and has settled nothing.
     pub(crate) fn new(reader: BookReader<J>, known: Front<J>, share: Share<J>) -> Session<J>
         requires known { known ≡ [] }
         requires share { (share.parts ≡ 1) × (share.amount ≡ 0) }
@@ -78,21 +78,21 @@ impl<J: Naming> Session<J> {
         }
     }
 
-    /// The list that it knows, for others to learn.
+    /// Returns the list that the session knows, for others to learn.
     pub fn told(&self) -> Told<J>
         ensures { result ≡ self.now.known }
     {
         Told::new(self.known.again())
     }
 
-    /// The list that it knows.
+    /// Returns the list that the session knows.
     pub(crate) fn known(&self) -> &Front<J>
         ensures { result.now ≡ self.now.known }
     {
         &self.known
     }
 
-    /// Counts a change that it made.
+    /// Counts a change that the session made.
     pub(crate) fn count_change(&mut self, total: &mut Total<J>)
         requires { total.old.total + 1 < 2 ^ 64 }
         ensures total { total.new.total ≡ total.old.total + 1 }
@@ -105,7 +105,7 @@ impl<J: Naming> Session<J> {
         self.settled += 1;
     }
 
-    /// Counts an entry that it added.
+    /// Counts an entry that the session added.
     pub(crate) fn count_addition(&mut self, total: &mut Total<J>)
         requires room { total.old.total + 1 < 2 ^ 64 }
         requires loads { J.loads ≡ true }
@@ -119,14 +119,14 @@ impl<J: Naming> Session<J> {
         self.added += 1;
     }
 
-    /// The number of changes that the session settled.
+    /// Returns the number of changes that the session settled.
     pub fn count(&self) -> u64
         ensures { result ≡ self.now.count }
     {
         self.settled
     }
 
-    /// The number of entries that the session added: admissions, loads and deletions.
+    /// Returns the number of entries that the session added: admissions, loads and deletions.
     pub fn additions(&self) -> u64
         ensures additions { result ≡ self.now.additions }
         ensures allowed { J.loads ≡ false → result ≡ 0 }
@@ -134,7 +134,7 @@ impl<J: Naming> Session<J> {
         self.added
     }
 
-    /// The part of the total that it counted, and how much that is.
+    /// Returns the part of the total that the session counted, and how much that is.
     pub(crate) fn into_share(self, total: &mut Total<J>) -> (Share<J>, u64)
         requires { total.old.total < 2 ^ 64 }
         ensures parts { result.0.parts ≡ 1 }
@@ -153,17 +153,17 @@ impl<J: Naming> Session<J> {
         (share, settled + added)
     }
 
-    /// Copies the record of the request's account from the published book into a ticket, and knows
-    /// that book's list from then on. A setting in the request isn't of version 0x10, as
-    /// `Request::is_for_current` tells.
+    /// Copies the record of the request's account from the published book into a ticket. The
+    /// session knows that book's list from then on. A setting in the request must not be of version
+    /// 0x10 (`Request::is_for_current`).
     ///
-    /// Errors: `NoAccount` if the name isn't there; `Reader` if there is no book to read, as may be
-    /// once its desk or committer was ended; `Older` if the book that was read is older than what
-    /// is known, which isn't met: a book is shown before anybody is told of it. Nothing changes
-    /// after `Reader` and `Older`. The request comes back.
+    /// Errors: `NoAccount` if the book doesn't have the name; `Reader` if there is no book to read,
+    /// as may be once its desk or committer has ended; `Older` if the book that was read is older
+    /// than what the session knows. `Older` never occurs: a desk shows a book before it tells
+    /// anybody of it. After `Reader` and `Older` nothing changes. The request comes back.
     ///
-    /// The ticket doesn't name the session. If its work is closed at another one that knows less,
-    /// the answer may be `Changed` with an older record than the ticket's.
+    /// The ticket doesn't name the session. If another session that knows less closes its work, the
+    /// answer may be `Changed` with an older record than the ticket's.
     pub fn begin(&mut self, request: Request) -> Result<Ticket, (Request, DeskError)>
         requires { is_for_current request ≡ true }
         ensures known { IsPrefix self.old.known self.new.known }
@@ -185,14 +185,15 @@ impl<J: Naming> Session<J> {
         begun.map_err(|(request, _)| (request, DeskError::NoAccount))
     }
 
-    /// The answer of the verify's commit at the published book, whose list the session knows from
-    /// then on.
+    /// Returns the answer of the verify's commit at the published book, whose list the session
+    /// knows from then on.
     ///
-    /// Work of another session's ticket is judged like any other, at what this one reads.
+    /// The session judges the work of another session's ticket like any other, at the book that it
+    /// reads.
     ///
-    /// Errors: `Reader` if there is no book to read, as may be once its desk or committer was
-    /// ended; `Older` if the book that was read is older than what is known, which isn't met.
-    /// Nothing changes then, and the work comes back.
+    /// Errors: `Reader` if there is no book to read, as may be once its desk or committer has
+    /// ended; `Older` if the book that was read is older than what the session knows, which never
+    /// occurs. Nothing changes then, and the work comes back.
     pub fn close_verify(&mut self, work: VerifyWorked) -> Result<Reply, (VerifyWorked, DeskError)>
         ensures known { IsPrefix self.old.known self.new.known }
         ensures listed { IsListed J.loads J.opening self.new.known }
@@ -213,7 +214,7 @@ impl<J: Naming> Session<J> {
         Ok(reply)
     }
 
-    /// Knows what was told from then on, beside what it knew.
+    /// Learns what was told: from then on the session knows this beside what it knew.
     #[tactic(auto, using(crate::proofs::Lists::longer_ends))]
     pub fn learn(&mut self, told: &Told<J>)
         ensures mine { IsPrefix self.old.known self.new.known }
@@ -224,8 +225,8 @@ impl<J: Naming> Session<J> {
         self.know(told.front().again());
     }
 
-    /// Knows this list from now on, if it begins with the one that was known. Otherwise that one
-    /// goes on after it.
+    /// Makes this list the known one if it begins with the list that was known. Otherwise the known
+    /// list goes on after this one.
     fn know(&mut self, list: Front<J>) -> bool
         ensures known { MatchBool result (self.new.known ≡ list)
             (IsLonger list self.old.known × (self.new.known ≡ self.old.known)) }
@@ -241,8 +242,8 @@ impl<J: Naming> Session<J> {
     }
 }
 
-/// Begins the request in the book that is shown, and gives that book's list too. None if there is
-/// no book.
+/// Begins the request in the book that is shown, and returns that book's list too. Returns none if
+/// there is no book.
 fn begin_in<J: Naming>(
     reader: BookReader<J>,
     request: &Request,
@@ -263,8 +264,8 @@ fn begin_in<J: Naming>(
     }
 }
 
-/// The answer of the verify's commit at the book that is shown, and that book's list. None if no
-/// book is shown.
+/// Returns the answer of the verify's commit at the book that is shown, and that book's list, or
+/// none if no book is shown.
 fn judge_in<J: Naming>(
     reader: BookReader<J>,
     work: &VerifyWorked,

@@ -15,7 +15,7 @@ pub(crate) struct Tallies {
 }
 
 impl Tallies {
-    /// Empty ones, with room for so many sessions.
+    /// Returns empty tallies, with room for so many sessions.
     pub(crate) fn with_room(alloc: Global, sessions: u8) -> Result<Tallies, AllocError>
         ensures empty { IfOk result (λ t. (t.counts.items ≡ []) × (t.additions.items ≡ [])) }
         ensures room { IfOk result (λ t. (sessions ≤ vec_capacity t.counts)
@@ -28,7 +28,7 @@ impl Tallies {
         })
     }
 
-    /// The numbers of each of these sessions' changes and additions.
+    /// Returns the numbers of each of these sessions' changes and additions.
     pub(crate) fn written<J: Naming>(self, sessions: &[Session<J>]) -> Tallies
         requires empty { (self.counts.items ≡ []) × (self.additions.items ≡ []) }
         requires room { (length sessions.now ≤ vec_capacity self.counts)
@@ -54,12 +54,12 @@ impl Tallies {
 pub(crate) struct Counting<J: Naming> {
     pub(crate) entries: u64,
     pub(crate) total: Total<J>,
-    /// The share into which those of the sessions are merged: empty.
+    /// The share into which the shares of the sessions are merged; empty at first.
     pub(crate) all: Share<J>,
 }
 
 impl<J: Naming> Counting<J> {
-    /// The number of entries of other sessions than these.
+    /// Returns the number of entries of other sessions than these.
     pub(crate) fn missing(self, sessions: Vec<Session<J>>) -> u64
         requires none { (self.all.parts ≡ 0) × (self.all.amount ≡ 0) }
         requires entries { self.total.total ≡ self.entries }

@@ -38,14 +38,14 @@ impl<J: Naming> Told<J> {
         Told { front }
     }
 
-    /// The number of entries of the list.
+    /// Returns the number of entries of the list.
     pub fn len(&self) -> u64
         ensures { result ≡ length self.now }
     {
         self.front.len()
     }
 
-    /// The evidence that somebody was told this list, for `KeptDesk::tell`.
+    /// Returns the evidence that somebody was told this list, for `KeptDesk::tell`.
     pub fn heard(&self) -> Heard<J>
         ensures { result ≡ self.now }
     {
@@ -61,8 +61,8 @@ impl<J: Naming> Told<J> {
     }
 }
 
-/// The evidence that somebody was told a list. It has no bytes: contracts alone see the list, so a
-/// call with it does the same, whichever list it is.
+/// The evidence that somebody was told a list. The evidence has no bytes: contracts alone see the
+/// list, so the effect of a call with it doesn't depend on the list.
 #[derive(Drop)]
 pub struct Heard<J: Naming> {
     pub(crate) trace: Trace<Entry, Entries<J>>,

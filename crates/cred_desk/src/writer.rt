@@ -14,13 +14,15 @@ pub trait EntryWriter {
     ghost use Rattle.std.specs.Prelude.{List, ◌++◌, ◌∷◌, [], IfErr, IfOk};
     ghost use Rattle.cred_desk.specs.declared.entry.Entry.{Entry};
 
-    /// Why an entry isn't kept.
+    /// The reason why the writer doesn't keep an entry.
     type Error;
 
-    /// The entries that the writer keeps may be these, in this order, since it was handed over.
+    /// Whether the entries that the writer keeps, since it was handed over, may be these, in this
+    /// order.
     ghost keeps: { Self → List Entry → Type 0 };
 
-    /// Keeps an entry, after those that it keeps. If that fails it keeps what it kept.
+    /// Keeps an entry, after those that the writer keeps. If that fails, the writer keeps what it
+    /// kept.
     fn write(&mut self, new: &Entry) -> Result<(), Self::Error>
         ensures kept { IfOk result (λ _. (list : List Entry) → keeps self.old list
             → keeps self.new (list ++ new.entry.now ∷ [])) }
@@ -42,10 +44,10 @@ impl EntryWriter for Unkept {
     }
 }
 
-/// Why a desk that hands its entries to a writer refuses a change.
+/// The reason why a desk that hands its entries to a writer refuses a change.
 #[derive(Clone, Copy, Debug, Drop, PartialEq, Eq)]
 pub enum KeepError<E> {
-    /// The book's own refusal, or `Memory` if it runs out.
+    /// The book's own refusal, or `Memory` if memory runs out.
     Book(BookError),
     /// The writer refused the entry.
     Writer(E),
@@ -74,7 +76,7 @@ impl<E: fmt::Display> fmt::Display for KeepError<E> {
 
 impl<E: fmt::Debug + fmt::Display + Drop> Error for KeepError<E> {}
 
-/// Work that a desk didn't settle, and why.
+/// Work that a desk didn't settle, and the reason.
 #[derive(Drop)]
 pub struct Unsettled<E> {
     pub work: Worked,
@@ -82,7 +84,7 @@ pub struct Unsettled<E> {
 }
 
 impl<E> Unsettled<E> {
-    /// The work, to be settled again, and why it wasn't.
+    /// Returns the work, to be settled again, and the reason why it wasn't settled.
     pub fn into_parts(self) -> (Worked, KeepError<E>)
         ensures { result ≡ (self.work, self.error) }
     {

@@ -1,4 +1,4 @@
--- Base64 by the strict engine with no padding: a text decodes to bytes exactly where it is their
+-- Base64 by the strict engine with no padding: a text decodes to bytes exactly if it is their
 -- encoding.
 use Rattle.std.proofs.Common.{◌≡◌, ◌∙◌, ℕ, zero, suc, ◌+◌, ◌*◌, ◌/◌, ◌%◌, ◌<◌, ◌≤◌, ◌==◌, not, true, if◌then◌else◌, List, [], ◌∷◌, length, get_or, Some, None, Result, Ok, Err, arith, refl, ap, append-nil}
 use Rattle.std.proofs.{lemmas.Bool.Decides.nat_tests, lemmas.Option.cond_some}
@@ -14,7 +14,7 @@ pub length-base64 : (bytes : List ℕ) → length (base64 bytes) ≡ (4 * length
 unfolding base64
 length-base64 bytes = rw append-nil (length-encode_symbols (engine_symbols standard_no_pad) bytes)
 
--- what decodes is an encoding
+-- a text that decodes is an encoding
 pub unbase64_is : (text bytes : List ℕ) → IsBytes text → unbase64 text ≡ Ok bytes → text ≡ base64 bytes
 unfolding base64 unbase64
 unbase64_is text bytes h e = decode_of_strict standard_no_pad text bytes (refl, refl) h e
@@ -56,11 +56,11 @@ found_sized : (low high : ℕ) (r : Result (List ℕ) DecodeError) (bytes : List
 found_sized low high (Err e) bytes h = cc h
 found_sized low high (Ok b) bytes h = let is = cond_some _ _ _ h in (ap Ok is.1, rw is.1 at is.0)
 
--- what letters stand for is written by these letters
+-- bytes that letters stand for are written by these letters
 pub bytes_of_is : (low high : ℕ) (text bytes : List ℕ) → IsBytes text → bytes_of low high text ≡ Some bytes → text ≡ base64 bytes
 bytes_of_is low high text bytes is_bytes h = unbase64_is text bytes is_bytes (found_sized low high (unbase64 text) bytes h).0
 
--- what is written by letters is what they stand for
+-- letters that write bytes stand for these bytes
 pub bytes_of-base64 : (low high : ℕ) (bytes : List ℕ) → IsBytes bytes → between low high (length bytes) ≡ true → bytes_of low high (base64 bytes) ≡ Some bytes
 bytes_of-base64 low high bytes is_bytes fits = rw (unbase64-base64 bytes is_bytes, fits) refl
 

@@ -1,4 +1,4 @@
--- Bytes with zeros behind them, and bytes that don't differ.
+-- Bytes with zeros after them, and bytes that don't differ.
 use Rattle.std.proofs.Common.{◌≡◌, ◌↔◌, ℕ, ◌≤◌, nat_eq, List, ◌++◌, length, map, drop, replicate, arith}
 use Rattle.std.proofs.lemmas.Bool.Decides.{Decides-eqb, Decides-like, same_from_decides}
 use Rattle.std.proofs.lemmas.{Grind.common_steps, List.drop-replicate, List.drop_at, List.map-id, Slice.Eq.bytes_eq-Decides}

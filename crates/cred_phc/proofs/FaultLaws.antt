@@ -20,7 +20,7 @@ bind_assoc : {A B C : Type 0} (r : Result A PhcError) (f : A → Result B PhcErr
 bind_assoc (Ok x) f g = refl
 bind_assoc (Err fault) f g = refl
 
--- What follows a field agrees with the judges that are left.
+-- The reading after a field agrees with the judges that are left.
 abbrev Agrees : {A B : Type 0} → (A × List (List ℕ) → Result B PhcError) → A → List Judge → Type 0
 Agrees follow x judges = (rest : List (List ℕ)) → fault_in (follow (x, rest)) ≡ judgement judges rest
 
@@ -59,7 +59,7 @@ unfolding numbers_at
 numbers_law x y z fits scheme_of follow judges h [] = refl
 numbers_law x y z fits scheme_of follow judges h (field ∷ fields) = numbers_step fits scheme_of follow judges h (numbers_of x y z field) fields
 
--- what follows a scheme agrees with the judges of its salt and of what is last
+-- the reading after a scheme agrees with the judges of the salt and of the last field
 abbrev FollowsScheme : {B : Type 0} → (Scheme × List (List ℕ) → Result B PhcError) → List Judge → Type 0
 FollowsScheme follow last = (scheme : Scheme) → Agrees follow scheme (bytes_fault (salt_low scheme) 48 Salt ∷ last)
 
@@ -154,7 +154,7 @@ unfolding read_record record_fault fields_of
 record_fault_law text =
     text_step (nat_lt 512 (length text)) (pieces 36 text) _ _ (setting_law true _ (bytes_fault 4 64 Tag ∷ []) (λ v rest. tag_law (record_of v) rest) (pieces 36 text))
 
--- a text is refused with a fault exactly where the table finds that fault
+-- a text is refused with a fault exactly if the table finds that fault
 fault_back : {A : Type 0} (read : Result A PhcError) (fault : PhcError) → fault_in read ≡ Some fault → read ≡ Err fault
 fault_back (Ok x) fault e = cc e
 fault_back (Err other) fault e = cc e
@@ -163,7 +163,7 @@ pub fault_is : {A : Type 0} (read : Result A PhcError) (found : Option PhcError)
     → ((read ≡ Err fault) → (found ≡ Some fault)) × ((found ≡ Some fault) → (read ≡ Err fault))
 fault_is read found fault law = (λ refused. sym law ∙ ap fault_in refused, λ found. fault_back read fault (law ∙ found))
 
--- what a reader answers is judged by the table
+-- the table judges a reader's answer
 pub refused_with : {A : Type 0} (r read : Result A PhcError) (fault : Option PhcError) → r ≡ read → fault_in read ≡ fault → IfErr r (λ e. fault ≡ Some e)
 refused_with (Ok x) read fault same law = tt
 refused_with (Err e) read fault same law = sym law ∙ ap fault_in (sym same)

@@ -1,4 +1,4 @@
--- What one field stands for, and the one text that stands for it.
+-- The value of one field, and the one text of a value.
 use Rattle.std.proofs.Common.{◌≡◌, ◌∙◌, ℕ, ◌^◌, ◌<◌, Bool, true, false, if◌then◌else◌, List, [], ◌∷◌, ◌++◌, length, take, drop, Option, Some, None, decimal, refl, sym, ap}
 use Rattle.std.proofs.{lemmas.List.take-append-drop, lemmas.Slice.Eq.bytes_eq-Decides, Math.Seq.take-append_seam, Math.Seq.drop-append_seam}
 use Rattle.std.specs.{Char.is_ascii_digit, Str.bytes_eq}
@@ -28,7 +28,7 @@ labelled_is name piece n e fits =
 pub lacks-label : (byte : ℕ) (name : List ℕ) (n : ℕ) → is_ascii_digit byte ≡ false → lacks byte name ≡ true → n < 2 ^ 64 → lacks byte (label name n) ≡ true
 lacks-label byte name n other h fits = lacks-append byte name (decimal n) h (lacks-decimal byte n other fits)
 
--- three numbers that are written so are read
+-- three numbers are read from their text
 pub numbers_of-text : (x y z : List ℕ) (a b c : ℕ) → lacks 44 x ≡ true → lacks 44 y ≡ true → lacks 44 z ≡ true
     → a < 2 ^ 64 → b < 2 ^ 64 → c < 2 ^ 64 → numbers_of x y z (numbers_text x a y b z c) ≡ Some (a, b, c)
 unfolding numbers_of
@@ -48,7 +48,7 @@ numbers_from x y z (a ∷ b ∷ c ∷ []) n e f0 f1 f2 =
     rw (labelled_is x a n.0 is.0 f0, labelled_is y b n.1 is.1 f1, labelled_is z c n.2 is.2 f2) refl
 numbers_from x y z _ n e f0 f1 f2 = cc e
 
--- a field that is read as three numbers is written so
+-- a field that is read as three numbers is their text
 pub numbers_is : (x y z field : List ℕ) (n : ℕ × ℕ × ℕ) → numbers_of x y z field ≡ Some n
     → n.0 < 2 ^ 64 → n.1 < 2 ^ 64 → n.2 < 2 ^ 64 → field ≡ numbers_text x n.0 y n.1 z n.2
 unfolding numbers_of

@@ -1,4 +1,4 @@
--- What the functions that make tags are asked for.
+-- The parameters that the functions of tags get.
 use Rattle.std.proofs.{Common.◌≤◌, Common.ℕ, Common.IsTrue, Common.arith, lemmas.Bool.Decides.nat_tests}
 use Rattle.cred_argon.specs.{Parameters.parameters, Faults.IsFirstFault, declared.kind.Kind.Kind, declared.kind.Version.Version}
 use Rattle.cred_argon.specs.declared.error.ArgonError.{ArgonError}

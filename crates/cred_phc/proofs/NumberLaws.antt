@@ -31,7 +31,7 @@ push ds i numeral within =
 own : IsNumeralModel (λ ds. list_all is_ascii_digit ds ≡ true) (digits_value 10)
 own = numerals_by_value _ (search rules)
 
--- a zero stands first only alone
+-- a zero comes first only if it is the only digit
 abbrev HasNoLeadingZero : List ℕ → Type 0
 HasNoLeadingZero ds = get_or ds 0 0 ≡ 48 → length ds ≡ 1
 
@@ -52,13 +52,13 @@ decimal_first (suc n) fits h = absurd (omega (arith, first_decimal (suc n) (omeg
 read_at : (b : Bool) (v n : ℕ) → b ≡ true → v ≡ n → (if b then Some v else None) ≡ Some n
 read_at b v n h e = rw (h, e) refl
 
--- what is written in decimal is read as itself
+-- a number that is written in decimal is read as itself
 pub number_of-decimal : (n : ℕ) → n < 2 ^ 64 → number_of (decimal n) ≡ Some n
 unfolding number_of
 number_of-decimal n fits =
     read_at _ _ n (numeral (decimal n) (decimal_nonempty n fits) (digits_decimal own n fits) (decimal_first n fits)) (digits_value-decimal own n fits)
 
--- what is read as a number is that number in decimal
+-- digits that are read as a number are that number in decimal
 pub number_is : (ds : List ℕ) (n : ℕ) → number_of ds ≡ Some n → n < 2 ^ 64 → ds ≡ decimal n
 unfolding number_of
 number_is ds n e fits =

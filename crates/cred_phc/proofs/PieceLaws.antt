@@ -12,7 +12,7 @@ uncut_at : (b : Bool) (x n : ℕ) (xs : List ℕ) (parts : List (List ℕ)) → 
 uncut_at true x n xs parts below h = absurd (omega arith)
 uncut_at false x n xs parts below h = rw (below (omega arith)) refl
 
--- where no byte passes, the text is the one piece
+-- if no byte passes the test, the text is one piece
 uncut : (p : ℕ → Bool) (xs : List ℕ) → length xs ≤ position_or_len p xs → slice_split p xs ≡ xs ∷ []
 uncut p [] h = refl
 uncut p (x ∷ xs) h = uncut_at (p x) x (position_or_len p xs) xs (slice_split p xs) (uncut p xs) h
@@ -34,7 +34,7 @@ pub cut_none : (byte : ℕ) (text : List ℕ) → None ≡ position (λ b. b == 
 unfolding pieces
 cut_none byte text e = uncut (λ b. b == byte) text (ltb-false _ _ (if_none _ _ (sym e)))
 
--- the byte stands nowhere in the piece
+-- the piece doesn't have the byte
 abbrev pub lacks : ℕ → List ℕ → Bool
 lacks byte piece = list_all (λ b. not (b == byte)) piece
 
@@ -48,7 +48,7 @@ abbrev pub AllLack : ℕ → List (List ℕ) → Type 0
 AllLack byte [] = Unit {0}
 AllLack byte (piece ∷ pieces) = (lacks byte piece ≡ true) × AllLack byte pieces
 
--- what was joined by a byte that no piece has is cut into the same pieces
+-- pieces joined by a byte that no piece has are cut into the same pieces
 pub pieces-join : (byte : ℕ) (first : List ℕ) (more : List (List ℕ)) → AllLack byte (first ∷ more)
     → pieces byte (join_with_byte byte (first ∷ more)) ≡ first ∷ more
 unfolding pieces
@@ -57,7 +57,7 @@ pieces-join byte first (next ∷ more) h =
     slice_split_at (λ b. b == byte) first byte (join_with_byte byte (next ∷ more)) (lacking byte first h.0) (eq-eqb byte byte refl)
     ∙ ap (λ parts. first ∷ parts) (pieces-join byte next more h.1)
 
--- the same of fields that end in this one and those behind it
+-- likewise for fields that end in this one and those after it
 pub pieces-join_front : (byte : ℕ) (front : List (List ℕ)) (field : List ℕ) (back : List (List ℕ)) → AllLack byte (front ++ field ∷ back)
     → pieces byte (join_with_byte byte (front ++ field ∷ back)) ≡ front ++ field ∷ back
 pieces-join_front byte [] field back h = pieces-join byte field back h

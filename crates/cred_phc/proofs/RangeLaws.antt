@@ -1,4 +1,4 @@
--- Numbers are in their ranges where the types that keep them take them.
+-- Numbers are in their ranges if they fit the types that keep them.
 use Rattle.std.proofs.Common.{◌≡◌, ◌↔◌, inl, inr, ℕ, ◌≤◌, ◌<◌, ◌*◌, ◌^◌, Bool, true, false, Result, Ok, Err, IfOk, refl, sym, arith}
 use Rattle.std.proofs.{lemmas.Bool.cases_lt, lemmas.Bool.Decides.nat_tests}
 use Rattle.std.specs.Result.{is_ok}

@@ -1,4 +1,4 @@
--- The laws of reading: a text is read as a value exactly where it is the value's text.
+-- The laws of reading: a text is read as a value exactly if it is the value's text.
 use Rattle.std.proofs.Common.{◌≡◌, ◌∙◌, ℕ, Bool, ◌≤◌, nat_lt, not, true, false, List, [], ◌∷◌, ◌++◌, length, Some, Result, Ok, Err, IfOk, inl, inr, arith, refl, sym, ap, subst, append_assoc, length-append, lit≤, nat_le}
 use borrow.Author.Tests.{leb-true, le-ltb, not-true}
 use Rattle.std.specs.{Cmp.second_so, List.join_with_byte, Option.ok_or}
@@ -65,7 +65,7 @@ unfolding setting_text IsFront
 setting_text_is text v front (inl h) whole = (h.0, whole ∙ ap (λ f. join_with_byte 36 (f ++ base64 v.salt ∷ [])) h.1)
 setting_text_is text v front (inr h) whole = cc (h.0)
 
--- what is read as a setting is its text
+-- a text that is read as a setting is the setting's text
 pub found_setting : (text : List ℕ) (v : SettingValue) → IsBytes text → read_setting text ≡ Ok v → IsSettingText text v
 unfolding read_setting SettingIs
 found_setting text v is_bytes e =
@@ -95,7 +95,7 @@ unfolding record_text bare_text IsFront
 record_text_is text v front (inl h) whole = inl (whole ∙ ap (λ f. join_with_byte 36 (f ++ base64 v.setting.salt ∷ base64 v.tag ∷ [])) h.1)
 record_text_is text v front (inr h) whole = inr (not-true _ h.0, whole ∙ ap (λ f. join_with_byte 36 (f ++ base64 v.setting.salt ∷ base64 v.tag ∷ [])) h.1)
 
--- what is read as a record is its text
+-- a text that is read as a record is the record's text
 pub found_record : (text : List ℕ) (v : RecordValue) → IsBytes text → read_record text ≡ Ok v → IsRecordText text v
 unfolding read_record SettingIs
 found_record text v is_bytes e =
@@ -140,7 +140,7 @@ pub only_setting : (text : List ℕ) (v : SettingValue) → IsSetting v → IsSe
 unfolding read_setting IsFront
 only_setting text v h is = rw (is.1, setting_cut v h, setting_at-front false v (scheme_fields v.scheme) [] h (inl (is.0, refl))) refl
 
--- what is written of a setting of version 0x10 isn't read
+-- no reader reads the text of a setting of version 0x10
 pub old_setting : (v : SettingValue) → IsSetting v → is_current v.scheme ≡ false → read_setting (setting_text v) ≡ Err WrongVersion
 unfolding read_setting setting_at
 old_setting v h old = rw (setting_cut v h, old_scheme_refused v.scheme (base64 v.salt ∷ []) old) refl
@@ -192,7 +192,7 @@ pub old_texts_differ : (v : RecordValue) → is_current v.setting.scheme ≡ fal
 unfolding record_text bare_text
 old_texts_differ v old same = old_differ v.setting.scheme (base64 v.setting.salt) (base64 v.tag) old same
 
--- what a reader answers is a value in its ranges whose text was read
+-- a reader's answer is a value in its ranges whose text was read
 pub both_of : {A : Type 0} (P Q : A → Type 0) (r read : Result A PhcError) → r ≡ read → IfOk r P → ((v : A) → read ≡ Ok v → Q v) → IfOk r (λ v. P v × Q v)
 both_of P Q (Ok v) read same fits text = (fits, text v (sym same))
 both_of P Q (Err e) read same fits text = tt

@@ -33,17 +33,17 @@ name_is field name e = elim (some_choice (bytes_eq field (codes "argon2d")) (Nam
   ]
 ]
 
--- what a record's fields begin with, and a setting's where `old` isn't allowed
+-- the first fields of a record, and of a setting if `old` isn't allowed
 unfoldable pub IsFront : Bool → Scheme → List (List ℕ) → Type 0
 IsFront old scheme front = (((old || is_current scheme) ≡ true) × (front ≡ scheme_fields scheme))
     ⊎ (((old && not (is_current scheme)) ≡ true) × (front ≡ bare_fields scheme))
 
--- how a version stands in the fields: 0x13, or 0x10 written, or 0x10 left out
+-- the version in the fields: 0x13, or 0x10 written, or 0x10 left out
 VersionIs : Bool → List (List ℕ) → Version → List (List ℕ) → Type 0
 VersionIs old fields version rest = ((version ≡ V13) × (fields ≡ codes "v=19" ∷ rest))
     ⊎ (((old ≡ true) × (version ≡ V10) × (fields ≡ codes "v=16" ∷ rest)) ⊎ ((old ≡ true) × (version ≡ V10) × (fields ≡ rest)))
 
--- a field that is this text, and what stands behind it
+-- a field that is this text, and the fields after it
 field_is : {A : Type 0} (fields : List (List ℕ)) (field : List ℕ × List (List ℕ)) (text : List ℕ) (x y : A) (rest : List (List ℕ)) → fields ≡ field.0 ∷ field.1
     → bytes_eq field.0 text ≡ true → ◌≡◌ {A = A × List (List ℕ)} (x, field.1) (y, rest) → (y ≡ x) × (fields ≡ text ∷ rest)
 field_is fields field text x y rest whole same behind =
@@ -132,7 +132,7 @@ empty_is : (xs : List ℕ) → (length xs == 0) ≡ true → xs ≡ []
 empty_is [] h = refl
 empty_is (x ∷ xs) h = absurd (omega (arith, eqb-true _ _ h))
 
--- what is read as a scheme begins with its fields
+-- fields that are read as a scheme begin with the scheme's fields
 pub scheme_is : (old : Bool) (fields rest : List (List ℕ)) (scheme : Scheme) → scheme_at old fields ≡ Ok (scheme, rest)
     → (front : List (List ℕ)) × IsFront old scheme front × (fields ≡ front ++ rest)
 unfolding scheme_at
@@ -193,7 +193,7 @@ scheme_at-front old front rest (Scrypt ln r p) fits (inl h) =
     rw h.1 (scheme_at-name old NamesScrypt (codes "scrypt") _ refl ∙ scrypt_numbers_at ln r p rest fits)
 scheme_at-front old front rest (Scrypt ln r p) fits (inr h) = let no = second_so old false h.0 in cc no
 
--- where version 0x10 isn't allowed, it is refused
+-- version 0x10 is refused if it isn't allowed
 pub old_scheme_refused : (scheme : Scheme) (rest : List (List ℕ)) → is_current scheme ≡ false → scheme_at false (scheme_fields scheme ++ rest) ≡ Err WrongVersion
 unfolding argon_at version_at
 old_scheme_refused (Argon2 V10 variant m t p) rest old = scheme_at-name false (NamesArgon2 variant) (variant_name variant) _ (variant_named variant)

@@ -1,4 +1,4 @@
--- What each step of reading found, where it came out well.
+-- The value that each successful step of reading found.
 use Rattle.std.proofs.Common.{◌≡◌, ℕ, Bool, true, false, List, [], ◌∷◌, Option, Some, None, Result, Ok, Err, ◌⊎◌, inl, inr, refl, ap, if◌then◌else◌}
 use Rattle.std.specs.Option.{ok_or}
 use Rattle.cred_phc.specs.{declared.error.PhcError.PhcError, Reading.◌>>=◌, Reading.guard, Reading.next, Reading.end}

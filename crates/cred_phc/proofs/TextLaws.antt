@@ -1,4 +1,4 @@
--- The fields of a text: no `$` stands in one, they are short, and fields of bytes make a text of
+-- The fields of a text: no field has a `$`, fields are short, and fields of bytes make a text of
 -- bytes.
 use Rattle.std.proofs.Common.{◌≡◌, ℕ, suc, ◌+◌, ◌^◌, ◌<◌, ◌≤◌, lit≤, Bool, true, List, [], ◌∷◌, ◌++◌, length, inl, inr, codes, arith, refl, length-append}
 use Rattle.std.proofs.lemmas.Fmt.{length-decimal-le}
@@ -13,7 +13,7 @@ use Rattle.cred_argon.specs.{declared.kind.Version.Version, declared.kind.Versio
 use Rattle.cred_phc.proofs.{FieldLaws.lacks-label, PieceLaws.AllLack, PieceLaws.lacks, PieceLaws.lacks-append}
 use Rattle.cred_phc.proofs.SchemeLaws.{IsFront, argon_small, scrypt_small}
 
--- the room that fields take, with a `$` behind each
+-- the length of fields, with a `$` after each
 unfoldable pub room : List (List ℕ) → ℕ
 room [] = 0
 room (field ∷ fields) = length field + 1 + room fields
@@ -75,7 +75,7 @@ bare_fields_fit (Argon2 version variant m t p) fits =
     ((all.0.0, (all.0.1.0, (all.0.1.1.1.0, tt))), omega (arith, all.1))
 bare_fields_fit (Scrypt ln r p) fits = scheme_fields_fit (Scrypt ln r p) fits
 
--- what stands before the salt has no `$`, and is short
+-- the fields before the salt have no `$`, and are short
 pub front_fits : (old : Bool) (scheme : Scheme) (front : List (List ℕ)) → scheme_fits scheme ≡ true → IsFront old scheme front → AllLack 36 front × (room front ≤ 300)
 unfolding IsFront
 front_fits old scheme front fits (inl h) = rw h.1 (scheme_fields_fit scheme fits)

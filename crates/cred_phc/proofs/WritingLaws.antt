@@ -16,7 +16,7 @@ record_joined : (scheme : Scheme) (salt last : List ℕ) → join_with_byte 36 (
 record_joined (Argon2 version variant m t p) salt last = join-push 36 [] (drop 1 (scheme_fields (Argon2 version variant m t p)) ++ salt ∷ []) last
 record_joined (Scrypt ln r p) salt last = join-push 36 [] (drop 1 (scheme_fields (Scrypt ln r p)) ++ salt ∷ []) last
 
--- behind the scheme stands the salt
+-- the salt comes after the scheme
 pub setting_written : (v : SettingValue) (start between after salt : List ℕ) (scheme : Scheme) → start ≡ [] → scheme ≡ v.scheme → salt ≡ v.salt
     → between ≡ start ++ scheme_text scheme → after ≡ between ++ 36 ∷ base64 salt → after ≡ setting_text v
 unfolding setting_text scheme_text
@@ -24,7 +24,7 @@ setting_written v start between after salt scheme none same_scheme same_salt fir
     let front : between ≡ join_with_byte 36 (scheme_fields v.scheme) = first ∙ rw (none, same_scheme) refl in
     last ∙ rw (front, same_salt) (sym (setting_joined v.scheme (base64 v.salt)))
 
--- behind the setting stands the tag
+-- the tag comes after the setting
 pub record_written : (v : RecordValue) (between after : List ℕ) → between ≡ setting_text v.setting → after ≡ between ++ 36 ∷ base64 v.tag → after ≡ record_text v
 unfolding record_text setting_text
 record_written v between after setting tag =

@@ -1,4 +1,4 @@
--- Bytes in base64 with no padding (RFC 4648, section 4): `=` never stands, and the bits after the
+-- Bytes in base64 with no padding (RFC 4648, section 4): no text has `=`, and the bits after the
 -- last byte are zero.
 use Rattle.std.specs.Prelude.{ℕ, if◌then◌else◌, List, length, Option, Some, None, Result, Ok, Err}
 use Rattle.base64.specs.{declared.decode.DecodeError.DecodeError, Engines.standard_no_pad, GeneralPurpose.encode_of, GeneralPurpose.decode_of}

@@ -64,14 +64,14 @@ named_fault old last (Some (Argon2 variant)) fields =
     version_fault old (judges_of (Argon2 variant) ++ last) fields
 named_fault old last (Some Scrypt) fields = judgement (judges_of Scrypt ++ last) fields
 
--- nothing stands before the first `$`, and the name after it
+-- no byte comes before the first `$`, and the name comes after it
 abbrev pub fields_fault : Bool → List Judge → List (List ℕ) → Option PhcError
 fields_fault old last [] = Some Shape
 fields_fault old last (front ∷ []) = Some Shape
 fields_fault old last (front ∷ name ∷ fields) =
     first (unless (length front == 0) Shape) (named_fault old last (name_of name) fields)
 
--- a text that is too long is not looked at; any other is cut at each `$` (byte 36)
+-- a text that is too long is refused unread; any other is cut at each `$` (byte 36)
 abbrev pub text_fault : Bool → List Judge → List ℕ → Option PhcError
 text_fault old last text =
     if nat_lt MAX_TEXT (length text) then Some TooLong else fields_fault old last (pieces 36 text)

@@ -1,4 +1,4 @@
--- What one field of a text stands for.
+-- The value of one field of a text.
 use Rattle.std.specs.Prelude.{ℕ, List, [], ◌∷◌, length, drop, take, Option, Some, None, if◌then◌else◌}
 use Rattle.std.specs.Str.{bytes_eq}
 use Rattle.cred_phc.specs.declared.scheme.Variant.TheVariants.{D, I, Id}

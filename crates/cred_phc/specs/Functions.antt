@@ -1,4 +1,4 @@
--- What a function with all its numbers makes of a password and a salt.
+-- The key that a function with all its numbers derives from a password and a salt.
 use Rattle.std.specs.Prelude.{ℕ, List, []}
 use Rattle.cred_argon.specs.Argon.{argon}
 use Rattle.cred_scrypt.specs.Scrypt.{scrypt}
@@ -10,7 +10,7 @@ abbrev pub key : Function → List ℕ → List ℕ → List ℕ
 key (Argon2 a) pw salt = argon a pw salt [] []
 key (Scrypt a) pw salt = scrypt a.ln a.r a.p a.len pw salt
 
--- how many bytes it makes
+-- the number of bytes of the key
 abbrev pub key_len : Function → ℕ
 key_len (Argon2 a) = a.tag_len
 key_len (Scrypt a) = a.len

@@ -1,5 +1,5 @@
--- How variants and versions are named in texts: 0x13, the version of RFC 9106, is 19, and 0x10
--- is 16.
+-- The names of variants and versions in texts: 0x13, the version of RFC 9106, is 19, and 0x10 is
+-- 16.
 use Rattle.std.specs.Prelude.{ℕ, List, codes}
 pub use Rattle.cred_argon.specs.declared.kind.Version.{Version}
 pub use Rattle.cred_argon.specs.declared.kind.Version.TheVariants.{V10, V13}
@@ -14,11 +14,11 @@ variant_name Id = codes "argon2id"
 abbrev pub scrypt_name : List ℕ
 scrypt_name = codes "scrypt"
 
--- what stands before the number of a version
+-- the label before the number of a version
 abbrev pub version_label : List ℕ
 version_label = codes "v="
 
--- what stands before the numbers of Argon2, m, t and p, and of scrypt, ln, r and p
+-- the labels before the numbers m, t and p of Argon2, and ln, r and p of scrypt
 abbrev pub memory_label : List ℕ
 memory_label = codes "m="
 

@@ -19,9 +19,8 @@ abbrev pub argon_fits : ℕ → ℕ → ℕ → Bool
 argon_fits m t p =
     between 1 MAX_LANES p && between 1 MAX_PASSES t && between (8 * p) MAX_MEMORY m
 
--- RFC 7914, section 2: the cost 2 ^ ln is above 1 and below 2 ^ (16 * r).
--- It allows greater r and p, and more memory than 2 GiB (128 * r * 2 ^ ln bytes), which are the
--- most here.
+-- RFC 7914, section 2: the cost 2 ^ ln is above 1 and below 2 ^ (16 * r). The RFC allows greater r
+-- and p, and more memory than 2 GiB (128 * r * 2 ^ ln bytes), which are the most here.
 abbrev pub scrypt_fits : ℕ → ℕ → ℕ → Bool
 scrypt_fits ln r p =
     between 1 MAX_LN ln && between 1 MAX_BLOCK_SIZE r && between 1 MAX_BLOCKS p

@@ -1,5 +1,5 @@
--- Reading as a function: the value that a text stands for, or its fault. Contracts say of the
--- readers that they compute it, and that it agrees with the texts of values and with the table of
+-- Reading as a function: the value that a text stands for, or its fault. Contracts say that the
+-- readers compute this function, and that it agrees with the texts of values and with the table of
 -- faults.
 use Rattle.std.specs.Prelude.{◌≡◌, ℕ, List, [], ◌∷◌, length, take, Option, Some, None, Result, Ok, Err, Bool, true, false, nat_lt, ◌==◌, not, if◌then◌else◌}
 use Rattle.std.specs.{Option.ok_or, Str.bytes_eq}
@@ -124,7 +124,7 @@ read_record text =
     end tag.1 >>= λ _.
     Ok (record_of setting.0 tag.0)
 
--- What a function returned, seen by view, is what reading gives.
+-- The result of a function, seen by view, is the result of reading.
 abbrev pub Gives : {X Y : Type 0} → (X → Y) → Result X PhcError → Result Y PhcError → Type 0
 Gives view (Ok x) read = read ≡ Ok (view x)
 Gives view (Err e) read = read ≡ Err e

@@ -19,7 +19,7 @@ argon_numbers m t p = numbers_text memory_label m passes_label t parallelism_lab
 abbrev pub scrypt_numbers : ℕ → ℕ → ℕ → List ℕ
 scrypt_numbers ln r p = numbers_text cost_label ln block_size_label r parallelism_label p
 
--- nothing stands before the first `$`
+-- the field before the first `$` is empty
 abbrev pub scheme_fields : Scheme → List (List ℕ)
 scheme_fields (Argon2 version variant m t p) =
     [] ∷ variant_name variant ∷ version_text version ∷ argon_numbers m t p ∷ []

@@ -1,4 +1,4 @@
--- What contracts see of a setting, a tag, a record and a password, and their ranges.
+-- Settings, tags, records and passwords as contracts see them, and their ranges.
 use Rattle.std.specs.Prelude.{ℕ, List, length, Bool, if◌then◌else◌, not, Result, Ok, Err, Option, Some, None, IsTrue}
 use Rattle.base64.specs.GeneralPurpose.{IsBytes}
 use Rattle.cred_phc.specs.{declared.scheme.Scheme.Scheme, declared.error.PhcError.PhcError}
@@ -30,7 +30,7 @@ tag_fits tag = between MIN_TAG MAX_TAG (length tag)
 abbrev pub password_fits : List ℕ → Bool
 password_fits password = between 0 MAX_PASSWORD (length password)
 
--- inside the ranges; a list of numbers need not be one of bytes, so that is said too
+-- inside the ranges; a list of numbers need not be one of bytes, so a field says this too
 pub record IsSetting (v : SettingValue) : Type 0 where
   pub scheme : IsTrue (scheme_fits v.scheme)
   pub salt : IsTrue (salt_fits v.scheme v.salt)
@@ -48,17 +48,17 @@ pub record IsPassword (password : List ℕ) : Type 0 where
   pub fits : IsTrue (password_fits password)
   pub bytes : IsBytes password
 
--- what making a setting answers
+-- the answer of a call that makes a setting
 abbrev pub made_setting : Scheme → List ℕ → Result SettingValue PhcError
 made_setting scheme salt =
     if not (scheme_fits scheme) then Err Range
     else if not (salt_fits scheme salt) then Err Salt
     else Ok (setting_of scheme salt)
 
--- what making a record answers
+-- the answer of a call that makes a record
 abbrev pub made_record : SettingValue → List ℕ → Result RecordValue PhcError
 made_record setting tag = if not (tag_fits tag) then Err Tag else Ok (record_of setting tag)
 
--- what making a password answers
+-- the answer of a call that makes a password
 abbrev pub made_password : List ℕ → Option (List ℕ)
 made_password password = if password_fits password then Some password else None

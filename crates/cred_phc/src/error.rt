@@ -1,4 +1,5 @@
-//! Faults of texts that are no setting or record, and of making and writing these.
+//! Faults of texts that are no setting or record, and errors of calls that make or write these
+//! values.
 
 ghost use Rattle.std.specs.Prelude.{◌≡◌};
 ghost use Rattle.cred_phc.specs.{Errors.error_number, Errors.error_word, declared.error.PhcError.TheVariants.Memory as OutOfMemory};
@@ -30,7 +31,7 @@ pub enum PhcError {
     /// The tag isn't base64, or has a length outside its range.
     #[error("the tag is not base64, or has a length outside its range")]
     Tag,
-    /// No memory for the value or its text.
+    /// There was no memory for the value or its text.
     #[error("out of memory")]
     Memory,
     /// The text has over 512 bytes.
@@ -39,7 +40,7 @@ pub enum PhcError {
 }
 
 impl PhcError {
-    /// The number of the error, from 1 to 9.
+    /// Returns the number of the error, from 1 to 9.
     pub fn number(self) -> u8
         ensures { result ≡ error_number self }
     {
@@ -56,7 +57,7 @@ impl PhcError {
         }
     }
 
-    /// The name of the error in lower case, as `toolong`.
+    /// Returns the name of the error in lower case, such as `toolong`.
     pub fn word(self) -> &'static str
         ensures { result.now ≡ error_word self }
     {

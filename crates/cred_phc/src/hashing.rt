@@ -21,13 +21,13 @@ use thiserror::Error;
 /// The error of a password's tag.
 #[derive(Clone, Copy, Debug, PartialEq, Eq, Error)]
 pub enum TagError {
-    /// No memory for the work or the tag.
+    /// There was no memory for the work or the tag.
     #[error("out of memory")]
     Memory,
 }
 
 impl TagError {
-    /// The number of the error: 1.
+    /// Returns the number of the error: 1.
     pub fn number(self) -> u8
         ensures { result ≡ 1 }
     {
@@ -36,7 +36,7 @@ impl TagError {
         }
     }
 
-    /// The name of the error in lower case: `memory`.
+    /// Returns the name of the error in lower case: `memory`.
     pub fn word(self) -> &'static str
         ensures { result.now ≡ codes "memory" }
     {
@@ -46,9 +46,10 @@ impl TagError {
     }
 }
 
-/// The tag of `len` bytes, 4 to 64, that the setting gives the password: Argon2 with no secret and
-/// no associated data (RFC 9106, section 3.1), or scrypt (RFC 7914, section 6). The work is done by
-/// at most `workers` threads, behind the gate; the tag is the same for any number.
+/// Computes the tag of `len` bytes, 4 to 64, that the setting gives the password. The function is
+/// Argon2 with no secret and no associated data (RFC 9106, section 3.1), or scrypt (RFC 7914,
+/// section 6). At most `workers` threads do the work, behind the gate. The tag is the same for any
+/// number of workers.
 ///
 /// Errors: `Memory` if there is too little for the setting.
 pub fn tag_of<R: Threads + Sync, G: Gate + Sync>(
@@ -136,8 +137,8 @@ pub fn tag_in<G: Gate>(
     }
 }
 
-/// The setting's parameters of Argon2 for a tag of `len` bytes, 4 to 64; `None` for a setting of
-/// scrypt.
+/// Returns the setting's parameters of Argon2 for a tag of `len` bytes, 4 to 64, or `None` for a
+/// setting of scrypt.
 pub fn argon2_params(setting: &Setting, len: u8) -> Option<Params>
     requires low { 4 ≤ len }
     requires high { len ≤ 64 }
@@ -163,7 +164,7 @@ enum Function {
 }
 
 impl Function {
-    /// The setting's function, for a tag of `len` bytes.
+    /// Returns the setting's function, for a tag of `len` bytes.
     #[tactic(auto, unfolding(crate::specs::Tags::tag))]
     fn of(setting: &Setting, len: u8) -> Function
         requires low { 4 ≤ len }
@@ -184,8 +185,8 @@ impl Function {
     }
 }
 
-/// The tag of the bytes that a function made. A function refuses no input of a setting, so only
-/// want of memory leaves it without bytes.
+/// Returns the tag of the bytes that a function computed. A function refuses no input of a setting,
+/// so only want of memory leaves it without bytes.
 fn tag_made<E: Drop>(made: Result<Vec<u8>, E>) -> Result<Tag, TagError>
     requires low { IfOk made (λ v. 4 ≤ length v.items) }
     requires high { IfOk made (λ v. length v.items ≤ 64) }
@@ -206,7 +207,7 @@ fn tag_from(bytes: &[u8]) -> Tag
 {
     match Tag::new(bytes) {
         Some(tag) => {
-            // A tag is in its range, which its accessor tells.
+            // The length of a tag is in its range, as its accessor says.
             prove!(tag.bytes().len() <= MAX_TAG);
             tag
         }

@@ -1,4 +1,4 @@
-//! Laws of `==` and of the definitions that contracts cite. A law about definitions is a
+//! Laws of `==`, and laws of the definitions that contracts cite. A law about definitions is a
 //! function that does nothing.
 
 ghost use Rattle.std.specs.Prelude.{◌≡◌, ◌↔◌, ◌++◌, codes, false, replicate, true, IsTrue, List, ℕ};
@@ -18,49 +18,49 @@ use crate::setting::Setting;
 use crate::tag::Tag;
 use cred_argon::Version;
 
-/// `==` of records, which is equality of all their parts.
+/// Compares records by `==`, which is equality of all their parts.
 pub fn equal_records(a: &Record, b: &Record) -> bool
     ensures { IsTrue result ↔ (a.now ≡ b.now) }
 {
     a == b
 }
 
-/// `==` of schemes, which is equality of name, version and numbers.
+/// Compares schemes by `==`, which is equality of name, version and numbers.
 pub fn equal_schemes(x: Scheme, y: Scheme) -> bool
     ensures { IsTrue result ↔ (x ≡ y) }
 {
     x == y
 }
 
-/// `==` of settings, which is equality of scheme and salt.
+/// Compares settings by `==`, which is equality of scheme and salt.
 pub fn equal_settings(setting: &Setting, other: &Setting) -> bool
     ensures { IsTrue result ↔ (setting.now ≡ other.now) }
 {
     setting == other
 }
 
-/// `==` of tags, which is equality of their bytes.
+/// Compares tags by `==`, which is equality of their bytes.
 pub fn equal_tags(tag: &Tag, other: &Tag) -> bool
     ensures { IsTrue result ↔ (tag.now ≡ other.now) }
 {
     tag == other
 }
 
-/// `==` of passwords, which is equality of their bytes.
+/// Compares passwords by `==`, which is equality of their bytes.
 pub fn equal_passwords(password: &Password, other: &Password) -> bool
     ensures { IsTrue result ↔ (password.now ≡ other.now) }
 {
     password == other
 }
 
-/// `==` of variants, which is equality.
+/// Compares variants by `==`, which is equality.
 pub fn equal_variants(variant: Variant, other: Variant) -> bool
     ensures { IsTrue result ↔ (variant ≡ other) }
 {
     variant == other
 }
 
-/// `==` of versions, which is equality.
+/// Compares versions by `==`, which is equality.
 pub fn equal_versions(version: Version, other: Version) -> bool
     ensures { IsTrue result ↔ (version ≡ other) }
 {
@@ -83,9 +83,10 @@ pub fn two_old_texts()
         → record_text v ≡ bare_text v → ⊥ }
 {}
 
-/// Reading is the grammar. A value that is read has the text as one of its texts; each text of a
-/// value in its ranges is read as that value; a text is refused exactly with its first fault.
-/// `parse_setting` and `parse_record` say that a value that is read is in its ranges.
+/// Reading is the grammar: a value that a call reads has the text as one of its texts. Each text of
+/// a value in its ranges is read as that value, and a text is refused exactly with its first fault.
+/// The contracts of `parse_setting` and `parse_record` say that a value that they return is in its
+/// ranges.
 pub fn reading_is_the_grammar()
     ensures setting_found { (text : List ℕ) (v : SettingValue) → IsBytes text
         → read_setting text ≡ Ok v → IsSettingText text v }
@@ -116,7 +117,7 @@ pub fn old_not_read()
         → read_setting (setting_text v) ≡ Err PhcError.Version }
 {}
 
-/// The texts that other programs write of these records, and of the setting of one.
+/// States the texts that other programs write of these records, and of the setting of one.
 pub fn known_texts()
     ensures argon2id { record_text argon2id_record
         ≡ codes
@@ -137,8 +138,8 @@ pub fn known_texts()
         ≡ codes "$argon2id$v=19$m=256,t=2,p=1$c29tZXNhbHQ" }
 {}
 
-/// The faults of some damaged texts: the first from the left, and none in a record of version 0x10
-/// that leaves its version out.
+/// States the faults of some damaged texts: the first from the left. A record of version 0x10 that
+/// leaves its version out has no fault.
 pub fn known_faults()
     ensures only_a_dollar { record_fault (codes "$") ≡ Some PhcError.Scheme }
     ensures no_version_number { record_fault (codes
@@ -164,7 +165,8 @@ pub fn known_faults()
     ensures too_long { record_fault (replicate 513 120) ≡ Some PhcError.TooLong }
 {}
 
-/// The ranges of bytes, which definitions take from the constants of this crate, as numbers.
+/// States a law: the ranges of bytes that definitions take from this crate's constants are these
+/// numbers.
 pub fn ranges_are_these_numbers()
     ensures text { MAX_TEXT ≡ 512 }
     ensures password { MAX_PASSWORD ≡ 256 }

@@ -1,5 +1,6 @@
 //! Password strings in the PHC string format: settings and records of Argon2 (RFC 9106) and scrypt
-//! (RFC 7914), read from text and written as text, and the tags that settings give passwords.
+//! (RFC 7914). The crate reads them from text, writes them as text, and computes the tags that
+//! settings give passwords.
 #![tactic(auto)]
 
 mod error;

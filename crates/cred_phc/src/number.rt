@@ -5,7 +5,7 @@ ghost use Rattle.cred_phc.specs.{Fields.labelled_number, Fields.numbers_of, Numb
 
 use crate::pieces::Pieces;
 
-/// Digits without a leading zero.
+/// Whether the bytes are digits without a leading zero.
 fn is_numeral(digits: &[u8]) -> bool
     ensures { result ≡ is_numeral digits.now }
 {
@@ -22,8 +22,8 @@ fn all_digits(text: &[u8]) -> bool
     text.iter().all(|byte| byte.is_ascii_digit())
 }
 
-/// The value of a decimal numeral without a leading zero; the greatest `u64` in place of a greater
-/// value. `None` if the bytes aren't such a numeral.
+/// Returns the value of a decimal numeral without a leading zero, or the greatest `u64` for a
+/// greater value. Returns `None` if the bytes aren't such a numeral.
 #[tactic(auto, using(crate::proofs::NumberLaws::push), unfolding(crate::specs::Number::number_of))]
 pub fn decimal(digits: &[u8]) -> Option<u64>
     ensures { result ≡ option_map saturation (number_of digits.now) }
@@ -46,7 +46,7 @@ fn labelled_number(piece: &[u8], label: &str) -> Option<u64>
     decimal(piece.strip_prefix(label.as_bytes())?)
 }
 
-/// The three numbers of a field, each after its label and with commas between.
+/// Returns the three numbers of a field, each after its label and with commas between.
 #[tactic(auto, unfolding(crate::specs::Fields::numbers_of))]
 pub(crate) fn numbers(
     field: &[u8],

@@ -17,7 +17,8 @@ use crate::setting::Setting;
 use crate::tag::Tag;
 use cred_argon::Version;
 
-/// A longer text is refused unread. No text of a value has even half as many bytes.
+/// The length in bytes over which the readers refuse a text unread. No text of a value has even
+/// half as many bytes.
 const MAX_TEXT: usize = 512;
 
 /// The kind of value that a text is read as.
@@ -39,8 +40,8 @@ impl Form {
     }
 }
 
-/// The setting of a text, such as `$argon2id$v=19$m=256,t=2,p=1$c29tZXNhbHQ`. A text of
-/// version 0x10 is refused: new records are of version 0x13.
+/// Returns the setting of a text, such as `$argon2id$v=19$m=256,t=2,p=1$c29tZXNhbHQ`. The function
+/// refuses a text of version 0x10: new records are of version 0x13.
 ///
 /// Errors: `TooLong` if the text has over 512 bytes; otherwise, by the first field from the left
 /// that is wrong or missing, `Shape`, `Scheme`, `Version`, `Params`, `Range` or `Salt`.
@@ -54,8 +55,8 @@ pub fn parse_setting(text: &[u8]) -> Result<Setting, PhcError>
     whole_setting(text)
 }
 
-/// The record that a text stands for: a setting's text, then `$` and the tag in base64. A record of
-/// version 0x10 has `$v=16` or no version.
+/// Returns the record that a text stands for: a setting's text, then `$` and the tag in base64. A
+/// record of version 0x10 has `$v=16` or no version.
 ///
 /// Errors: `TooLong` if the text has over 512 bytes; otherwise, by the first field from the left
 /// that is wrong or missing, `Shape`, `Scheme`, `Version`, `Params`, `Range`, `Salt` or `Tag`.
@@ -69,7 +70,7 @@ pub fn parse_record(text: &[u8]) -> Result<Record, PhcError>
     whole_record(text)
 }
 
-/// The one reader of settings, of which `parse_setting` says more.
+/// Reads settings, as `parse_setting` describes.
 #[tactic(auto, unfolding(crate::specs::Reading::read_setting))]
 fn whole_setting(text: &[u8]) -> Result<Setting, PhcError>
     ensures exact { result ≡ read_setting text.now }
@@ -81,7 +82,7 @@ fn whole_setting(text: &[u8]) -> Result<Setting, PhcError>
     Ok(setting)
 }
 
-/// The one reader of records, of which `parse_record` says more.
+/// Reads records, as `parse_record` describes.
 #[tactic(auto, unfolding(crate::specs::Reading::read_record))]
 fn whole_record(text: &[u8]) -> Result<Record, PhcError>
     ensures exact { result ≡ read_record text.now }
@@ -94,7 +95,7 @@ fn whole_record(text: &[u8]) -> Result<Record, PhcError>
     Ok(Record::with_tag(setting, tag))
 }
 
-/// The fields of a text, with `$` between them.
+/// Returns the fields of a text, with `$` between them.
 #[tactic(auto, unfolding(crate::specs::Reading::fields_of))]
 fn fields(text: &[u8]) -> Result<Pieces<'_>, PhcError>
     ensures { Gives (λ v. v) result (fields_of text.now) }
@@ -136,7 +137,7 @@ fn name(field: &[u8]) -> Option<SchemeName>
     }
 }
 
-/// The version of Argon2.
+/// Returns the version of Argon2.
 #[tactic(auto, unfolding(crate::specs::Reading::version_at))]
 fn version(fields: &mut Pieces<'_>, form: Form) -> Result<Version, PhcError>
     ensures { Gives (λ version. (version, fields.new)) result

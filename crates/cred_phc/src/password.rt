@@ -10,7 +10,7 @@ use std::marker::Model;
 /// The length of the longest password in bytes, which gives passwords a fixed size.
 pub const MAX_PASSWORD: usize = 256;
 
-/// At most 256 bytes of any value, of which `{:?}` shows none.
+/// At most 256 bytes of any value. `{:?}` shows none of them.
 #[derive(Clone, Copy, PartialEq, Eq)]
 pub struct Password {
     bytes: ShortBytes<MAX_PASSWORD>,
@@ -41,7 +41,7 @@ impl fmt::Debug for Password {
 }
 
 impl Password {
-    /// These bytes, if there are at most 256 of them.
+    /// Returns a password of these bytes, if there are at most 256 of them.
     pub fn new(bytes: &[u8]) -> Option<Password>
         ensures { result ≡ made_password bytes.now }
     {
@@ -49,8 +49,8 @@ impl Password {
         Some(Password { bytes })
     }
 
-    /// The 1 to 256 bytes that these letters encode, in base64 with no padding (RFC 4648,
-    /// section 4).
+    /// Returns the password of the 1 to 256 bytes that these letters encode, in base64 with no
+    /// padding (RFC 4648, section 4).
     pub fn from_base64(letters: &[u8]) -> Option<Password>
         ensures { result ≡ bytes_of 1 MAX_PASSWORD letters.now }
     {
@@ -58,7 +58,7 @@ impl Password {
         Some(Password { bytes })
     }
 
-    /// The bytes, at most 256.
+    /// Returns the bytes, at most 256.
     pub fn bytes(&self) -> &[u8]
         ensures value { result.now ≡ self.now }
         ensures ranges { IsPassword self.now }

@@ -25,7 +25,7 @@ impl<'a> Model for Pieces<'a> {
 }
 
 impl<'a> Pieces<'a> {
-    /// All pieces of the text, between the separators.
+    /// Returns all pieces of the text, between the separators.
     pub fn new(text: &'a [u8], separator: u8) -> Pieces<'a>
         ensures { result ≡ pieces separator text.now }
     {
@@ -35,7 +35,7 @@ impl<'a> Pieces<'a> {
         }
     }
 
-    /// The piece that `next` will give.
+    /// Returns the piece that `next` will return.
     pub fn peek(&self) -> Option<&'a [u8]>
         ensures { option_copied result ≡ slice_get self.now 0 }
     {
@@ -55,7 +55,7 @@ impl<'a> Pieces<'a> {
     }
 }
 
-/// The piece before the first `byte`, and the text after that byte, if it occurs.
+/// Returns the piece before the first `byte`, and the text after that byte, if the byte occurs.
 #[tactic(auto, using(crate::proofs::PieceLaws::cut_first, crate::proofs::PieceLaws::cut_none))]
 fn cut(text: &[u8], byte: u8) -> (&[u8], Option<&[u8]>)
     ensures { pieces byte text.now ≡ result.0.now ∷ pieces_left byte (option_copied result.1) }

@@ -28,7 +28,7 @@ impl Model for Record {
 }
 
 impl Record {
-    /// This setting with a tag of 4 to 64 bytes.
+    /// Returns the record of this setting with a tag of 4 to 64 bytes.
     ///
     /// Errors: `Tag` if the tag has another length.
     pub fn new(setting: Setting, tag: &[u8]) -> Result<Record, PhcError>
@@ -41,18 +41,18 @@ impl Record {
         Ok(Record::with_tag(setting, tag))
     }
 
-    /// This setting with this tag.
+    /// Returns the record of this setting with this tag.
     pub fn with_tag(setting: Setting, tag: Tag) -> Record
         ensures made { result ≡ record_of setting tag }
         ensures ranges { IsRecord result }
     {
-        // A setting and a tag are in their ranges, which their accessors tell.
+        // A setting and a tag are in their ranges, as their accessors say.
         prove!(setting.salt().len() <= MAX_SALT);
         prove!(tag.bytes().len() <= MAX_TAG);
         Record { setting, tag }
     }
 
-    /// The setting under which the password was hashed.
+    /// Returns the setting under which the password was hashed.
     pub fn setting(&self) -> Setting
         ensures value { result ≡ self.now.setting }
         ensures ranges { IsRecord self.now }
@@ -60,7 +60,7 @@ impl Record {
         self.setting
     }
 
-    /// The tag of the password.
+    /// Returns the tag of the password.
     pub fn tag(&self) -> Tag
         ensures value { result ≡ self.now.tag }
         ensures ranges { IsRecord self.now }

@@ -5,7 +5,7 @@ ghost use Rattle.rand_core.specs.Stream.{fill_bytes};
 
 use rand_core::Rng;
 
-/// The next 16 bytes of the source, as many as RFC 9106, section 3.1 recommends for a salt.
+/// Returns the next 16 bytes of the source, as many as RFC 9106, section 3.1 recommends for a salt.
 pub fn draw_salt<R: Rng>(source: &mut R) -> [u8; 16]
     ensures { (result, R.stream source.new) ≡ fill_bytes 16 (R.stream source.old) }
 {

@@ -1,4 +1,4 @@
-//! Schemes: the function that makes a record's tag, with its numbers.
+//! Schemes: the function that computes a record's tag, with its numbers.
 
 ghost use Rattle.std.specs.Prelude.{◌≡◌, IfSome, IsTrue};
 ghost use Rattle.cred_phc.specs.{Names.variant_name, Names.version_text, Reading.argon_of, Reading.scrypt_of};
@@ -18,7 +18,7 @@ pub enum Variant {
 /// The fewest bytes of a salt of Argon2 (RFC 9106, section 3.1).
 pub(crate) const MIN_ARGON2_SALT: usize = 8;
 
-/// The fewest bytes of a salt of scrypt, so that each record has one.
+/// The fewest bytes of a salt of scrypt, so that each record has a salt.
 pub(crate) const MIN_SCRYPT_SALT: usize = 1;
 
 /// A function of passwords with its cost.
@@ -29,7 +29,7 @@ pub(crate) const MIN_SCRYPT_SALT: usize = 1;
 ///   below 16 `r`; the block size `r` and the parallelization `p`, each at least 1. `r` times the
 ///   cost is at most 2^24, so that `ln` is at most 23 and memory at most 2 GiB.
 ///
-/// A `Scheme` may be outside these ranges; that of a `Setting` isn't.
+/// A `Scheme` may be outside these ranges, but the scheme of a `Setting` isn't.
 #[derive(Clone, Copy, Debug, PartialEq, Eq)]
 pub enum Scheme {
     Argon2 {
@@ -74,7 +74,7 @@ pub(crate) const BLOCK_SIZE_LABEL: &str = "r=";
 /// The label of Argon2's lanes, and of scrypt's parallelization.
 pub(crate) const PARALLELISM_LABEL: &str = "p=";
 
-/// The field that names the version in a text.
+/// Returns the field that names the version in a text.
 pub(crate) fn version_text(version: Version) -> &'static str
     ensures { result.now ≡ version_text version }
 {
@@ -85,7 +85,7 @@ pub(crate) fn version_text(version: Version) -> &'static str
 }
 
 impl Variant {
-    /// The name of Argon2 with this variant in a text.
+    /// Returns the name of Argon2 with this variant in a text.
     pub(crate) fn name(self) -> &'static str
         ensures { result.now ≡ variant_name self }
     {
@@ -98,7 +98,7 @@ impl Variant {
 }
 
 impl Scheme {
-    /// Argon2 with these numbers, if they are in their ranges.
+    /// Returns Argon2 with these numbers, if they are in their ranges.
     pub(crate) fn argon(
         version: Version,
         variant: Variant,
@@ -126,7 +126,7 @@ impl Scheme {
         })
     }
 
-    /// scrypt with these numbers, if they are in their ranges.
+    /// Returns scrypt with these numbers, if they are in their ranges.
     pub(crate) fn scrypt(ln: u64, r: u64, p: u64) -> Option<Scheme>
         ensures value { result ≡ scrypt_of (ln, r, p) }
         ensures ranges { IfSome result (λ scheme. IsTrue (scheme_fits scheme)) }
@@ -152,7 +152,7 @@ impl Scheme {
         }
     }
 
-    /// The least number of bytes of a salt.
+    /// Returns the least number of bytes of a salt.
     pub(crate) fn least_salt(&self) -> usize
         ensures { result ≡ salt_low self.now }
     {

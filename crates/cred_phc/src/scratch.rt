@@ -7,8 +7,8 @@ use std::alloc::Global;
 use std::marker::Model;
 use std::mem;
 
-/// Memory for one tag after another, by [`tag_in`](crate::tag_in). Up to a bound it is kept from
-/// tag to tag, filled with zeros.
+/// Memory for the tags that [`tag_in`](crate::tag_in) computes one after another. The scratch keeps
+/// the memory from tag to tag, up to a bound, filled with zeros.
 #[derive(Drop)]
 pub struct Scratch {
     /// The maximum number of KiB that are kept.
@@ -16,7 +16,7 @@ pub struct Scratch {
     memory: Memory,
 }
 
-/// The memory of the function that made the last tag.
+/// The memory of the function that computed the last tag.
 #[derive(Drop)]
 enum Memory {
     Argon2(ArgonScratch),
@@ -35,8 +35,8 @@ impl Model for Scratch {
 }
 
 impl Scratch {
-    /// A scratch without memory. Between two tags it keeps at most this many KiB: memory above them
-    /// is freed.
+    /// Returns a scratch without memory. Between two tags it keeps at most `most` KiB, and frees
+    /// the rest.
     pub fn new(alloc: Global, most: u32) -> Scratch
         ensures { result ≡ most }
     {
@@ -46,7 +46,7 @@ impl Scratch {
         }
     }
 
-    /// The number of KiB that are kept now.
+    /// Returns the number of KiB that are kept now.
     pub fn kept(&self) -> usize
         ensures { result ≤ self.now }
     {
@@ -56,7 +56,7 @@ impl Scratch {
         }
     }
 
-    /// The memory of Argon2; memory of scrypt is freed.
+    /// Returns the memory of Argon2, and frees any memory of scrypt.
     pub(crate) fn take_argon2(&mut self, alloc: Global) -> ArgonScratch
         ensures taken { result ≡ self.old }
         ensures most { self.new ≡ self.old }
@@ -68,7 +68,7 @@ impl Scratch {
         }
     }
 
-    /// The memory of scrypt; memory of Argon2 is freed.
+    /// Returns the memory of scrypt, and frees any memory of Argon2.
     pub(crate) fn take_scrypt(&mut self, alloc: Global) -> ScryptScratch
         ensures taken { result ≡ self.old }
         ensures most { self.new ≡ self.old }

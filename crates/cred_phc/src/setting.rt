@@ -33,10 +33,10 @@ impl Model for Setting {
 }
 
 impl Setting {
-    /// This scheme with this salt.
+    /// Returns the setting of this scheme with this salt.
     ///
     /// Errors: `Range` if one of the scheme's numbers is outside its range; otherwise `Salt` if the
-    /// salt's length is.
+    /// salt's length is outside its range.
     pub fn new(scheme: Scheme, salt: &[u8]) -> Result<Setting, PhcError>
         ensures made { result ≡ made_setting scheme salt.now }
         ensures ranges { IfOk result IsSetting }
@@ -50,7 +50,8 @@ impl Setting {
         Ok(Setting { scheme, salt })
     }
 
-    /// This scheme, whose numbers are in their ranges, with the salt that these letters encode.
+    /// Returns the setting of this scheme, whose numbers are in their ranges, with the salt that
+    /// these letters encode.
     pub(crate) fn from_base64(scheme: Scheme, letters: &[u8]) -> Option<Setting>
         requires { IsTrue (scheme_fits scheme) }
         ensures { result
@@ -60,7 +61,7 @@ impl Setting {
         Some(Setting { scheme, salt })
     }
 
-    /// The scheme with its numbers.
+    /// Returns the scheme with its numbers.
     pub fn scheme(&self) -> Scheme
         ensures value { result ≡ self.now.scheme }
         ensures ranges { IsSetting self.now }
@@ -68,7 +69,7 @@ impl Setting {
         self.scheme
     }
 
-    /// The bytes of the salt, at most 48.
+    /// Returns the bytes of the salt, at most 48.
     pub fn salt(&self) -> &[u8]
         ensures value { result.now ≡ self.now.salt }
         ensures ranges { IsSetting self.now }

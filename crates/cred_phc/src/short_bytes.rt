@@ -1,4 +1,4 @@
-//! Bytes within a value, which is copied without an allocation.
+//! Bytes within a value that code can copy without an allocation.
 
 ghost use Rattle.std.specs.Prelude.{◌≡◌, ◌≤◌, length, if◌then◌else◌};
 ghost use Rattle.base64.specs.GeneralPurpose.{IsBytes};
@@ -8,10 +8,10 @@ use crate::secret::difference;
 use cred_base64::{decode, decoded_len};
 use std::marker::Model;
 
-/// The longest `CAP` that is read from letters.
+/// The greatest `CAP` that `from_base64` can decode.
 const MOST_BYTES: usize = 256;
 
-/// The number of letters that encode so many bytes.
+/// The number of letters that encode `MOST_BYTES` bytes.
 const MOST_LETTERS: usize = 342;
 
 /// At most `CAP` bytes. The room after them is zero, so that equal bytes are equal values.
@@ -41,7 +41,7 @@ impl<const CAP: usize> Model for ShortBytes<CAP> {
 }
 
 impl<const CAP: usize> ShortBytes<CAP> {
-    /// These bytes, if there are at least `low` of them and at most `CAP`.
+    /// Returns these bytes, if there are at least `low` of them and at most `CAP`.
     pub fn new(bytes: &[u8], low: usize) -> Option<ShortBytes<CAP>>
         ensures { result ≡ (if between low CAP (length bytes.now) then Some bytes.now else None) }
     {
@@ -59,8 +59,8 @@ impl<const CAP: usize> ShortBytes<CAP> {
         })
     }
 
-    /// The bytes that these letters encode, in base64 with no padding (RFC 4648, section 4), if
-    /// there are at least `low` of them and at most `CAP`, which is at most 256.
+    /// Returns the bytes that these letters encode, in base64 with no padding (RFC 4648, section
+    /// 4), if there are `low` to `CAP` of them. `CAP` is at most 256.
     pub fn from_base64(letters: &[u8], low: usize) -> Option<ShortBytes<CAP>>
         requires { CAP ≤ 256 }
         ensures { result ≡ bytes_of low CAP letters.now }
@@ -76,7 +76,7 @@ impl<const CAP: usize> ShortBytes<CAP> {
         }
     }
 
-    /// The bytes, without the room after them.
+    /// Returns the bytes, without the room after them.
     pub fn as_slice(&self) -> &[u8]
         ensures value { result.now ≡ self.now }
         ensures fits { length self.now ≤ CAP }
@@ -95,8 +95,8 @@ impl<const CAP: usize> PartialEq for ShortBytes<CAP> {
 
     ghost laws = { partial_equiv_from_equiv nat_list_eq_equiv };
 
-    /// No branch depends on a byte but for the verdict: the bytes are combined by
-    /// [`difference`](crate::secret::difference), which can't look at one.
+    /// Compares the bytes by [`difference`](crate::secret::difference), which can't look at one. So
+    /// no branch depends on a byte, except by the verdict.
     fn eq(&self, other: &Self) -> bool {
         let (these, those) = (self.as_slice(), other.as_slice());
         if these.len() != those.len() {

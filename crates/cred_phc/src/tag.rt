@@ -6,7 +6,8 @@ ghost use Rattle.cred_phc.specs.{Base64.bytes_of, Ranges.MIN_TAG, Ranges.MAX_TAG
 use crate::short_bytes::ShortBytes;
 use std::marker::Model;
 
-/// The least tag of Argon2 (RFC 9106, section 3.1), which is the least of scrypt here too.
+/// The length of the shortest tag in bytes: of Argon2 by RFC 9106, section 3.1, and here of scrypt
+/// too.
 const MIN_TAG: usize = cred_argon::MIN_TAG as usize;
 
 /// The length of the longest tag in bytes, which gives records a fixed size.
@@ -32,7 +33,7 @@ impl Model for Tag {
 }
 
 impl Tag {
-    /// These bytes, if there are 4 to 64 of them.
+    /// Returns a tag of these bytes, if there are 4 to 64 of them.
     pub fn new(bytes: &[u8]) -> Option<Tag>
         ensures { result ≡ (if tag_fits bytes.now then Some bytes.now else None) }
     {
@@ -40,7 +41,7 @@ impl Tag {
         Some(Tag { bytes })
     }
 
-    /// The 4 to 64 bytes that these letters encode.
+    /// Returns the tag of the 4 to 64 bytes that these letters encode.
     pub(crate) fn from_base64(letters: &[u8]) -> Option<Tag>
         ensures { result ≡ bytes_of MIN_TAG MAX_TAG letters.now }
     {
@@ -48,7 +49,7 @@ impl Tag {
         Some(Tag { bytes })
     }
 
-    /// The 4 to 64 bytes.
+    /// Returns the 4 to 64 bytes.
     pub fn bytes(&self) -> &[u8]
         ensures value { result.now ≡ self.now }
         ensures ranges { IsTag self.now }

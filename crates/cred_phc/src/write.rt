@@ -18,17 +18,17 @@ use itoa::Buffer;
 use std::alloc::{AllocError, Global};
 
 /// The length of the longest text of a setting: `$argon2id$v=19$m=2097152,t=4294967295,p=255$` and
-/// 64 letters of salt.
+/// the 64 letters of a salt.
 const LONGEST_SETTING: usize = 108;
 
-/// The length of the longest text of a record: with `$` and the letters of a tag.
+/// The length of the longest text of a record: that of a setting, `$` and the letters of a tag.
 const LONGEST_RECORD: usize = 195;
 
-/// The letters of the longest tag.
+/// The number of letters of the longest tag.
 const LONGEST_LETTERS: usize = 86;
 
-/// The text of a setting, as `$scrypt$ln=10,r=8,p=16$TmFDbA`. A text of version 0x10 can't be
-/// read again.
+/// Returns the text of a setting, such as `$scrypt$ln=10,r=8,p=16$TmFDbA`. `parse_setting` refuses
+/// the text of a setting of version 0x10.
 ///
 /// Errors: `Memory` if memory for the text runs out.
 pub fn write_setting(alloc: Global, setting: &Setting) -> Result<Vec<u8>, PhcError>
@@ -39,8 +39,8 @@ pub fn write_setting(alloc: Global, setting: &Setting) -> Result<Vec<u8>, PhcErr
     Ok(setting_in(alloc, LONGEST_SETTING, setting)?)
 }
 
-/// The text of a record, which is read as this record: its setting's, then `$` and the tag in
-/// base64. One of version 0x10 is written with `$v=16`.
+/// Returns the text of a record, which `parse_record` reads as this record: the setting's text,
+/// then `$` and the tag in base64. The text of a record of version 0x10 has `$v=16`.
 ///
 /// Errors: `Memory` if memory for the text runs out.
 #[tactic(auto, using(crate::proofs::WritingLaws::record_written))]
@@ -54,7 +54,7 @@ pub fn write_record(alloc: Global, stored: &Record) -> Result<Vec<u8>, PhcError>
     Ok(text)
 }
 
-/// The text of a setting, with room for `capacity` bytes.
+/// Returns the text of a setting, with room for `capacity` bytes.
 fn setting_in(alloc: Global, capacity: usize, setting: &Setting) -> Result<Vec<u8>, AllocError>
     ensures text { IfOk result (λ text. text.items ≡ setting_text setting.now) }
     ensures ranges { OnOk result (IsSetting setting.now) }
@@ -122,7 +122,7 @@ impl Labelled {
     }
 }
 
-/// A field with three numbers, each after its label.
+/// Appends a field with three numbers, each after its label.
 fn push_numbers(
     text: &mut String,
     first: Labelled,
@@ -149,7 +149,7 @@ fn push_number(text: &mut String, number: Labelled) -> Result<(), AllocError>
     text.push_str(Buffer::new().format(number.number))
 }
 
-/// A field with the letters of the bytes, at most as many bytes as a tag has.
+/// Appends a field with the letters of the bytes, at most as many bytes as a tag may have.
 #[tactic(auto, unfolding(crate::specs::Base64::base64, cred_base64::specs::Letters::letters_of))]
 fn push_bytes(text: &mut Vec<u8>, bytes: &[u8]) -> Result<(), AllocError>
     requires { length bytes.now ≤ MAX_TAG }

@@ -1,4 +1,4 @@
--- What makes a closure a crew.
+-- The property that makes a closure a crew.
 use Rattle.std.specs.Prelude.{ℕ, ◌<◌, List, length, slice_index_or}
 use denote.Ref.{Bor, MutBor}
 use denote.Param.Members.{Shared}

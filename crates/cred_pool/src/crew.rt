@@ -3,7 +3,7 @@ ghost use Rattle.std.specs.Prelude.{ℕ, ◌<◌, length, slice_index_or};
 
 use crate::part::Part;
 
-/// Works all the parts, each once: threads, or the caller's thread alone. Code in parts can be
+/// Works all the parts, each once, in threads or on the caller's thread alone. So code in parts is
 /// written once, for any crew.
 pub trait Crew<C, P: Part<C>> {
     ghost ready: { Self → Type 0 };
@@ -17,8 +17,8 @@ pub trait Crew<C, P: Part<C>> {
             → P.works shared.now (slice_index_or parts.old i d) (slice_index_or parts.new i d) };
 }
 
-/// A closure as a crew, such as one that calls [`run_parts`](crate::run_parts). It is ready if the
-/// closure's own contract says that each part is worked.
+/// A closure as a crew, such as one that calls [`run_parts`](crate::run_parts). The crew is ready
+/// if the closure's own contract says that the closure works each part.
 #[derive(Drop)]
 pub struct CrewFn<F> {
     pub work_each: F,

@@ -1,12 +1,12 @@
 //! The gate around the work of each part.
 
-/// Called before and after the work of each part, on the thread that does the work. A gate can
-/// watch the parts, or hold one back until another has arrived.
+/// Sees each part begin and end: the thread that works a part calls the gate before and after the
+/// work. A gate can watch the parts, or hold one back until another has arrived.
 pub trait Gate {
-    /// The work of the part with this index is about to begin.
+    /// Hears that the work of the part with this index is about to begin.
     fn enter(&self, part: usize);
 
-    /// The work of the part with this index has ended.
+    /// Hears that the work of the part with this index has ended.
     fn leave(&self, part: usize);
 }
 

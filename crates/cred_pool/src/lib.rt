@@ -3,8 +3,8 @@
 //!
 //! [`run_parts`] works each part once, in a limited number of threads. Its contract relates each
 //! part after the run to the part before it and to the value that all parts share. [`NoGate`] is
-//! the gate that lets every part through. A [`Crew`] is what works the parts: a closure, by a
-//! [`CrewFn`], or a type of the caller's own.
+//! the gate that lets every part through. A [`Crew`] works the parts: a closure in a [`CrewFn`], or
+//! a type of the caller's own.
 #![tactic(auto)]
 
 mod crew;

@@ -21,12 +21,12 @@ pub trait Part<C> {
         ensures { works shared.now self.old self.new };
 }
 
-/// Works each part once, in at most `workers` new threads, and waits for them. The gate's `enter`
-/// and `leave` are called with the part's index before and after its work. Each thread gets a run
-/// of neighbouring parts, all runs but the last being of one length.
+/// Works each part once, in at most `workers` new threads, and waits for them. The thread that
+/// works a part calls the gate's `enter` before and `leave` after the work, with the part's index.
+/// Each thread gets a run of neighbouring parts. All runs but the last have one length.
 ///
-/// If `workers` is 0 or 1, or there are fewer than two parts, no thread is started. If a thread
-/// can't be started, the other threads work its parts, so the call can't fail.
+/// If `workers` is 0 or 1, or there are fewer than two parts, the call starts no thread. If a
+/// thread doesn't start, the other threads work its parts, so the call can't fail.
 pub fn run_parts<R: Threads + Sync, G: Gate + Sync, C: Sync, P: Part<C> + Send>(
     rt: &R,
     workers: u8,
@@ -78,8 +78,8 @@ fn run_from<R: Threads + Sync, G: Gate + Sync, C: Sync, P: Part<C> + Send>(
     run_both(rt, gate, shared, runs, run, rest);
 }
 
-/// Works a run in a new thread and starts the rest from here, so that one thread starts all the
-/// others and does no work itself: a new thread often gets the processor of the thread that
+/// Works a run in a new thread, and starts the rest from this thread. So one thread starts all the
+/// others, and does no work itself. A new thread often gets the processor of the thread that
 /// started it, and then one of the two waits for milliseconds.
 #[cycle(runs)]
 fn run_both<R: Threads + Sync, G: Gate + Sync, C: Sync, P: Part<C> + Send>(

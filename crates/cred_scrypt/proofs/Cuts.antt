@@ -3,7 +3,7 @@ use Rattle.std.proofs.Common.{◌≡◌, ◌<◌, ◌≤◌, ℕ, zero, suc, ◌
 use Rattle.std.proofs.{lemmas.List.length-take-le, Math.ListN.get_or-append, Math.Seq.get_or-append_seam}
 use Rattle.cred_scrypt.specs.Scrypt.{words_of, piece}
 
--- what holds of each element, and of one that is pushed, holds of each afterwards
+-- a fact of each element, and of one that is pushed, holds of each element afterwards
 pub each_pushed : {X : Type 0} (P : ℕ → X → Type 0) (xs : List X) (x : X)
     → ((k : ℕ) (d : X) → k < length xs → P k (get_or xs k d)) → P (length xs) x
     → (k : ℕ) (d : X) → k < length (xs ++ x ∷ []) → P k (get_or (xs ++ x ∷ []) k d)

@@ -1,5 +1,6 @@
--- The definition of HMAC-SHA-256 gives the vectors of RFC 4231, sections 4.2, 4.3 and 4.7, and that
--- of PBKDF2 the first vector of RFC 7914, section 11, and a key of two iterations that OpenSSL made.
+-- The definition of HMAC-SHA-256 gives the vectors of RFC 4231, sections 4.2, 4.3 and 4.7. The
+-- definition of PBKDF2 gives the first vector of RFC 7914, section 11, and a key of two iterations
+-- by OpenSSL.
 use Rattle.std.proofs.Common.{◌≡◌, refl, replicate, codes}
 use Rattle.std.specs.{List.range_with_len, Int.bytes_high_first}
 use Rattle.sha2.specs.Sha256.{sha256, digest_bytes, hash_after, compress, rounds, schedule, first_words}

@@ -1,4 +1,4 @@
--- What holds of each word of four vectors.
+-- Facts of each word of four vectors.
 use Rattle.std.proofs.Common.{◌≡◌, ℕ, ◌<◌, ◌-◌, ◌*◌, ◌/◌, ◌%◌, ◌^◌, List, [], ◌∷◌, length, slice_index, bit_or, arith, refl, subst, sym}
 use Rattle.std.proofs.NetLemmas.Arrays.{four_items, sixteen_items}
 use Rattle.std.specs.{Simd.Lanes.zip2, Int.w32, Int.rotate_left}
@@ -7,7 +7,7 @@ use borrow.Enum.Match.{each_below}
 below_four : (P : ℕ → Type 0) → P 0 → P 1 → P 2 → P 3 → (j : ℕ) → j < 4 → P j
 below_four P p0 p1 p2 p3 = each_below 4 P (p3, (p2, (p1, (p0, tt))))
 
--- what holds of each list of four words
+-- a fact of each list of four words
 four_lanes : (P : List ℕ → Type 0) → ((a b c d : ℕ) → P (a ∷ b ∷ c ∷ d ∷ [])) → (xs : List ℕ) → length xs ≡ 4 → P xs
 four_lanes P p xs h = subst P (sym (four_items xs h)) (p _ _ _ _)
 

@@ -6,7 +6,7 @@ use Rattle.cred_scrypt.specs.Xor.{xor_all}
 use Rattle.cred_scrypt.specs.Mixing.{block_at, block_mix, mixes, little_endian, integerify, second_loop, ro_mix}
 use Rattle.cred_scrypt.specs.Table.{IsTable, row_at}
 
--- a row that stood stays as the next one is appended
+-- a row stays as it is when the next one is appended
 row_at-append_le : (r : ℕ) (table x : List ℕ) (i : ℕ) → 32 * r * i + 32 * r ≤ length table
     → row_at r (table ++ x) i ≡ row_at r table i
 row_at-append_le r table x i inside =
@@ -30,7 +30,7 @@ one_row_more r b table x n t next width = record {
       (row_at-append_end r table x n t.size width ∙ next);
 }
 
--- of a number in words, the low bits are those of its low word
+-- the low bits of a number in words are those of its low word
 little_endian-mod : (words : List ℕ) (ln : ℕ) → ln ≤ 32
     → little_endian words % 2 ^ ln ≡ get_or words 0 0 % 2 ^ ln
 unfolding little_endian

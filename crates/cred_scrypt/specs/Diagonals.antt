@@ -1,5 +1,5 @@
--- How the code holds a block of sixteen words while it is mixed: in four vectors, each of a
--- diagonal of the square of four rows of four words.
+-- A block of sixteen words as the code holds it for mixing: in four vectors, each of a diagonal of
+-- the square of four rows of four words.
 use Rattle.std.specs.Prelude.{ℕ, List, [], ◌∷◌, slice_index, slice_index_or}
 
 -- lane j of vector k

@@ -1,4 +1,4 @@
--- What a key leaves in the two hashers of its HMAC. No public contract speaks of it.
+-- The states of the two hashers of a key's HMAC. No public contract speaks of it.
 use Rattle.std.specs.Prelude.{List, ℕ}
 use Rattle.sha2.specs.Hashers.{Holds256}
 use Rattle.cred_scrypt.specs.{declared.hmac.Hmac.Hmac, Hmac.inner_pad, Hmac.outer_pad}

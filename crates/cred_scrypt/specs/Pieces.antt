@@ -7,12 +7,12 @@ abbrev pub AreCut : ℕ → List ℕ → List Piece → Type 0
 AreCut r b pieces = (k : ℕ) (d : Piece) → k < length pieces
     → (slice_index_or pieces k d).words.items ≡ piece r b k
 
--- each piece has the words that ROMix wants
+-- each piece has as many words as ROMix needs
 abbrev pub AreWhole : ℕ → List Piece → Type 0
 AreWhole r pieces = (k : ℕ) (d : Piece) → k < length pieces
     → length (slice_index_or pieces k d).words.items ≡ 32 * r
 
--- each piece that was not refused its table is that of the bytes b after ROMix
+-- each piece that got a table is the piece of the bytes b after ROMix
 abbrev pub AreMixed : ℕ → ℕ → List ℕ → List Piece → Type 0
 AreMixed ln r b pieces = (k : ℕ) (d : Piece) → k < length pieces
     → (slice_index_or pieces k d).refused ≡ false

@@ -29,7 +29,7 @@ pub fn block_mix(from: &[u32], into: &mut [u32])
     }
 }
 
-/// Block `i` of sixteen words.
+/// Returns block `i` of sixteen words.
 #[inline(always)]
 fn block(from: &[u32], i: usize) -> [u32x4; 4]
     requires { 16 * i + 16 ≤ length from.now }
@@ -40,7 +40,7 @@ fn block(from: &[u32], i: usize) -> [u32x4; 4]
     diagonals_of(&x)
 }
 
-/// The next X of the chain, from block `i`.
+/// Computes the next X of the chain, from block `i`.
 #[inline(always)]
 fn chain(x: &mut [u32x4; 4], from: &[u32], i: usize)
     requires { 16 * i + 16 ≤ length from.now }

@@ -1,11 +1,11 @@
 //! A block of sixteen words in four vectors, each of a diagonal of the square of four rows of four
-//! words, so that Salsa20/8 works on four quarter rounds at once.
+//! words. So Salsa20/8 does four quarter rounds at once.
 ghost use Rattle.std.specs.{Prelude.◌≡◌, Prelude.ℕ, Prelude.◌<◌, Prelude.[], Prelude.◌∷◌, Prelude.bit_xor, Prelude.slice_index, Simd.Lanes.zip2};
 ghost use Rattle.cred_scrypt.specs.{Diagonals.block_of, Diagonals.transposed, Salsa.add32, Xor.xor_all};
 
 use std::simd::u32x4;
 
-/// The diagonals of a block.
+/// Returns the diagonals of a block.
 #[inline(always)]
 #[tactic(auto, using(crate::proofs::Lanes::sixteen))]
 pub(crate) fn diagonals_of(x: &[u32; 16]) -> [u32x4; 4]
@@ -19,7 +19,7 @@ pub(crate) fn diagonals_of(x: &[u32; 16]) -> [u32x4; 4]
     ]
 }
 
-/// The block of these diagonals.
+/// Returns the block of these diagonals.
 #[inline(always)]
 pub(crate) fn block_of(x: [u32x4; 4]) -> [u32; 16]
     ensures { result ≡ block_of x }
@@ -33,7 +33,7 @@ pub(crate) fn block_of(x: [u32x4; 4]) -> [u32; 16]
     ]
 }
 
-/// The block with rows and columns exchanged.
+/// Exchanges the rows and columns of a block.
 #[inline(always)]
 #[tactic(auto, unfolding(crate::specs::Diagonals::transposed))]
 pub(crate) fn transposed(x: [u32x4; 4]) -> [u32x4; 4]
@@ -47,7 +47,7 @@ pub(crate) fn transposed(x: [u32x4; 4]) -> [u32x4; 4]
     ]
 }
 
-/// The words one place to the left, the first behind the others.
+/// Rotates the words to the left by one place.
 #[inline(always)]
 fn turned(x: u32x4) -> u32x4
     ensures { result
@@ -56,7 +56,7 @@ fn turned(x: u32x4) -> u32x4
     x.swizzle([1, 2, 3, 0])
 }
 
-/// The XOR of two blocks.
+/// Returns the XOR of two blocks.
 #[inline(always)]
 pub(crate) fn xored(x: [u32x4; 4], y: [u32x4; 4]) -> [u32x4; 4]
     ensures { block_of result ≡ xor_all (block_of x) (block_of y) }
@@ -69,7 +69,7 @@ pub(crate) fn xored(x: [u32x4; 4], y: [u32x4; 4]) -> [u32x4; 4]
     ]
 }
 
-/// The sums of the words of two blocks.
+/// Returns the sums of the words of two blocks.
 #[inline(always)]
 pub(crate) fn added(x: [u32x4; 4], y: [u32x4; 4]) -> [u32x4; 4]
     ensures { block_of result ≡ zip2 add32 (block_of x) (block_of y) }
@@ -82,7 +82,7 @@ pub(crate) fn added(x: [u32x4; 4], y: [u32x4; 4]) -> [u32x4; 4]
     ]
 }
 
-/// The exclusive or, word by word.
+/// Returns the exclusive or, word by word.
 #[inline(always)]
 pub(crate) fn xor(x: u32x4, y: u32x4) -> u32x4
     ensures { (j : ℕ) → j < 4 → slice_index result j ≡ bit_xor (slice_index x j) (slice_index y j) }
@@ -90,7 +90,7 @@ pub(crate) fn xor(x: u32x4, y: u32x4) -> u32x4
     x ^ y
 }
 
-/// The sum, word by word.
+/// Returns the sum, word by word.
 #[inline(always)]
 pub(crate) fn sum(x: u32x4, y: u32x4) -> u32x4
     ensures { (j : ℕ) → j < 4 → slice_index result j ≡ add32 (slice_index x j) (slice_index y j) }

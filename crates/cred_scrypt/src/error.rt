@@ -1,4 +1,4 @@
-//! Why a call of this crate was refused.
+//! The errors of this crate's calls.
 
 ghost use Rattle.std.specs.Prelude.{◌≡◌};
 ghost use Rattle.cred_scrypt.specs.{Errors.error_number, Errors.error_word, declared.error.ScryptError.TheVariants.Memory as OutOfMemory};
@@ -6,7 +6,7 @@ ghost use Rattle.cred_scrypt.specs.{Errors.error_number, Errors.error_word, decl
 use std::alloc::{AllocError, AllocFailed};
 use thiserror::Error;
 
-/// Why parameters were refused, or that memory ran out.
+/// The reason why a call refused parameters, or that memory ran out.
 #[derive(Clone, Copy, Debug, PartialEq, Eq, Error)]
 pub enum ScryptError {
     /// The cost is out of range, too high for the block size, or its table would exceed 2 GiB.
@@ -15,19 +15,19 @@ pub enum ScryptError {
     /// The block size is 0.
     #[error("the block size is 0")]
     BlockSize,
-    /// There are no pieces: p is 0.
+    /// The number of pieces, p, is 0.
     #[error("the parallelization is 0")]
     Blocks,
     /// The length of the key is not 4 to 64 bytes.
     #[error("the key is not 4 to 64 bytes long")]
     Len,
-    /// Out of memory: there was not enough for the pieces, a table or the key.
+    /// There was not enough memory for the pieces, a table or the key.
     #[error("out of memory")]
     Memory,
 }
 
 impl ScryptError {
-    /// The number of the error, from 1 to 5.
+    /// Returns the number of the error, from 1 to 5.
     pub fn number(self) -> u8
         ensures { result ≡ error_number self }
     {
@@ -40,7 +40,7 @@ impl ScryptError {
         }
     }
 
-    /// The name of the error in lower case, such as `blocksize`.
+    /// Returns the name of the error in lower case, such as `blocksize`.
     pub fn word(self) -> &'static str
         ensures { result.now ≡ error_word self }
     {

@@ -1,5 +1,5 @@
-//! HMAC-SHA-256 (RFC 2104, section 2). A key's hashers are kept, so that the key is processed once
-//! for many messages.
+//! HMAC-SHA-256 (RFC 2104, section 2). An `Hmac` keeps a key's hashers, so the code processes the
+//! key once for many messages.
 ghost use Rattle.std.specs.Prelude.{◌≡◌, ℕ, ◌≤◌, ◌++◌, List, length, drop};
 ghost use Rattle.sha2.specs.Hashers.{Holds256};
 ghost use Rattle.cred_scrypt.specs.Hmac.{hmac, inner_pad, key_block, xor_with_byte};
@@ -15,8 +15,8 @@ const INNER: u8 = 0x36;
 
 const OUTER: u8 = 0x5c;
 
-/// HMAC-SHA-256 (RFC 2104, section 2) of `msg` under `key`: 32 bytes. Key and message may have any
-/// length.
+/// Computes HMAC-SHA-256 (RFC 2104, section 2) of `msg` under `key`: 32 bytes. Key and message may
+/// have any length.
 pub fn hmac_sha256(key: &[u8], msg: &[u8]) -> [u8; 32]
     ensures { result ≡ hmac key.now msg.now }
 {
@@ -36,7 +36,7 @@ pub(crate) struct Hmac {
 impl Hmac {
     ghost use Rattle.cred_scrypt.specs.Keyed.{IsKeyed};
 
-    /// The hashers of `key`.
+    /// Returns the hashers of `key`.
     pub(crate) fn new(key: &[u8]) -> Hmac
         ensures { IsKeyed key.now result }
     {
@@ -47,14 +47,14 @@ impl Hmac {
         }
     }
 
-    /// A hasher for a message; once it has taken the message in, hand it to `finish`.
+    /// Returns a hasher for a message. Feed it the message, and then hand it to `finish`.
     pub(crate) fn begin(&self) -> Sha256
         ensures { (key : List ℕ) → IsKeyed key self.now → Holds256 result (inner_pad key) }
     {
         copy_of(&self.inner)
     }
 
-    /// The HMAC of the message that `hasher` took in after `begin`.
+    /// Returns the HMAC of the message that the caller fed to `hasher` after `begin`.
     pub(crate) fn finish(&self, hasher: Sha256) -> [u8; 32]
         ensures { (key message : List ℕ) → IsKeyed key self.now
             → Holds256 hasher (inner_pad key ++ message)
@@ -66,7 +66,7 @@ impl Hmac {
     }
 }
 
-/// The key, or its digest if the key is longer than a block, padded with zeros.
+/// Returns the key, or its digest if the key is longer than a block, padded with zeros.
 fn key_block(key: &[u8]) -> [u8; 64]
     ensures { result ≡ key_block key.now }
 {
@@ -87,7 +87,7 @@ fn put(block: &mut [u8; 64], piece: &[u8])
     block[..piece.len()].copy_from_slice(piece);
 }
 
-/// Each byte of `block` XOR `mask`.
+/// Returns each byte of `block` XOR `mask`.
 fn masked(block: &[u8; 64], mask: u8) -> [u8; 64]
     ensures { result ≡ xor_with_byte mask block.now }
 {
@@ -96,14 +96,14 @@ fn masked(block: &[u8; 64], mask: u8) -> [u8; 64]
     out
 }
 
-/// A hasher that took in `message`.
+/// Returns a hasher after `message`.
 fn hasher_of(message: &[u8]) -> Sha256
     ensures { Holds256 result message.now }
 {
     Sha256::new_with_prefix(message)
 }
 
-/// A copy, which allocates no memory and so can't fail.
+/// Copies a hasher. The copy allocates no memory, so it can't fail.
 fn copy_of(hasher: &Sha256) -> Sha256
     ensures { result ≡ hasher.now }
 {

@@ -14,9 +14,9 @@ use std::alloc::Global;
 use std::marker::Sync;
 use std::thread::Threads;
 
-/// scrypt (RFC 7914, section 6): the key of a password and a salt, each of any length. The pieces
-/// are mixed in at most `workers` new threads, each piece between the gate's `enter` and `leave`
-/// with its index. A piece has a table of 128 * r * N bytes while it is mixed.
+/// Computes scrypt (RFC 7914, section 6): the key of a password and a salt, each of any length. At
+/// most `workers` new threads mix the pieces, each piece between the gate's `enter` and `leave`
+/// with its index. A piece needs a table of 128 * r * N bytes while a thread mixes it.
 ///
 /// Errors: `Memory` if there is not enough for a table, for the 128 * r * p bytes of the pieces or
 /// for the key.
@@ -47,12 +47,12 @@ pub fn scrypt<R: Threads + Sync, G: Gate + Sync>(
     key_of(alloc, params, pw, &pieces)
 }
 
-/// The same key with all work on the caller's thread, so that no runtime is needed: the pieces are
-/// mixed in turn, with the gate around each. Their table is kept from key to key, up to the
-/// scratch's bound. So a thread that derives many keys doesn't have the system take it back each
-/// time. A key never reads what an earlier one left there.
+/// Computes the same key on the caller's thread, without a runtime. The thread mixes the pieces in
+/// turn, with the gate around each. The scratch keeps their table from key to key, up to its bound.
+/// So the table doesn't go back to the system after each of many keys. No derivation reads what an
+/// earlier one left in the table.
 ///
-/// The errors are the same, and leave the scratch good for the next key.
+/// The errors are the same. The scratch can still serve the next key.
 pub fn scrypt_in<G: Gate>(
     scratch: &mut ScryptScratch,
     alloc: Global,
@@ -72,7 +72,7 @@ pub fn scrypt_in<G: Gate>(
     key_of(alloc, params, pw, &pieces)
 }
 
-/// The pieces before they are mixed (step 1).
+/// Computes the pieces before they are mixed (step 1).
 fn first_pieces(
     alloc: Global,
     params: &ScryptParams,
@@ -89,7 +89,7 @@ fn first_pieces(
     Piece::cut(alloc, usize::from(params.r), usize::from(params.p), &bytes)
 }
 
-/// The key that the mixed pieces give (step 3).
+/// Derives the key from the mixed pieces (step 3).
 ///
 /// Errors: `Memory` if a piece had no table, or if there is not enough for the key.
 fn key_of(
@@ -109,7 +109,7 @@ fn key_of(
     pbkdf2(alloc, pw, &mixed, 1, params.len)
 }
 
-/// The length of all pieces in bytes.
+/// Returns the length of all pieces in bytes.
 fn pieces_len(params: &ScryptParams) -> u32
     ensures { result ≡ 128 * params.now.r * params.now.p }
 {

@@ -2,8 +2,8 @@
 //! Salsa20/8, BlockMix and ROMix.
 //!
 //! [`scrypt`] derives a key from a password and a salt. Worker threads mix its p pieces, and the
-//! key is the standard's whatever their number. [`scrypt_in`] mixes them on the caller's thread,
-//! with a table that is kept from key to key.
+//! key is the standard's, however many threads work. [`scrypt_in`] mixes the pieces on the caller's
+//! thread, and keeps its table from key to key.
 #![tactic(auto)]
 
 mod blockmix;

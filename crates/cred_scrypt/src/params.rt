@@ -23,7 +23,7 @@ pub const MIN_LEN: u32 = 4;
 /// The longest key in bytes that a record can hold.
 pub const MAX_LEN: u32 = 64;
 
-/// A law: the ranges that definitions take from the constants above are these numbers.
+/// States a law: the ranges that definitions take from the constants above are these numbers.
 pub fn ranges_are_these_numbers()
     ensures rows { MAX_ROWS ≡ 16777216 }
     ensures ln { MAX_LN ≡ 24 }
@@ -40,7 +40,7 @@ pub struct ScryptParams {
     pub ln: u8,
     /// The block size: BlockMix works on 2r blocks of 64 bytes.
     pub r: u8,
-    /// The parallelization: how many pieces of 128r bytes are mixed independently.
+    /// The parallelization: the number of pieces of 128r bytes that scrypt mixes independently.
     pub p: u8,
     /// The length of the key in bytes.
     pub len: u32,
@@ -54,12 +54,12 @@ pub struct ScryptParams {
 }
 
 impl ScryptParams {
-    /// Parameters with N = 2^`ln`, block size `r`, parallelization `p` and a key of `len` bytes
-    /// (RFC 7914, section 2).
+    /// Returns parameters with N = 2^`ln`, block size `r`, parallelization `p` and a key of `len`
+    /// bytes (RFC 7914, section 2).
     ///
-    /// Errors: `BlockSize` if `r` is 0; otherwise `Blocks` if `p` is 0; otherwise `Cost` if `ln`
-    /// is 0, is not below 16r, or the table would exceed 2 GiB, as with any `ln` over 23; otherwise
-    /// `Len` if `len` is not 4 to 64.
+    /// Errors: `BlockSize` if `r` is 0; otherwise `Blocks` if `p` is 0; otherwise `Cost` if `ln` is
+    /// 0 or isn't below 16r, or if the table would exceed 2 GiB, as with any `ln` over 23;
+    /// otherwise `Len` if `len` is not 4 to 64.
     pub fn new(ln: u8, r: u8, p: u8, len: u32) -> Result<ScryptParams, ScryptError>
         ensures block_size { (result ≡ Err ScryptError.BlockSize) ↔ (r ≡ 0) }
         ensures blocks { (result ≡ Err ScryptError.Blocks) ↔ ((1 ≤ r) × (p ≡ 0)) }
@@ -77,7 +77,7 @@ impl ScryptParams {
         Ok(params)
     }
 
-    /// The same for a key that need not fit into a record: of any length but 0.
+    /// Returns parameters for a key that need not fit into a record: of any length but 0.
     ///
     /// Errors: those of [`new`](ScryptParams::new), except that `Len` comes only if `len` is 0.
     pub fn raw(ln: u8, r: u8, p: u8, len: u32) -> Result<ScryptParams, ScryptError>

@@ -11,8 +11,8 @@ use std::alloc::Global;
 /// The length of an HMAC in bytes.
 const MAC: usize = 32;
 
-/// PBKDF2 (RFC 8018, section 5.2) with HMAC-SHA-256: a key of `len` bytes by `c` iterations, at
-/// least one. Password and salt may have any length.
+/// Computes PBKDF2 (RFC 8018, section 5.2) with HMAC-SHA-256: a key of `len` bytes by `c`
+/// iterations, at least one. Password and salt may have any length.
 ///
 /// Errors: `Memory` if there is not enough for the key.
 pub fn pbkdf2(
@@ -38,7 +38,7 @@ pub fn pbkdf2(
     Ok(key)
 }
 
-/// T_i, block i of the key: the XOR of `c` iterations.
+/// Computes T_i, block i of the key: the XOR of `c` iterations.
 fn derived_block(mac: &Hmac, salt: &[u8], c: u32, i: u32) -> [u8; 32]
     requires { 1 ≤ c }
     ensures { (pw : List ℕ) → IsKeyed pw mac.now
@@ -53,7 +53,7 @@ fn derived_block(mac: &Hmac, salt: &[u8], c: u32, i: u32) -> [u8; 32]
     all
 }
 
-/// U_1, made from the salt and the number of the block.
+/// Computes U_1 from the salt and the number of the block.
 fn first_iteration(mac: &Hmac, salt: &[u8], i: u32) -> [u8; 32]
     ensures { (pw : List ℕ) → IsKeyed pw mac.now → result ≡ iteration pw salt.now i 0 }
 {
@@ -63,7 +63,7 @@ fn first_iteration(mac: &Hmac, salt: &[u8], i: u32) -> [u8; 32]
     mac.finish(hasher)
 }
 
-/// From one iteration to the next.
+/// Computes the next iteration from the last one.
 fn next_iteration(mac: &Hmac, last: &[u8; 32]) -> [u8; 32]
     ensures { (pw salt : List ℕ) (i n : ℕ) → IsKeyed pw mac.now → last.now ≡ iteration pw salt i n
         → result ≡ iteration pw salt i (n + 1) }

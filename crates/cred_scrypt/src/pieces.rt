@@ -25,7 +25,8 @@ pub(crate) struct Mixing {
 #[derive(Drop)]
 pub(crate) struct Piece {
     words: Vec<u32>,
-    /// Whether there was not enough memory for its table; its words are then unchanged.
+    /// Whether the allocator refused memory for the piece's table; the piece's words are then
+    /// unchanged.
     refused: bool,
 }
 
@@ -34,7 +35,7 @@ impl Part<Mixing> for Piece {
 
     ghost works = { Works };
 
-    /// Mixes the piece by ROMix, with a table that is freed when the piece is done.
+    /// Mixes the piece by ROMix, and frees the table when the piece is done.
     fn work(&mut self, shared: &Mixing) {
         let mut scratch = ScryptScratch::new(shared.alloc, 0);
         self.mix(&mut scratch, shared.alloc, &shared.params);
@@ -127,9 +128,10 @@ impl Piece {
         }
     }
 
-    /// The bytes of all the pieces, in order.
+    /// Returns the bytes of all the pieces, in order.
     ///
-    /// Errors: `Memory` if there was not enough for a piece's table, or is not for the bytes.
+    /// Errors: `Memory` if there was not enough for a piece's table, or is not enough for the
+    /// bytes.
     pub(crate) fn joined(
         alloc: Global,
         size: usize,

@@ -10,9 +10,9 @@ use crate::xor::xor_words;
 use std::alloc::Global;
 use std::mem;
 
-/// ROMix (RFC 7914, section 5) with N = 2^`ln`, in place, on `block`: 2r blocks of sixteen 32-bit
-/// words. r is at least 1, `ln` at most 24, and `r * N` at most [`MAX_ROWS`](crate::MAX_ROWS), so
-/// the table takes at most 2 GiB.
+/// Applies ROMix (RFC 7914, section 5) with N = 2^`ln`, in place, to `block`: 2r blocks of sixteen
+/// 32-bit words. `r` is at least 1, `ln` at most 24, and `r * N` at most
+/// [`MAX_ROWS`](crate::MAX_ROWS). So the table has at most 2 GiB.
 ///
 /// Errors: `Memory` if there is not enough for the table and two more pieces; `block` is then
 /// unchanged.
@@ -28,7 +28,7 @@ pub fn ro_mix(alloc: Global, r: u8, ln: u8, block: &mut [u32]) -> Result<(), Scr
     ro_mix_in(&mut ScryptScratch::new(alloc, 0), alloc, r, ln, block)
 }
 
-/// The same with a table that is kept.
+/// Applies ROMix with a table that the scratch keeps.
 pub(crate) fn ro_mix_in(
     scratch: &mut ScryptScratch,
     alloc: Global,
@@ -57,7 +57,7 @@ pub(crate) fn ro_mix_in(
     Ok(())
 }
 
-/// N, the number of rows in the table.
+/// Returns N, the number of rows in the table.
 fn rows_of(ln: u8) -> usize
     requires { ln ≤ MAX_LN }
     ensures value { result ≡ 2 ^ ln }
@@ -104,8 +104,8 @@ fn walk(r: usize, ln: u8, table: &[u32], x: &mut Vec<u32>, y: &mut Vec<u32>)
     }
 }
 
-/// The row that `x` selects, Integerify mod N. N is a power of two that fits into a word, so the
-/// low word of the last block is enough.
+/// Returns the row that `x` selects, Integerify mod N. N is a power of two that fits into a word,
+/// so the low word of the last block is enough.
 #[tactic(auto, using(crate::proofs::TableRows::integerify_low_word))]
 fn named_row(r: usize, ln: u8, x: &[u32]) -> usize
     requires block_size { 1 ≤ r }

@@ -6,7 +6,7 @@ ghost use Rattle.cred_scrypt.specs.Salsa.{quarter_step, quarter_round, column_ro
 use crate::diagonals::{added, block_of, diagonals_of, sum, transposed, xor};
 use std::simd::u32x4;
 
-/// Each word rotated to the left by `by` bits.
+/// Rotates each word to the left by `by` bits.
 #[inline(always)]
 #[tactic(auto, using(crate::proofs::Lanes::lanes_rotate))]
 fn rotate(x: u32x4, by: u32) -> u32x4
@@ -17,7 +17,7 @@ fn rotate(x: u32x4, by: u32) -> u32x4
     (x << u32x4::splat(by)) | (x >> u32x4::splat(32 - by))
 }
 
-/// A step of four quarter rounds: x ^ ((y + z) <<< n), word by word.
+/// Does a step of four quarter rounds: x ^ ((y + z) <<< n), word by word.
 #[inline(always)]
 fn quarter_step(x: u32x4, y: u32x4, z: u32x4, n: u32) -> u32x4
     requires some { 0 < n }
@@ -28,7 +28,7 @@ fn quarter_step(x: u32x4, y: u32x4, z: u32x4, n: u32) -> u32x4
     xor(x, rotate(sum(y, z), n))
 }
 
-/// Four quarter rounds side by side.
+/// Does four quarter rounds side by side.
 #[inline(always)]
 #[tactic(auto, unfolding(crate::specs::Salsa::quarter_round))]
 fn quarter_round(a: u32x4, b: u32x4, c: u32x4, d: u32x4) -> (u32x4, u32x4, u32x4, u32x4)
@@ -48,7 +48,7 @@ fn quarter_round(a: u32x4, b: u32x4, c: u32x4, d: u32x4) -> (u32x4, u32x4, u32x4
     (a1, b1, c1, d1)
 }
 
-/// Quarter rounds on the columns of the four by four words.
+/// Does quarter rounds on the columns of the four by four words.
 #[inline(always)]
 #[tactic(auto, unfolding(crate::specs::Salsa::column_round))]
 fn column_round(x: [u32x4; 4]) -> [u32x4; 4]
@@ -58,7 +58,7 @@ fn column_round(x: [u32x4; 4]) -> [u32x4; 4]
     [a, b, c, d]
 }
 
-/// Quarter rounds on the rows.
+/// Does quarter rounds on the rows.
 #[inline(always)]
 fn row_round(x: [u32x4; 4]) -> [u32x4; 4]
     ensures { block_of result ≡ row_round (block_of x) }
@@ -66,7 +66,7 @@ fn row_round(x: [u32x4; 4]) -> [u32x4; 4]
     transposed(column_round(transposed(x)))
 }
 
-/// A column round and a row round.
+/// Does a column round and a row round.
 #[inline(always)]
 fn double_round(x: [u32x4; 4]) -> [u32x4; 4]
     ensures { block_of result ≡ row_round (column_round (block_of x)) }
@@ -74,7 +74,7 @@ fn double_round(x: [u32x4; 4]) -> [u32x4; 4]
     row_round(column_round(x))
 }
 
-/// Four double rounds.
+/// Does four double rounds.
 #[inline(always)]
 #[tactic(auto, unfolding(crate::specs::Salsa::double_rounds))]
 fn eight_rounds(x: [u32x4; 4]) -> [u32x4; 4]
@@ -86,7 +86,7 @@ fn eight_rounds(x: [u32x4; 4]) -> [u32x4; 4]
     double_round(x)
 }
 
-/// The core on the diagonals of a block.
+/// Applies the core to the diagonals of a block.
 #[inline(always)]
 pub(crate) fn mixed(x: [u32x4; 4]) -> [u32x4; 4]
     ensures { block_of result ≡ salsa20_8 (block_of x) }
@@ -94,8 +94,8 @@ pub(crate) fn mixed(x: [u32x4; 4]) -> [u32x4; 4]
     added(x, eight_rounds(x))
 }
 
-/// The Salsa20/8 core (RFC 7914, section 3), in place, on sixteen words: a block of 64 bytes, read
-/// as little-endian words.
+/// Applies the Salsa20/8 core (RFC 7914, section 3), in place, to sixteen words: a block of 64
+/// bytes, read as little-endian words.
 #[inline(always)]
 pub fn salsa20_8(x: &mut [u32; 16])
     ensures { x.new ≡ salsa20_8 x.old }

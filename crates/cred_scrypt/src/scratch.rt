@@ -8,8 +8,8 @@ use std::mem;
 /// The number of words of a KiB.
 const KIB: usize = 256;
 
-/// The table of keys that are derived one after another, by [`scrypt_in`](crate::scrypt_in). It is
-/// kept from key to key, up to a bound, and what is kept holds zeros alone, to its whole room.
+/// The table of keys that [`scrypt_in`](crate::scrypt_in) derives one after another. The scratch
+/// keeps the table from key to key, up to a bound, with zeros in its whole room.
 #[derive(Drop)]
 pub struct ScryptScratch {
     /// The most KiB that are kept.
@@ -29,8 +29,8 @@ impl Model for ScryptScratch {
 }
 
 impl ScryptScratch {
-    /// A table that is yet to be taken. Between two keys at most so many KiB are kept: a larger
-    /// table is given back.
+    /// Returns a scratch without a table. Between two keys it keeps at most `most` KiB: a larger
+    /// table is freed.
     pub fn new(alloc: Global, most: u32) -> ScryptScratch
         ensures { result ≡ most }
     {
@@ -40,14 +40,14 @@ impl ScryptScratch {
         }
     }
 
-    /// The KiB that are kept now, rounded up.
+    /// Returns the number of KiB that are kept now, rounded up.
     pub fn kept(&self) -> usize
         ensures { result ≤ self.now }
     {
         self.table.capacity().div_ceil(KIB)
     }
 
-    /// An empty table with room for so many words. It uses the kept memory.
+    /// Returns an empty table with room for so many words, in the kept memory if possible.
     pub(crate) fn take(&mut self, alloc: Global, len: usize) -> Result<Vec<u32>, AllocError>
         ensures most { self.new ≡ self.old }
         ensures none { IfOk result (λ table. table.items ≡ []) }
@@ -59,7 +59,7 @@ impl ScryptScratch {
         Ok(table)
     }
 
-    /// Keeps a table, wiped, if it is within the bound. Otherwise it is given back.
+    /// Keeps a table, wiped, if it is within the bound. Otherwise frees the table.
     pub(crate) fn keep(&mut self, table: Vec<u32>)
         ensures { self.new ≡ self.old }
     {
@@ -74,8 +74,9 @@ impl ScryptScratch {
     }
 }
 
-/// The table with zeros in its whole room. They stay in it, so the compiler can't leave them out.
-/// A resize within the room moves nothing, but no clause of it says so: if it did, there is none.
+/// Returns the table with zeros in its whole room. The zeros stay in the table, so the compiler
+/// can't leave them out. A resize within the room moves nothing, but no clause says so: if it moved
+/// the table, the function would return none.
 fn wiped(mut table: Vec<u32>) -> Option<Vec<u32>>
     ensures { IfSome result (λ table. table.items ≡ replicate (vec_capacity table) 0) }
 {

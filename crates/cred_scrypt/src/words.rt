@@ -7,7 +7,7 @@ use std::alloc::{AllocError, Global};
 /// The length of a word in bytes.
 const WORD: usize = 4;
 
-/// `bytes` as words.
+/// Returns `bytes` as words.
 pub(crate) fn words_of(alloc: Global, bytes: &[u8]) -> Result<Vec<u32>, AllocError>
     ensures { IfOk result (λ words. words.items ≡ words_of bytes.now (length bytes.now / 4)) }
 {

@@ -1,4 +1,4 @@
--- What is counted at a name once a step is made there, or at another name.
+-- The count at a name after a step there, or at another name.
 use Rattle.std.proofs.Common.{◌≡◌, ℕ, Bool, true, false, cond, List, Option, Some, None, Ordering, Equal, is_eq, refl, ap, ◌∙◌, arith}
 use Rattle.std.specs.Prelude.{◌==◌, ◌&&◌, if◌then◌else◌, unwrap_or}
 use Rattle.std.specs.{Cmp.eq_by_cmp_equiv, Cmp.Lexicographic.nat_list_cmp_total}
@@ -45,7 +45,7 @@ unfolding made
 is_counted_nothing count is = nothing_made count.failed count.running count.last (all_zero count.failed count.running count.last is)
 
 module _ (counts : CountMap) (name : List ℕ) where
-  -- what is found at a name where this is put, or nothing is
+  -- the count that is found at a name if this is put there, or nothing is
   abbrev found_if : Option Count → Bool → Count
   found_if put here = unwrap_or (cond here put (map.get counts name)) nothing
 
@@ -120,7 +120,7 @@ module _ (limits : Limits) (name other : List ℕ) (apart : is_name_of name othe
   forgiven_apart None = refl
   forgiven_apart (Some count) = with_apart limits.counts name other apart (count_forgiven count)
 
--- what is asked at another name changes nothing at this one
+-- a step at another name changes nothing at this one
 pub apart_stays : (limits : Limits) (name : List ℕ) (step : Step) → is_name_of name (step_name step) ≡ false
     → count_at (after_step limits step) name ≡ count_at limits name
 apart_stays limits name (Asks other now) apart = begun_apart limits name other apart (count_at limits other) (place_at limits other now)

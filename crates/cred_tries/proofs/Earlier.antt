@@ -1,4 +1,4 @@
--- Why a try is too early, and by how long.
+-- The reason why a try is too early, and by how long.
 use Rattle.std.proofs.Common.{◌≡◌, ◌≤◌, ◌<◌, ℕ, Bool, true, false, if◌then◌else◌, List, refl, arith}
 use Rattle.std.specs.Prelude.{nat_lt}
 use Rattle.std.proofs.lemmas.Bool.Decides.{nat_tests}
@@ -17,7 +17,7 @@ use Rattle.cred_tries.proofs.Times.{goes_forward}
 use Rattle.cred_tries.proofs.Traced.{ascends, early_of, later_until, told_early}
 
 module _ (limit : ℕ) (count : Count) (t seconds : ℕ) where
-  -- what the count has where a try is too early
+  -- the facts of a count by which a try is too early
   abbrev IsFound : Type 0
   IsFound = (limit ≤ remembered_failures count t) × (rest_of limit count t ≡ seconds) × (0 < seconds)
 

@@ -1,4 +1,4 @@
--- What is told of a history by its judgements alone.
+-- The facts of a history that its judgements alone tell.
 use Rattle.std.proofs.Common.{◌≡◌, ◌≤◌, ℕ, ◌+◌, ◌-◌, List, [], ◌∷◌, ◌++◌, refl, sym, ap, ◌∙◌, subst}
 use Rattle.std.specs.Prelude.{◌/◌, if◌then◌else◌, nat_le}
 use Rattle.cred_tries.specs.Counts.{day, longest_wait, short_waits}

@@ -1,4 +1,4 @@
--- What the entries of a tree say of the counts' map, and what a write among them does to it.
+-- The entries of a tree and the counts' map, and the effect of a write among them on it.
 use Rattle.std.proofs.Common.{◌≡◌, ℕ, List, [], Option, is_some, cond, T, sym, ap, ◌∙◌}
 use Rattle.std.specs.{Map.lookup, BTreeMap.is_at, Cmp.eq_by_cmp_equiv, Cmp.Lexicographic.nat_list_cmp_total}
 use Rattle.std.specs.FinMap as map

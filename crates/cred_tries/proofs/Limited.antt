@@ -1,4 +1,4 @@
--- What the counts at a name tell of its history.
+-- The counts at a name and its history.
 use Rattle.std.proofs.Common.{◌≡◌, ◌⊎◌, inl, inr, ◌≤◌, ◌<◌, ℕ, ◌+◌, ◌-◌, Bool, true, false, if◌then◌else◌, List, [], ◌∷◌, refl, sym, ap, ◌∙◌, arith, subst}
 use Rattle.std.specs.Prelude.{min, nat_le, nat_lt, ⊤}
 use Rattle.std.proofs.lemmas.Bool.Decides.{nat_tests}
@@ -41,7 +41,7 @@ paced_later limit count now t later paced = at (counted_later count now t later)
         moved (inl few) = inl (omega arith)
         moved (inr alone) = inr (alone.0, λ one. let w : wait (remembered_failures count t - limit) ≡ wait (remembered_failures count now - limit) = ap (λ n. wait (n - limit)) same in let was : count.last + wait (remembered_failures count now - limit) ≤ now = alone.1 one in omega (arith, w, was, later))
 
--- what the counts say of a try
+-- the counts allow a try
 abbrev May : ℕ → Count → ℕ → Type 0
 May limit count t =
     (remembered_failures count t + count.running < limit) ⊎ ((count.running ≡ 0) × (count.last + wait (remembered_failures count t - limit) ≤ t))
@@ -151,7 +151,7 @@ module _ (limit : ℕ) (some : 0 < limit) (count : Count) (h : List Event) (t : 
   told_begin : Told limit (begun_if count (place_of limit count t)) (begin_event (place_of limit count t) t ∷ h) t
   told_begin = told_place _ (answered limit count t)
 
-  -- a try ends where one runs
+  -- a try ends if one runs
   module _ (one : 0 < count.running) where
     runs_here : 0 < running h
     runs_here = omega (arith, one, tells.runs)

@@ -1,4 +1,4 @@
--- How many waits are listed.
+-- The number of waits that are listed.
 use Rattle.std.proofs.Common.{◌≤◌, ℕ, suc, List, [], ◌∷◌, length, Option, Some, None, arith}
 use Rattle.std.specs.List.{cons_option}
 use Rattle.cred_tries.specs.Limits.{wait_of, waits_among}

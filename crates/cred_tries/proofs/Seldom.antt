@@ -1,4 +1,4 @@
--- How many tries fail while nothing clears the failures.
+-- The number of tries that fail while nothing clears the failures.
 use Rattle.std.proofs.Common.{◌≡◌, ◌⊎◌, inl, inr, ◌≤◌, ◌<◌, ℕ, ◌+◌, ◌-◌, ◌*◌, Bool, true, false, if◌then◌else◌, List, [], ◌∷◌, ◌++◌, refl, sym, arith, subst}
 use Rattle.std.specs.Prelude.{◌/◌, nat_le, nat_lt}
 use Rattle.std.proofs.Math.Dec.{leb}
@@ -18,7 +18,7 @@ in_a_row (Unjudged t ∷ before) = in_a_row before
 in_a_row (Sent t seconds ∷ before) = in_a_row before
 in_a_row (Forgiven t ∷ before) = in_a_row before
 
--- what is kept of a stretch: the failures, with those that may still come before the longest wait
+-- the bound of a stretch: the failures, with those that may still come before the longest wait
 pub record IsKept (limit n row last first : ℕ) : Type 0 where
   pub some : 0 < n
   pub ordered : first ≤ last
@@ -28,7 +28,7 @@ abbrev Kept : ℕ → List Event → Type 0
 Kept limit stretch =
     ((failed stretch ≡ 0) × (in_a_row stretch ≡ 0)) ⊎ IsKept limit (failed stretch) (in_a_row stretch) (last_failure stretch) (first_failure stretch)
 
--- one failure more: the first, one behind a day, or one behind another
+-- one failure more: the first, one after a day, or one after another
 kept_first : (limit row t first : ℕ) → row ≡ 1 → first ≡ t → IsKept limit 1 row t first
 kept_first limit row t first one same = record {
   some = omega arith;
@@ -87,7 +87,7 @@ module _ (before : List Event) where
   same_last (Sent t seconds ∷ rest) is some = same_last rest is some
 
   module _ (limit : ℕ) (few : limit ≤ most_tries) where
-    -- a failure behind a stretch
+    -- a failure after a stretch
     one_more : (t : ℕ) (rest : List Event) → IsUncleared rest → IsRightAfter limit (Wrong t) (rest ++ before) → Kept limit rest
         → (old : Bool) → nat_le (last_failure rest + day) t ≡ old → (has : Bool) → nat_lt 0 (failed rest) ≡ has
         → IsKept limit (failed rest + 1) ((if old then 0 else in_a_row rest) + 1) t (if has then first_failure rest else t)

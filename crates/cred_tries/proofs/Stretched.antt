@@ -1,4 +1,4 @@
--- What a limited history keeps to behind a stretch of failing.
+-- The waits of a limited history after a stretch of failing.
 use Rattle.std.proofs.Common.{◌≡◌, ◌⊎◌, inl, inr, ◌≤◌, ◌<◌, ℕ, ◌+◌, ◌-◌, ◌^◌, Bool, true, false, if◌then◌else◌, List, [], ◌∷◌, ◌++◌, refl, arith, subst, lit<}
 use Rattle.std.specs.Prelude.{nat_le}
 use Rattle.std.proofs.Math.Nat.{pow-le-pow_right}
@@ -42,7 +42,7 @@ module _ (before : List Event) where
   runs now (Unjudged t ∷ rest) is = omega (arith, runs now rest is)
   runs now (Sent t seconds ∷ rest) is = runs now rest is
 
-  -- where a stretch has failures its last is the last
+  -- if a stretch has failures, its last failure is the last of all
   last : (now : ℕ) (stretch : List Event) → IsFailing now stretch → 0 < failed stretch → last_failure (stretch ++ before) ≡ last_failure stretch
   last now [] is some = absurd (omega (arith, some))
   last now (Wrong t ∷ rest) is some = refl

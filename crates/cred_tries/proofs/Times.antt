@@ -1,4 +1,4 @@
--- How time passes.
+-- The passing of time.
 use Rattle.std.proofs.Common.{◌≡◌, ◌≤◌, ℕ, ◌+◌, ◌-◌, List, [], ◌∷◌, arith, lit≤}
 use Rattle.cred_tries.specs.Clocks.{after_reading, end_of_time, moment}
 use Rattle.cred_tries.specs.Steps.{Asks, Ends, Forgives, Step, clock_after}

@@ -1,4 +1,4 @@
--- How answers that tell of tries keep a limit, and what a limiter counts of them: each try begins and
+-- The limit that answers to tries keep, and the counts of them in a limiter: each try begins and
 -- ends as it is answered.
 use Rattle.std.specs.Prelude.{◌≡◌, ◌⊎◌, ⊤, ℕ, ◌<◌, ◌≤◌, List, [], ◌∷◌, All, Option, Some, None}
 use Rattle.cred_tries.specs.Clocks.{after_reading, end_of_time, new_clock}
@@ -17,7 +17,7 @@ with_told (Some event) before = event ∷ before
 -- ---- what is asked of the events at a name
 
 -- A try has to wait for so many seconds, and for no more than the longest wait: as many failures
--- count as the limit says, and the wait behind the last of them is over then, and not before.
+-- count as the limit says, and the wait after the last of them is over then, and not before.
 abbrev pub MustWait : ℕ → ℕ → ℕ → List Event → Type 0
 MustWait limit t seconds before =
     (0 < seconds) × (seconds ≤ longest_wait) × IsEarly limit t seconds before
@@ -51,7 +51,7 @@ pub record KeepLimit (limit passed : ℕ) (times : List ℕ) (told : List ℕ �
 
 -- ---- the clock
 
--- of a limiter, or one that is never read
+-- the clock of a limiter, or one that is never read
 abbrev pub clock_of : Option Limits → SteadyClock
 clock_of None = new_clock
 clock_of (Some limits) = limits.clock
@@ -67,7 +67,7 @@ IsReadBy now old new = (clock_of new ≡ clock_of old)
 abbrev pub IsIdle : Limits → Type 0
 IsIdle limits = (name : List ℕ) → (count_at limits name).running ≡ 0
 
--- it has a limit, and its time can pass
+-- the limiter has a limit, and its time can pass
 abbrev pub IsSettled : Limits → Type 0
 IsSettled limits = (0 < limits.limit) × (limits.clock.passed ≤ end_of_time)
 

@@ -2,7 +2,7 @@
 use Rattle.std.specs.Prelude.{ℕ, ◌+◌, ◌-◌, ◌^◌, min}
 use Rattle.cred_tries.specs.declared.clock.SteadyClock.{SteadyClock}
 
--- the last second that is told from the one before
+-- the last second that the clock tells from the one before
 abbrev pub end_of_time : ℕ
 end_of_time = 2 ^ 64 - 1
 

@@ -14,7 +14,7 @@ day = 86400
 abbrev pub longest_wait : ℕ
 longest_wait = 900
 
--- how many waits are shorter: 1, 2, 4 .. 512 seconds
+-- the number of shorter waits: 1, 2, 4 .. 512 seconds
 abbrev pub short_waits : ℕ
 short_waits = 10
 
@@ -22,7 +22,7 @@ short_waits = 10
 abbrev pub most_tries : ℕ
 most_tries = 86
 
--- how many seconds the next try waits behind so many failures more than the limit
+-- the number of seconds that the next try waits after so many failures more than the limit
 unfoldable pub wait : ℕ → ℕ
 wait more = min (2 ^ more) longest_wait
 
@@ -39,12 +39,12 @@ has_failed count = nat_lt 0 count.failed
 abbrev pub remembered_failures : Count → ℕ → ℕ
 remembered_failures count now = if nat_le (count.last + day) now then 0 else count.failed
 
--- how many seconds of the wait behind the last failure are left
+-- the number of seconds that are left of the wait after the last failure
 abbrev pub rest_of : ℕ → Count → ℕ → ℕ
 rest_of limit count now = wait (remembered_failures count now - limit) - (now - count.last)
 
--- The place for a try. Each try that runs may fail, so it counts as a failure. Behind as many
--- failures as the limit says one place is free, once the wait is over.
+-- The place for a try. Each try that runs may fail, so it counts as a failure. After as many
+-- failures as the limit says, one place is free once the wait is over.
 abbrev pub place_of : ℕ → Count → ℕ → Place
 place_of limit count now =
     if nat_lt (remembered_failures count now) limit
@@ -66,7 +66,7 @@ count_ended_as limit count now ending.Wrong = record {
 }
 count_ended_as limit count now ending.Unjudged = record count { running = count.running - 1 }
 
--- an end where no try runs changes nothing
+-- an end changes nothing if no try runs
 abbrev pub count_ended : ℕ → Count → ℕ → Ending → Count
 count_ended limit count now how =
     if nat_lt 0 count.running then count_ended_as limit count now how else count

@@ -7,9 +7,9 @@ use Rattle.cred_tries.specs.declared.count.Place.TheVariants.{Free, Taken, Early
 use Rattle.cred_tries.specs.declared.turn.Ending.{Ending}
 use Rattle.cred_tries.specs.declared.turn.Ending.TheVariants as ending
 
--- each at a moment in seconds
+-- the events, each at a moment in seconds
 pub data Event : Type 0 where
-  -- a try begins, or is sent away and told how many seconds it is too early, or 0 where it isn't
+  -- a try begins, or is sent away and told how many seconds it is too early, or 0 if it isn't
   Begun : ℕ → Event
   Sent : ℕ → ℕ → Event
   -- a try ends: the password was right, or wrong, or wasn't judged
@@ -31,8 +31,8 @@ running (Unjudged t ∷ before) = running before - 1
 running (Sent t seconds ∷ before) = running before
 running (Forgiven t ∷ before) = running before
 
--- the failures in a row at a moment: those behind the last right answer, the last forgiving, and
--- the last day without a failure
+-- the failures in a row at a moment: those after the last right answer, the last forgiving, and the
+-- last day without a failure
 abbrev pub failures : ℕ → List Event → ℕ
 failures now [] = 0
 failures now (Wrong t ∷ before) = if nat_le (t + day) now then 0 else failures t before + 1
@@ -42,7 +42,7 @@ failures now (Begun t ∷ before) = failures now before
 failures now (Unjudged t ∷ before) = failures now before
 failures now (Sent t seconds ∷ before) = failures now before
 
--- the moment of the last failure behind the last right answer and the last forgiving
+-- the moment of the last failure after the last right answer and the last forgiving
 abbrev pub last_failure : List Event → ℕ
 last_failure [] = 0
 last_failure (Wrong t ∷ before) = t
@@ -52,7 +52,7 @@ last_failure (Begun t ∷ before) = last_failure before
 last_failure (Unjudged t ∷ before) = last_failure before
 last_failure (Sent t seconds ∷ before) = last_failure before
 
--- the wait behind the last failure is over
+-- the wait after the last failure is over
 abbrev pub HasWaited : ℕ → ℕ → List Event → Type 0
 HasWaited limit now before = last_failure before + wait (failures now before - limit) ≤ now
 
@@ -63,7 +63,7 @@ MayBegin limit now before =
     (failures now before + running before < limit)
     ⊎ ((running before ≡ 0) × HasWaited limit now before)
 
--- what an event asks of those before it
+-- the condition under which the events before an event allow it
 abbrev pub IsRightAfter : ℕ → Event → List Event → Type 0
 IsRightAfter limit (Begun t) before = MayBegin limit t before
 IsRightAfter limit (Sent t seconds) before = MayBegin limit t before → ⊥
@@ -75,7 +75,7 @@ IsRightAfter limit (Wrong t) before =
 IsRightAfter limit (Unjudged t) before = 0 < running before
 IsRightAfter limit (Forgiven t) before = ⊤
 
--- each event is right after those before it
+-- the events before each event allow it
 abbrev pub IsLimited : ℕ → List Event → Type 0
 IsLimited limit [] = ⊤
 IsLimited limit (event ∷ before) = IsRightAfter limit event before × IsLimited limit before
@@ -115,7 +115,7 @@ end_event ending.Right t = Right t
 end_event ending.Wrong t = Wrong t
 end_event ending.Unjudged t = Unjudged t
 
--- an end is an event only where a try runs, since only a try that began there can end there
+-- an end is an event only if a try runs, since only a try that began at the name can end there
 abbrev pub with_event : ℕ → Count → Call → List Event → List Event
 with_event limit count (Begin t) before = begin_event (place_of limit count t) t ∷ before
 with_event limit count (End t how) before =

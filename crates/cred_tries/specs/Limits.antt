@@ -15,7 +15,7 @@ use Rattle.cred_tries.specs.declared.turn.Turn.{Turn}
 use Rattle.cred_tries.specs.declared.turn.Turn.TheVariants as turn
 use Rattle.cred_tries.specs.declared.waiting.Wait.{Wait}
 
--- how many tries may fail at a name until the next has to wait; the time; and the counts
+-- the number of tries that may fail at a name until the next has to wait; the time; and the counts
 pub record Limits : Type 0 where
   pub limit : ℕ
   pub clock : SteadyClock
@@ -79,7 +79,7 @@ after_end limits name now how = record (seen limits now) {
 
 -- ---- a try that begins and ends at one reading
 
--- it may begin
+-- a try may begin
 abbrev pub IsFree : Limits → List ℕ → ℕ → Type 0
 IsFree limits name now = place_at limits name now ≡ Free
 

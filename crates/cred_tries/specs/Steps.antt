@@ -61,7 +61,7 @@ calls_at name (Forgives other ∷ before) =
 abbrev pub events_at : ℕ → List ℕ → List Step → List Event
 events_at limit name steps = history limit (calls_at name steps)
 
--- a try that `begin` gives has begun, and any other is sent away, with what is told of its wait
+-- a try that `begin` returns has begun; any other is sent away, and told its wait
 abbrev pub turn_event : Turn → ℕ → Event
 turn_event (turn.Begun name) t = Begun t
 turn_event turn.Waits t = Sent t 0

@@ -3,7 +3,7 @@ use Rattle.std.specs.Prelude.{◌≡◌, ◌⊎◌, ◌≤◌, ◌<◌, ⊤, ℕ
 use Rattle.cred_tries.specs.Counts.{day, longest_wait, short_waits, wait}
 use Rattle.cred_tries.specs.Histories.{Event, Begun, Sent, Right, Wrong, Unjudged, Forgiven, failures, last_failure, running}
 
--- how many tries failed in a stretch
+-- the number of tries that failed in a stretch
 abbrev pub failed : List Event → ℕ
 failed [] = 0
 failed (Wrong t ∷ before) = failed before + 1
@@ -13,7 +13,7 @@ failed (Unjudged t ∷ before) = failed before
 failed (Sent t seconds ∷ before) = failed before
 failed (Forgiven t ∷ before) = failed before
 
--- how many tries began in it, less those that weren't judged
+-- the number of tries that began in it, less those that weren't judged
 abbrev pub begun : List Event → ℕ
 begun [] = 0
 begun (Begun t ∷ before) = begun before + 1
@@ -43,8 +43,8 @@ IsUncleared (Wrong t ∷ before) = IsUncleared before
 IsUncleared (Unjudged t ∷ before) = IsUncleared before
 IsUncleared (Sent t seconds ∷ before) = IsUncleared before
 
--- Between two right answers or forgivings at most as many tries fail as the limit says and as there
--- are short waits, and one more for each longest wait that fits between the first and the last.
+-- Between two right answers or forgivings, at most as many tries fail as the limit and the number
+-- of short waits together, and one more for each longest wait between the first and the last.
 abbrev pub FailsSeldom : ℕ → List Event → Type 0
 FailsSeldom limit history =
     (later stretch before : List Event) → history ≡ later ++ (stretch ++ before)
@@ -73,30 +73,31 @@ IsFailing now (Begun t ∷ before) = IsFailing now before
 IsFailing now (Unjudged t ∷ before) = IsFailing now before
 IsFailing now (Sent t seconds ∷ before) = IsFailing now before
 
--- Behind a stretch of failing in which as many tries failed as may, or began, the next begins only
--- when all of them have failed, and the wait behind the last failure is over.
+-- A stretch of failing in which as many tries failed or began as may fail. After it the next try
+-- begins only when all of them have failed, and the wait after the last failure is over.
 abbrev pub WaitsBehind : ℕ → List Event → Type 0
 WaitsBehind limit history =
     (later stretch before : List Event) (t : ℕ) → history ≡ later ++ (Begun t ∷ (stretch ++ before))
     → IsFailing t stretch → (limit ≤ failed stretch) ⊎ (limit ≤ begun stretch)
     → (limit ≤ failed stretch) × (last_failure stretch + wait (failed stretch - limit) ≤ t)
 
--- and so each failure behind as many as may be comes that wait after the one before it
+-- and so each failure after as many as may be comes only when that wait after the last one is over
 abbrev pub FailsBehind : ℕ → List Event → Type 0
 FailsBehind limit history =
     (later stretch before : List Event) (t : ℕ) → history ≡ later ++ (Wrong t ∷ (stretch ++ before))
     → IsFailing t stretch → limit ≤ failed stretch
     → last_failure stretch + wait (failed stretch - limit) ≤ t
 
--- If no failure counts, a try is sent away only while as many run as may. That is so before the
--- first failure, behind a right answer or a forgiving, and once a day has passed without a failure.
+-- If no failure counts, a try is sent away only while as many run as may run. No failure counts
+-- before the first failure, after a right answer or a forgiving, and once a day has passed without
+-- a failure.
 abbrev pub QuietBegins : ℕ → List Event → Type 0
 QuietBegins limit history =
     (later before : List Event) (t seconds : ℕ) → history ≡ later ++ (Sent t seconds ∷ before)
     → failures t before ≡ 0 → limit ≤ running before
 
 -- A try is too early by so many seconds: as many failures count as the limit says, and the wait
--- behind the last of them is over then.
+-- after the last of them is over then.
 abbrev pub IsEarly : ℕ → ℕ → ℕ → List Event → Type 0
 IsEarly limit now seconds before =
     (limit ≤ failures now before)

@@ -3,17 +3,18 @@
 ghost use Rattle.std.specs.Prelude.{◌≡◌};
 ghost use Rattle.cred_tries.specs.Clocks.{after_reading, moment};
 
-/// The seconds by which another clock has gone forward. None pass while it is set back.
+/// The seconds by which another clock has gone forward. No second passes when that clock is set
+/// back.
 #[derive(Clone, Copy, Debug)]
 pub(crate) struct SteadyClock {
     /// The last reading of the other clock.
     reading: u64,
-    /// The seconds that it went forward until that reading.
+    /// The seconds that the other clock went forward until that reading.
     passed: u64,
 }
 
 impl SteadyClock {
-    /// No time has passed.
+    /// Returns a clock on which no time has passed.
     pub(crate) const fn new() -> SteadyClock
         ensures { result ≡ record { reading = 0; passed = 0 } }
     {
@@ -23,14 +24,14 @@ impl SteadyClock {
         }
     }
 
-    /// The seconds until the last reading.
+    /// Returns the seconds until the last reading.
     pub(crate) const fn passed(self) -> u64
         ensures { result ≡ self.passed }
     {
         self.passed
     }
 
-    /// The moment at which the other clock reads `now`.
+    /// Returns the moment at which the other clock reads `now`.
     pub(crate) fn moment(self, now: u64) -> u64
         ensures { result ≡ moment self now }
     {
@@ -38,7 +39,7 @@ impl SteadyClock {
         self.passed.saturating_add(forward)
     }
 
-    /// The clock after that reading.
+    /// Returns the clock after that reading.
     pub(crate) fn after(self, now: u64) -> SteadyClock
         ensures { result ≡ after_reading self now }
     {

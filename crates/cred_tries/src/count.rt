@@ -5,7 +5,7 @@ ghost use Rattle.cred_tries.specs.Counts.{count_begun, count_ended, count_forgiv
 
 use crate::turn::Ending;
 
-/// After a day without another, failures are forgotten. In seconds.
+/// The seconds after which the limiter forgets failures, if no other comes: a day.
 const DAY: u64 = 86400;
 
 /// The longest wait: a quarter of an hour, in seconds.
@@ -14,12 +14,13 @@ const LONGEST_WAIT: u64 = 900;
 /// The number of waits that are shorter than the longest: 1, 2, 4 .. 512 s.
 const SHORT_WAITS: u64 = 10;
 
-/// The greatest limit. It and the short waits are 96, as many as a day has longest waits: so a
-/// guesser who rests for a day, until failures are forgotten, gains no tries by it.
+/// The greatest limit. This limit and the number of short waits are together 96, as many as a day
+/// has longest waits. So a guesser who rests for a day, until the limiter forgets the failures,
+/// gains no tries.
 pub const MOST_TRIES: u64 = 86;
 
 /// The tries at one name: how many have failed in a row, how many run, and the moment of the last
-/// failure in that row, which is 0 where none has failed.
+/// failure in that row. The moment is 0 if none has failed.
 #[derive(Clone, Copy, Debug)]
 pub(crate) struct Count {
     failed: u64,
@@ -32,14 +33,14 @@ pub(crate) struct Count {
 pub(crate) enum Place {
     /// A try may begin.
     Free,
-    /// As many run as may.
+    /// As many tries run as may run.
     Taken,
     /// The try is too early by this many seconds.
     Early(u64),
 }
 
 impl Count {
-    /// No tries.
+    /// Returns a count of no tries.
     pub(crate) const fn new() -> Count
         ensures { result ≡ nothing }
     {
@@ -64,7 +65,7 @@ impl Count {
         self.failed > 0
     }
 
-    /// The place for a try at the moment `now`.
+    /// Returns the place for a try at the moment `now`.
     pub(crate) fn place(self, limit: u64, now: u64) -> Place
         requires { limit ≤ most_tries }
         ensures { result ≡ place_of limit self now }
@@ -87,7 +88,7 @@ impl Count {
         Place::Free
     }
 
-    /// The count once a try has begun in a free place.
+    /// Returns the count once a try has begun in a free place.
     pub(crate) fn begun(self, limit: u64, now: u64) -> Count
         requires few { limit ≤ most_tries }
         requires free { place_of limit self now ≡ Place.Free }
@@ -99,7 +100,8 @@ impl Count {
         }
     }
 
-    /// The count once a try has ended at the moment `now`. Where none runs, it stays.
+    /// Returns the count once a try has ended at the moment `now`. If none runs, the count stays as
+    /// it is.
     pub(crate) fn ended(self, limit: u64, now: u64, how: Ending) -> Count
         requires { limit ≤ most_tries }
         ensures { result ≡ count_ended limit self now how }
@@ -123,7 +125,7 @@ impl Count {
         }
     }
 
-    /// The count once the failures are forgiven.
+    /// Returns the count once the failures are forgiven.
     pub(crate) fn forgiven(self) -> Count
         ensures { result ≡ count_forgiven self }
     {
@@ -134,7 +136,8 @@ impl Count {
         }
     }
 
-    /// The failures in a row with one more, as far as they make waits longer.
+    /// Returns the failures in a row with one more, up to the number above which waits don't get
+    /// longer.
     fn one_more_failure(self, limit: u64, now: u64) -> u64
         requires { limit ≤ most_tries }
         ensures { result ≡ min (remembered_failures self now + 1) (limit + short_waits) }
@@ -144,7 +147,7 @@ impl Count {
         if failed < most { failed + 1 } else { most }
     }
 
-    /// The failures in a row that aren't forgotten at the moment `now`.
+    /// Returns the failures in a row that aren't forgotten at the moment `now`.
     pub(crate) fn remembered_failures(self, now: u64) -> u64
         ensures { result ≡ remembered_failures self now }
     {
@@ -156,7 +159,7 @@ impl Count {
     }
 }
 
-/// The seconds that the next try waits behind so many failures more than the limit.
+/// Returns the seconds that the next try waits after so many failures more than the limit.
 fn wait(more: u64) -> u64
     ensures { result ≡ wait more }
 {

@@ -10,7 +10,7 @@ use std::alloc::{AllocError, Global};
 use std::collections::{BTreeMap, btree_map};
 use std::marker::Model;
 
-/// A map from names to their counts, without those of which nothing is counted.
+/// A map from names to their counts, without the names at which nothing is counted.
 #[derive(Drop)]
 pub(crate) struct Counts {
     counts: BTreeMap<Name, Count>,
@@ -32,7 +32,7 @@ impl Model for Counts {
 }
 
 impl Counts {
-    /// No names.
+    /// Returns a map with no names.
     pub(crate) fn new(alloc: Global) -> Counts
         ensures { result ≡ map.empty }
     {
@@ -41,7 +41,7 @@ impl Counts {
         }
     }
 
-    /// The count of a name, if it has one.
+    /// Returns the count of a name, if it has one.
     pub(crate) fn get(&self, name: &Name) -> Option<Count>
         ensures { result ≡ map.get self.now name.now }
     {
@@ -51,7 +51,7 @@ impl Counts {
         }
     }
 
-    /// The names in their order, with their counts.
+    /// Returns the names in their order, with their counts.
     pub(crate) fn iter(&self) -> btree_map::Iter<'_, Name, Count>
         ensures entries { result ≡ map.entries self.now }
         ensures few { length result < 2 ^ 63 }
@@ -59,9 +59,9 @@ impl Counts {
         self.counts.iter()
     }
 
-    /// Counts this at a name, which may be new.
+    /// Stores this count at a name, which may be new.
     ///
-    /// Errors: no memory, for a new name; then nothing changes.
+    /// Errors: `AllocError` if memory for a new name runs out; then nothing changes.
     pub(crate) fn insert(&mut self, name: Name, count: Count) -> Result<(), AllocError>
         ensures inserted { IfOk result (λ _. self.new ≡ map.insert self.old name count) }
         ensures memory { IfErr result (λ _. self.new ≡ self.old) }
@@ -71,7 +71,8 @@ impl Counts {
         Ok(())
     }
 
-    /// Counts this at a name of the map. A name with nothing left to count leaves the map.
+    /// Stores this count at a name of the map. If nothing is left to count, the name leaves the
+    /// map.
     pub(crate) fn put(&mut self, name: &Name, count: Count)
         requires { map.contains_key self.old name.now ≡ true }
         ensures { self.new ≡ with_count self.old name.now count }

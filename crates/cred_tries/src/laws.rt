@@ -12,22 +12,22 @@ ghost use Rattle.cred_tries.specs.declared.clock.SteadyClock.{SteadyClock};
 
 use crate::turn::Turn;
 
-/// The facts at each name, for all calls of a limiter there and at other names, in any order, and
-/// however its clock is set:
+/// States the facts at each name, for all calls of a limiter at that name and at others, in any
+/// order, and however its clock is set:
 ///
 /// - `seldom`: between two right answers or forgivings at most as many tries fail at the name as
 ///   the limit says and ten, and one more for each 900 seconds between the first and the last;
-/// - `ends`: the same of the right answers, the failures and the forgivings alone, which answers
-///   tell;
+/// - `ends`: the same holds for the right answers, the failures and the forgivings alone, which
+///   answers tell;
 /// - `waits`: once as many as the limit says failed, or began, the next begins only when all of
-///   them have failed, and the wait behind the last is over;
-/// - `fails`: so each failure behind those comes that wait after the one before it;
-/// - `quiet`: where no failure counts, a try is sent away only while as many run as may;
-/// - `limited`: a try begins exactly if it may;
+///   them have failed, and the wait after the last is over;
+/// - `fails`: so each failure after those comes only once that wait after the last one is over;
+/// - `quiet`: if no failure counts, a try is sent away only while as many run as may run;
+/// - `limited`: a try begins exactly if it may begin;
 /// - `turn`: `begin` answers the turn that happens at the name;
 /// - `later`: no answer names a wait of over 900 seconds, or of none;
-/// - `early`: a try is too early only behind as many failures as the limit says, and its answer
-///   names the seconds until the wait behind the last is over;
+/// - `early`: a try is too early only after as many failures as the limit says, and its answer
+///   names the seconds until the wait after the last failure is over;
 /// - `apart`: a call at another name changes nothing at this one.
 pub fn each_name_is_limited()
     ensures seldom { (limit : ℕ) (name : List ℕ) (steps : List Step) → 0 < limit

@@ -1,9 +1,9 @@
-//! A limiter of failed tries: it says how often the password of each account may be tried, over
-//! readings of a clock that its caller hands in.
+//! A limiter of failed tries: it says how often the password of each account may be tried, by
+//! readings of a clock that its caller passes.
 //!
-//! [`Limiter::begin`] asks for a [`Try`] at a name, which [`Limiter::end`] uses up. Contracts see a
-//! limiter as the counts of its names. The law [`each_name_is_limited`] says how many tries fail at
-//! each, whatever is asked.
+//! [`Limiter::begin`] asks for a [`Try`] at a name, and [`Limiter::end`] uses it up. Contracts see
+//! a limiter as the counts of its names. The law [`each_name_is_limited`] says how many tries fail
+//! at each name, whatever anybody asks.
 #![tactic(auto)]
 
 mod clock;

@@ -26,7 +26,7 @@ impl Model for TryLimit {
 }
 
 impl TryLimit {
-    /// So many tries, unless they are none or over 86.
+    /// Returns a limit of so many tries, unless they are none or over 86.
     pub fn new(tries: u64) -> Option<TryLimit>
         ensures same { IfSome result (λ limit. limit ≡ tries) }
         ensures other { IfNone result (IsLimit tries → ⊥) }
@@ -37,7 +37,7 @@ impl TryLimit {
         Some(TryLimit { tries })
     }
 
-    /// The number of tries.
+    /// Returns the number of tries.
     pub fn tries(self) -> u64
         ensures same { result ≡ self }
         ensures limit { IsLimit result }

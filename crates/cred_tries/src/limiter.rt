@@ -16,7 +16,7 @@ use std::marker::Model;
 
 /// The limits on the tries at each account, by its name.
 ///
-/// Behind as many failures in a row as the limit says, the next try at a name waits 1 s, then 2, 4
+/// After as many failures in a row as the limit says, the next try at a name waits 1 s, then 2, 4
 /// .. 512 and 900 s. A right answer and [`Limiter::forgive`] clear the failures, and so does a day
 /// without another failure. Each try that runs may fail, and counts as if it had.
 ///
@@ -47,7 +47,8 @@ impl Model for Limiter {
 }
 
 impl Limiter {
-    /// A limiter by which so many tries may fail at a name until the next has to wait, 1 to 86.
+    /// Returns a limiter that lets `limit` tries, 1 to 86, fail at a name before the next has to
+    /// wait.
     pub fn new(alloc: Global, limit: u64) -> Limiter
         requires some { 0 < limit }
         requires few { limit ≤ most_tries }
@@ -62,7 +63,8 @@ impl Limiter {
 
     /// Asks for a try at a name, at a reading of the clock in seconds.
     ///
-    /// Errors: no memory, only where nothing is counted at the name; then nothing changes.
+    /// Errors: `AllocError` if memory runs out, only if nothing is counted at the name. Then
+    /// nothing changes.
     pub fn begin(&mut self, name: &Name, now: u64) -> Result<Turn, AllocError>
         ensures asked { IfOk result
             (λ turn. (turn, self.new) ≡ begin_outcome self.old name.now now) }
@@ -84,8 +86,8 @@ impl Limiter {
         Ok(turn)
     }
 
-    /// Ends a try, at a reading of the clock in seconds. One of another limiter ends here only
-    /// where one of this limiter runs at its name, in its place.
+    /// Ends a try, at a reading of the clock in seconds. If the try is of another limiter, the call
+    /// ends a try of this limiter that runs at its name, or changes nothing if none runs there.
     pub fn end(&mut self, one: Try, now: u64, how: Ending)
         ensures { self.new ≡ after_end self.old one now how }
     {
@@ -98,9 +100,9 @@ impl Limiter {
         self.clock = self.clock.after(now);
     }
 
-    /// By how many seconds a try at a name is too early, 1 to 900, at a reading of the clock in
-    /// seconds. Then it is sent away; a try that isn't too early has no such number, and nothing
-    /// happens.
+    /// Returns the number of seconds, 1 to 900, by which a try at a name is too early, at a reading
+    /// of the clock in seconds. The caller then sends the try away. For any other try, the call
+    /// returns no number and changes nothing.
     pub fn sends_away(&mut self, name: &Name, now: u64) -> Option<u64>
         ensures { (result, self.new) ≡ sending self.old name.now now }
     {
@@ -131,7 +133,8 @@ impl Limiter {
 
     /// Counts a try whose password was wrong, which began and ended at this reading of the clock.
     ///
-    /// Errors: no memory, only where nothing is counted at the name; then nothing changes.
+    /// Errors: `AllocError` if memory runs out, only if nothing is counted at the name. Then
+    /// nothing changes.
     pub fn wrong(&mut self, name: &Name, now: u64) -> Result<(), AllocError>
         requires { IsFree self.old name.now now }
         ensures counted { OnOk result (self.new ≡ after_try self.old name.now now Ending.Wrong) }
@@ -141,7 +144,7 @@ impl Limiter {
         self.judge(name, now, Ending::Wrong)
     }
 
-    /// A try that begins and ends at once.
+    /// Begins a try, and ends it at once.
     fn judge(&mut self, name: &Name, now: u64, how: Ending) -> Result<(), AllocError>
         requires { IsFree self.old name.now now }
         ensures counted { OnOk result (self.new ≡ after_try self.old name.now now how) }
@@ -164,14 +167,14 @@ impl Limiter {
         self.counts.get(name).is_none()
     }
 
-    /// The seconds that have passed by the clock, from reading to reading.
+    /// Returns the seconds that have passed by the clock, from reading to reading.
     pub fn passed(&self) -> u64
         ensures { result ≡ self.now.clock.passed }
     {
         self.clock.passed()
     }
 
-    /// Forgives the failures at a name: tries wait no more. Tries that run go on. Answers whether
+    /// Forgives the failures at a name: tries wait no more. Tries that run go on. Returns whether
     /// any failures were counted.
     pub fn forgive(&mut self, name: &Name) -> bool
         ensures { (result, self.new) ≡ forgive_outcome self.old name.now }
@@ -185,7 +188,8 @@ impl Limiter {
         }
     }
 
-    /// The waits at a reading of the clock in seconds: each name at which a try is too early.
+    /// Returns the waits at a reading of the clock in seconds: each name at which a try is too
+    /// early.
     pub fn waits(&self, now: u64) -> Waits<'_>
         ensures waits { result ≡ waits_at self.now now }
         ensures few { length result < 2 ^ 63 }
@@ -193,7 +197,7 @@ impl Limiter {
         Waits::new(self.counts.iter(), self.limit, self.clock.moment(now))
     }
 
-    /// The count of a name.
+    /// Returns the count of a name.
     fn count(&self, name: &Name) -> Count
         ensures { result ≡ count_at self.now name.now }
     {

@@ -1,4 +1,4 @@
-//! Tries: how they begin, and how they end.
+//! Tries, their beginnings and their ends.
 
 ghost use Rattle.std.specs.Prelude.{◌≡◌};
 
@@ -7,7 +7,7 @@ use std::marker::Model;
 
 /// A try at a name that has begun.
 ///
-/// It can't be copied, and is not `Drop`: [`Limiter::end`](crate::Limiter::end) alone uses it up.
+/// A try can't be copied, and isn't `Drop`: [`Limiter::end`](crate::Limiter::end) alone uses it up.
 #[derive(Debug)]
 pub struct Try {
     pub(crate) name: Name,
@@ -22,7 +22,7 @@ impl Model for Try {
 }
 
 impl Try {
-    /// The name at which it began.
+    /// Returns the name at which the try began.
     pub fn name(&self) -> Name
         ensures { result ≡ self.now }
     {

@@ -12,14 +12,14 @@ use std::marker::Model;
 #[derive(Clone, Copy, Debug)]
 pub struct Wait {
     pub name: Name,
-    /// The number of tries that have failed in a row; more than the limit and ten aren't counted.
+    /// The number of tries that have failed in a row, but at most the limit and ten.
     pub failed: u64,
     /// The seconds that are left of the wait, 1 to 900.
     pub seconds: u64,
 }
 
 /// The waits at all names, in the order of the names. [`Limiter::waits`](crate::Limiter::waits)
-/// makes one.
+/// returns one.
 #[derive(Drop)]
 pub struct Waits<'a> {
     counts: btree_map::Iter<'a, Name, Count>,
@@ -40,7 +40,7 @@ impl<'a> Model for Waits<'a> {
 }
 
 impl<'a> Waits<'a> {
-    /// The waits among these counts at a moment.
+    /// Returns the waits among these counts at a moment.
     pub(crate) fn new(
         counts: btree_map::Iter<'a, Name, Count>,
         limit: u64,

@@ -1,4 +1,4 @@
-//! Tests of the sessions: what no clause of `cred_desk` says.
+//! Tests of the sessions. They show what no clause of `cred_desk` says.
 #![tactic(auto)]
 
 #[cfg(test)]

@@ -1,5 +1,6 @@
-//! Tests of facts that no clause states: the calls succeed, the answers at records from outside,
-//! sessions in threads see the settled changes, and the values that running out of memory leaves.
+//! Tests of facts that no clause states: the calls succeed and answer as records from outside
+//! demand, and sessions in threads see the settled changes. Others test the values that a lack of
+//! memory leaves.
 
 mod committing;
 mod ending;
@@ -20,17 +21,17 @@ use std::alloc::Global;
 use std::process::Abort;
 use test_samples::A;
 
-/// Names, and the records that stand at them.
+/// Names and their records.
 type Accounts<'a> = &'a [(&'a str, Option<&'a str>)];
 
-/// The accounts of the books that desks are made from.
+/// The accounts of the books from which the tests build desks.
 const NONE_STANDS: Accounts<'static> = &[("a", None), ("b", None)];
 
 const ONE_STANDS: Accounts<'static> = &[("a", Some(A)), ("b", None)];
 
 const BOTH_STAND: Accounts<'static> = &[("a", Some(A)), ("b", Some(A))];
 
-/// Settings whose hashes take 8 KiB, so that many are made in a moment.
+/// Settings whose hashes need 8 KiB, so that many hashes are done in a moment.
 const CHEAP_SETTINGS: [&str; 2] = [
     "$argon2id$v=19$m=8,t=1,p=1$c29tZXNhbHQ",
     "$argon2id$v=19$m=9,t=1,p=1$c29tZXNhbHQ",
@@ -67,7 +68,7 @@ fn verify<R: Abort>(rt: &R, account: &str) -> Request {
     }
 }
 
-/// A change of the password to the other one.
+/// Returns a change of the password to the other one.
 fn change<R: Abort>(rt: &R, account: &str, new: &str) -> Request {
     Request::Change {
         name: name(rt, account),
@@ -106,7 +107,7 @@ fn entry<R: Abort>(rt: &R, account: &str, record: Option<&str>) -> Entry {
     }
 }
 
-/// The entry of a deletion.
+/// Returns the entry of a deletion.
 fn deletion<R: Abort>(rt: &R, account: &str) -> Entry {
     Entry {
         name: name(rt, account),
@@ -114,7 +115,7 @@ fn deletion<R: Abort>(rt: &R, account: &str) -> Entry {
     }
 }
 
-/// A book with these accounts; none if there is no memory for it.
+/// Returns a book with these accounts; none if there is no memory for it.
 fn book_of<R: Abort>(rt: &R, alloc: Global, accounts: Accounts) -> Option<Book> {
     let mut book = Book::new(alloc).ok()?;
     for (account, record) in accounts {
@@ -143,7 +144,7 @@ fn is_same(one: &Book, other: &Book) -> bool {
             .all(|(left, right)| left == right)
 }
 
-/// The journal of a desk leads from its opening book to the one that is left.
+/// Asserts that the journal of a desk leads from its opening book to the one that is left.
 fn judge_replayed<R: Abort>(rt: &R, left: &Left) {
     assert!(rt; is_same(&left.book, &left.journal.book));
 }

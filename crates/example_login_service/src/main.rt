@@ -1,4 +1,4 @@
-//! A login service in small, to be copied. It reads a line for each visit, and answers each with a
+//! A small login service to copy. The service reads a line for each visit, and answers each with a
 //! line:
 //!
 //! ```text
@@ -7,8 +7,9 @@
 //! change NAME PASSWORD NEW
 //! ```
 //!
-//! A change is in the database before it is answered. The argument is the file of the database.
-//! Without one the book is in memory, and is opened once more at the end, as after a crash.
+//! A change is in the database before the service answers. The argument is the file of the
+//! database. Without one the book is in memory, and is opened once more at the end, as after a
+//! crash.
 #![tactic(auto)]
 
 ghost use Rattle.std.specs.Prelude.{◌≡◌, IfOk, false};
@@ -42,7 +43,7 @@ const SCHEME: Scheme = Scheme::Argon2 {
     p: 1,
 };
 
-/// The KiB that are kept from hash to hash.
+/// The number of KiB that are kept from hash to hash.
 const KEPT: u32 = 65_536;
 
 /// The end of a visit.
@@ -51,13 +52,13 @@ enum Answer {
     SignedUp,
     Taken,
     LetIn,
-    /// The password is right, and must be changed before it lets in.
+    /// The password is right, but must be changed before the account lets anybody in.
     MustChange,
     TurnedAway,
     PasswordChanged,
 }
 
-/// Why a visit isn't answered, or the service doesn't start.
+/// The reason why a visit gets no answer, or the service doesn't start.
 #[derive(Clone, Copy, Debug, Error)]
 enum ServiceError {
     #[error("{0}")]
@@ -82,7 +83,7 @@ enum ServiceError {
     Database(sqlite::Error),
 }
 
-/// The accounts, kept in a database, and what their passwords are hashed with.
+/// The accounts, kept in a database, and the values for hashing their passwords.
 #[derive(Drop)]
 struct Service<S: Alter> {
     alloc: Global,
@@ -95,7 +96,8 @@ struct Service<S: Alter> {
 }
 
 impl<S: Alter + Drop> Service<S> {
-    /// The service over the book that the database holds, or over a new one in an empty database.
+    /// Returns the service over the book that the database holds, or over a new book in an empty
+    /// database.
     fn open<R: RandomSource>(
         rt: &R,
         alloc: Global,
@@ -127,8 +129,8 @@ impl<S: Alter + Drop> Service<S> {
     }
 
     /// Whether the password is one of the name's record, and no mark keeps it out. A name without a
-    /// record costs a hash too, so that the time doesn't tell which names there are. Nothing is
-    /// proved of that.
+    /// record costs a hash too, so that the time doesn't tell which names there are. No proof
+    /// covers the time.
     fn log_in(&mut self, name: Name, pw: Password) -> Result<Answer, ServiceError>
         ensures password { IfOk result (λ answer. answer ≡ Answer.LetIn
             → IsPasswordAt self.old.book.book name pw) }
@@ -170,7 +172,7 @@ impl<S: Alter + Drop> Service<S> {
         Ok(Answer::TurnedAway)
     }
 
-    /// Replaces the record of who knows its password.
+    /// Replaces the record of a user who knows its password.
     fn change_password(
         &mut self,
         name: Name,
@@ -190,8 +192,8 @@ impl<S: Alter + Drop> Service<S> {
         }
     }
 
-    /// Copies the record, hashes, and does the whole operation at the record that stands, as far as
-    /// the marks of the account allow it.
+    /// Copies the record, hashes, and does the whole operation at the present record, as far as the
+    /// marks of the account allow it.
     fn operate(&mut self, request: Request) -> Result<Verdict, ServiceError> {
         if !request.is_for_current() {
             return Err(ServiceError::OldVersion);
@@ -209,7 +211,8 @@ impl<S: Alter + Drop> Service<S> {
         }
     }
 
-    /// Why the book made no change. If the database failed, the book has the cause.
+    /// Returns the reason why the book made no change. If the database failed, the book has the
+    /// cause.
     fn cause_of(&self, error: BookError) -> ServiceError {
         match self.book.lost() {
             Some(lost) => ServiceError::Database(lost.error),
@@ -241,7 +244,7 @@ impl<S: Alter + Drop> Service<S> {
     }
 }
 
-/// Opens the book that the database holds, or begins one if there is none.
+/// Opens the book that the database holds, or creates one if there is none.
 fn open_book<S: Alter + Drop>(
     alloc: Global,
     conn: Connection<S>,
@@ -256,7 +259,7 @@ fn open_book<S: Alter + Drop>(
     }
 }
 
-/// Begins a book. A database that holds something else is refused.
+/// Creates a book, and refuses a database that holds something else.
 fn create_book<S: Alter + Drop>(
     alloc: Global,
     conn: Connection<S>,
@@ -270,7 +273,7 @@ fn create_book<S: Alter + Drop>(
     }
 }
 
-/// The scheme of new records with a salt that was just drawn.
+/// Returns the scheme of new records with a salt that was just drawn.
 fn new_setting(salts: &mut StdRng) -> Result<Setting, ServiceError> {
     Ok(Setting::new(SCHEME, &draw_salt(salts))?)
 }

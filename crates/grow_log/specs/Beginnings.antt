@@ -1,4 +1,4 @@
--- How two beginnings of one log compare.
+-- The comparison of two beginnings of one log.
 use Rattle.std.specs.Prelude.{◌<◌, List, length}
 use mathlib.Core.List.{IsPrefix}
 

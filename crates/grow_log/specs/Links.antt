@@ -1,4 +1,4 @@
--- The rule of the words behind a log, and what its steps tell.
+-- The rule of the words behind a log, and the facts that its steps tell.
 --
 -- A log is kept as links: each names the place, a word with a key, where the next link goes. Only
 -- the holder of the last place's pen can add a link, by bringing its word home.
@@ -58,22 +58,22 @@ IsPenAfter links pen = (pen.right ≡ may_write) × (pen.key ≡ place_after fir
 
 -- ---- steps
 
--- a place was made
+-- the step made a place
 abbrev pub Reserves : {T : Type 0} → Step (Link T) → View (Link T) ℕ → ℕ
     → View (Link T) ℕ → Type 0
 Reserves s v found w = w.1.0.right ≡ may_make
 
--- the first link was added, if there was none
+-- the step added the first link, if there was none
 abbrev pub Begins : {T : Type 0} → Step (Link T) → View (Link T) ℕ → ℕ
     → View (Link T) ℕ → Type 0
 Begins s v found w = MatchBool (found == 0) (w.0 ≡ s.ask ∷ []) (Unit {0})
 
--- a link was added, and before it none that hadn't been seen
+-- the step added a link, and nobody had added one that it hadn't seen
 abbrev pub Fills : {T : Type 0} → Step (Link T) → View (Link T) ℕ → ℕ
     → View (Link T) ℕ → Type 0
 Fills s v found w = w.0 ≡ v.0 ++ s.ask ∷ []
 
--- what was seen is as long as the list after which the pen writes
+-- the list that was seen is as long as the list after which the pen writes
 abbrev pub Looks : {T : Type 0} → Step (Link T) → View (Link T) ℕ → ℕ
     → View (Link T) ℕ → Type 0
 Looks s v found w = (w.1.0 ≡ v.1.0)

@@ -31,7 +31,7 @@ impl<T, N: LogName<T>> Model for Beginning<T, N> {
 }
 
 impl<T, N: LogName<T>> Beginning<T, N> {
-    /// The beginning that was seen so far, which has so many entries.
+    /// Returns the beginning that was seen so far, which has so many entries.
     pub(crate) fn of(seen: Links<T>, entries: u64) -> Beginning<T, N>
         requires book { seen.book ≡ N.book }
         requires length { entries ≡ length (entries_of seen.log) }
@@ -45,14 +45,14 @@ impl<T, N: LogName<T>> Beginning<T, N> {
         }
     }
 
-    /// The evidence that the log begins with it, for contracts alone.
+    /// Returns the evidence, for contracts alone, that the log begins with these entries.
     pub fn trace(&self) -> Trace<T, N>
         ensures { result ≡ self.now }
     {
         Trace::of(self.seen.again())
     }
 
-    /// The number of its entries.
+    /// Returns the number of its entries.
     pub fn len(&self) -> u64
         ensures length { result ≡ length self.now }
         ensures holds { N.holds self.now }
@@ -60,7 +60,7 @@ impl<T, N: LogName<T>> Beginning<T, N> {
         self.entries
     }
 
-    /// A copy.
+    /// Copies the beginning.
     pub fn again(&self) -> Beginning<T, N>
         ensures same { result ≡ self.now }
         ensures holds { N.holds self.now }

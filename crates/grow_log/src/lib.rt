@@ -1,9 +1,9 @@
 //! A log that only grows: one holder adds entries, and anybody may hold copies of a beginning of
 //! it, in any thread.
 //!
-//! [`NewLog::named`] gives the [`GrowLog`], to which [`GrowLog::add`] adds an entry. Copies of
-//! [`GrowLog::beginning`] are what others hold. The entries themselves exist in proofs alone: at
-//! run time a [`Beginning`] is how many there are.
+//! [`NewLog::named`] returns the [`GrowLog`], and [`GrowLog::add`] adds an entry to it. Others hold
+//! copies of [`GrowLog::beginning`]. The entries themselves exist in proofs alone: at run time a
+//! [`Beginning`] is the number of its entries.
 #![tactic(auto)]
 
 mod beginning;

@@ -16,7 +16,7 @@ use std::marker::Model;
 #[derive(Drop)]
 pub struct GrowLog<T, N: LogName<T>> {
     head: Place<T>,
-    /// Of the place of the next entry.
+    /// The pen of the place of the next entry.
     pen: Pen,
     seen: Links<T>,
     beginning: Beginning<T, N>,
@@ -40,7 +40,7 @@ impl<T, N: LogName<T>> Model for GrowLog<T, N> {
 }
 
 impl<T, N: LogName<T>> GrowLog<T, N> {
-    /// The log with no entry, if nobody holds it yet.
+    /// Returns the log with no entry, if nobody holds it yet.
     pub(crate) fn open(head: Place<T>, seen: Links<T>) -> Option<GrowLog<T, N>>
         requires head { head ≡ head_of N.book }
         requires book { seen.book ≡ N.book }
@@ -64,7 +64,7 @@ impl<T, N: LogName<T>> GrowLog<T, N> {
         })
     }
 
-    /// All entries so far, for others to copy.
+    /// Returns all entries so far, for others to copy.
     pub fn beginning(&self) -> &Beginning<T, N>
         ensures { result.now ≡ self.now }
     {
@@ -79,7 +79,7 @@ impl<T, N: LogName<T>> GrowLog<T, N> {
         self.covers_trace(&known.trace());
     }
 
-    /// The same of what contracts alone see.
+    /// Finds that a token for contracts alone, which somebody holds, is of a beginning of this log.
     pub fn covers_trace(&mut self, known: &Trace<T, N>)
         ensures begins { IsPrefix known.now self.new }
         ensures same { self.new ≡ self.old }

@@ -46,7 +46,7 @@ impl<T> Model for NewLog<T> {
 }
 
 impl<T> NewLog<T> {
-    /// A log that nobody holds yet.
+    /// Returns a log that nobody holds yet.
     pub fn new() -> NewLog<T> {
         let (seen, mut first, _second) = Seen::open(Start::alone(), 0, 0);
         NewLog {
@@ -55,7 +55,8 @@ impl<T> NewLog<T> {
         }
     }
 
-    /// The log under a name. `None` if somebody holds it already, which isn't met.
+    /// Returns the log under a name, or `None` if somebody already holds the log, which never
+    /// occurs.
     pub fn named<N: LogName<T>>(self) -> Option<GrowLog<T, N>>
         requires name { self ≡ N.book }
         requires holds { N.holds [] }

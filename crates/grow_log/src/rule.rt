@@ -24,7 +24,7 @@ impl<T> Rule<Link<T>, u64> for Law {
     ghost moves = { λ ask before after answer. Unit {0} };
 }
 
-/// Nothing is traded for a step.
+/// The value that a step trades: nothing.
 pub(crate) struct Nothing;
 
 impl<T> Gain<Link<T>, u64> for Nothing {

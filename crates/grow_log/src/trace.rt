@@ -37,7 +37,7 @@ impl<T, N: LogName<T>> Trace<T, N> {
         }
     }
 
-    /// The links that were seen.
+    /// Returns the links that were seen.
     pub(crate) fn seen(&self) -> Links<T>
         ensures entries { entries_of result.log ≡ self.now }
         ensures book { result.book ≡ N.book }

@@ -1,8 +1,9 @@
-//! Tests of facts that no clause states: values from outside, parts that are worked side by side,
-//! faults of texts, and the values that running out of memory leaves.
+//! Tests of facts that no clause states: values from outside, parts that threads work side by side,
+//! faults of texts, and results without memory.
 //!
 //! Most tests run a table: one function judges each row, and the test asserts once that no row is
-//! wrong. For each place that may end early beside a value on the heap costs the prover seconds.
+//! wrong. The reason: each place that may end early beside a value on the heap costs the prover
+//! seconds.
 
 mod argon;
 mod blake;
@@ -18,8 +19,8 @@ use std::process::Abort;
 /// The longest input of the tables.
 const LONGEST: usize = 300;
 
-/// An input of the tables: its byte i is (step * i + seed) mod 256, and its first bytes are an
-/// input that is shorter.
+/// Returns an input of the tables: byte i is (step * i + seed) mod 256. The first bytes of this
+/// input are a shorter input.
 fn counted(seed: u8, step: u8) -> [u8; LONGEST] {
     let mut bytes = [0; LONGEST];
     let mut next = seed;
@@ -30,7 +31,7 @@ fn counted(seed: u8, step: u8) -> [u8; LONGEST] {
     bytes
 }
 
-/// The first bytes of an input.
+/// Returns the first bytes of an input.
 fn first(input: &[u8; LONGEST], len: usize) -> &[u8] {
     &input[..len.min(LONGEST)]
 }
@@ -44,12 +45,12 @@ fn is_hex(bytes: &[u8], digits: &str) -> bool {
     hex::decode_to_slice(digits, read).is_ok() && &*read == bytes
 }
 
-/// The number of bytes that the digits name, at most 1000.
+/// Returns the number of bytes that the digits name, at most 1000.
 fn byte_len(digits: &str) -> u32 {
     (digits.len() / 2).min(1000) as u32
 }
 
-/// Whether something was made, and has these digits in hexadecimal.
+/// Whether the call returned bytes with these digits in hexadecimal.
 fn is_made<E: Drop>(made: Result<Vec<u8>, E>, digits: &str) -> bool {
     match made {
         Ok(bytes) => is_hex(&bytes, digits),

@@ -1,6 +1,6 @@
-//! Two sessions at a desk, to be read before a login service is written. A login copies the record
-//! of ada; before it is settled, an upgrade replaces that record. So the login answers `Changed`
-//! and does nothing; it begins again, and is let in.
+//! Two sessions at a desk. Read this example before you write a login service. A login copies the
+//! record of ada. Before the login settles, an upgrade replaces that record. So the login answers
+//! `Changed` and does nothing. The login then begins again, and gets `Yes`.
 #![tactic(auto)]
 
 ghost use Rattle.std.specs.Prelude.{◌≡◌, false};
@@ -29,7 +29,7 @@ fn main(rt: HostRuntime) -> Result<()> {
     let ada = Name::new(b"ada")?;
     book.admit(ada)?;
     book.load(&ada, parse_record(RECORD)?)?;
-    // The call picks the name of the desk, by which its sessions are told from those of others.
+    // The call picks the name of the desk, which tells its sessions from those of other desks.
     let met = meet::<Brand, HostRuntime>(&rt, alloc, Opened::new(2), &book)?;
     for reply in &met.replies {
         println!(rt; "{}", word(reply))?;
@@ -70,7 +70,7 @@ fn meet<J: Naming, R: Threads + Wait + Sync>(
     }
 }
 
-/// The upgrade's reply, and those of the login before and after it begins again.
+/// Returns the upgrade's reply, and the login's replies before and after it begins again.
 fn overtake<J: Naming, R: Threads + Wait + Sync>(
     rt: &R,
     alloc: Global,
@@ -95,7 +95,7 @@ fn overtake<J: Naming, R: Threads + Wait + Sync>(
     Ok([upgraded, changed, right])
 }
 
-/// Copies the account's record, and waits for nobody.
+/// Copies the account's record into a ticket, and waits for nobody.
 fn begin<J: Naming>(session: &mut Session<J>, request: &Request) -> Result<Ticket> {
     if !request.is_for_current() {
         bail!("a new record has Argon2's version 0x13");
@@ -103,7 +103,8 @@ fn begin<J: Naming>(session: &mut Session<J>, request: &Request) -> Result<Ticke
     session.begin(*request).map_err(|(_, error)| error.into())
 }
 
-/// Hashes, with nothing held, and then does the operation if the record is still the copy.
+/// Hashes the password with no lock held, and then does the operation if the record still equals
+/// the copy.
 fn settle<J: Naming, R: Threads + Wait + Sync>(
     rt: &R,
     alloc: Global,

@@ -1,4 +1,4 @@
-//! Tests of the script engine and of the program, over what is public in `cred_cli`.
+//! Tests of the script engine and of the program, which use only public items of `cred_cli`.
 #![tactic(auto)]
 
 #[cfg(test)]

@@ -1,5 +1,5 @@
 //! Tests of facts that no clause states: whole scripts with their answers as text, the messages of
-//! a failure, and the values that running out of memory leaves.
+//! a failure, and results without memory.
 
 mod committers;
 mod keep;
@@ -19,7 +19,7 @@ use test_samples::{A, A_SETTING, B, B_SETTING, INDEPENDENT, OLD, OLD_WRITTEN, SC
 /// The password `password`.
 const PA: &str = "cGFzc3dvcmQ";
 
-/// The names that stand for these in scripts and answers.
+/// The names that stand for passwords, settings and records in scripts and answers.
 static PLACES: [(&str, &str); 9] = [
     ("{PA}", PA),
     ("{SA}", A_SETTING),
@@ -32,7 +32,7 @@ static PLACES: [(&str, &str); 9] = [
     ("{SCRYPT}", SCRYPT),
 ];
 
-/// The text with passwords, settings and records in place of their names.
+/// Returns the text with passwords, settings and records in place of their names.
 fn filled_in<R: Abort>(rt: &R, alloc: Global, text: &str) -> String {
     let mut text = text.to_string(alloc).expect(rt, "memory");
     for (place, value) in &PLACES {
@@ -45,9 +45,9 @@ fn name<R: Abort>(rt: &R, text: &str) -> Name {
     Name::new(text.as_bytes()).expect(rt, "a name")
 }
 
-/// Holds what was written against what it is to be.
+/// Compares the bytes that were written with the text that is due.
 ///
-/// The tests end here if they fail, so that none has an end of its own beside a book or a text.
+/// A test that fails ends here. So no test has an end of its own beside a book or a text.
 fn hold_bytes<R: Abort>(rt: &R, written: &[u8], want: &str) {
     assert_eq!(rt; written, want.as_bytes());
 }
@@ -69,7 +69,8 @@ fn run_on<K: Keeper + Drop, R: Threads + Wait + Sync>(
     (end, writer.into_inner())
 }
 
-/// The same with room for 4096 bytes of answers; none if there is no memory for it.
+/// Runs a script on a keeper, with room for 4096 bytes of answers. Returns none if there is no
+/// memory for this room.
 fn run_in_room<K: Keeper, R: Threads + Wait + Sync>(
     rt: &R,
     alloc: Global,

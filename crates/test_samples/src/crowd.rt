@@ -13,9 +13,9 @@ const TURNS: u64 = 1_000_000_000;
 const MOMENT: u64 = 2_000_000;
 
 /// Counts how often each of the first nine parts enters and leaves, and how many were inside at
-/// once at most. In each round, in which each part enters once, it holds parts back until the
-/// wanted number have entered, which are inside at once then; and each part for a moment more, so
-/// that one too many has time to arrive.
+/// once at most. In each round, each part enters once. The gate holds parts back until the wanted
+/// number are inside at once. Then it holds each part for a moment more, so that one too many has
+/// time to arrive.
 #[derive(Drop)]
 pub struct Crowd {
     parts: u64,
@@ -42,8 +42,8 @@ pub struct Visits {
 }
 
 impl Visits {
-    /// The counts if each of the first `parts` parts entered and left this many `times`, and none
-    /// waited in vain.
+    /// Returns the counts of a run in which each of the first `parts` parts entered and left this
+    /// many `times`, and none waited in vain.
     pub fn of(most: u64, parts: usize, times: u64) -> Visits {
         let mut each = [0; PARTS];
         for part in 0..parts.min(PARTS) {
@@ -59,8 +59,8 @@ impl Visits {
 }
 
 impl Crowd {
-    /// A gate that none of so many parts has entered, which waits for `wanted` of them to be inside
-    /// at once.
+    /// Returns a gate that none of so many parts has entered, and that waits for `wanted` of them
+    /// to be inside at once.
     pub fn new(parts: u64, wanted: u64) -> Crowd {
         Crowd {
             parts,
@@ -74,7 +74,7 @@ impl Crowd {
         }
     }
 
-    /// The visits so far.
+    /// Returns the visits so far.
     pub fn visits(&self) -> Visits {
         Visits {
             most: self.most.load(Ordering::SeqCst),
@@ -105,7 +105,7 @@ impl Gate for Crowd {
     }
 }
 
-/// Waits at most this many turns for the count.
+/// Waits for the count, at most this many turns.
 fn wait(count: &AtomicU64, wanted: u64, turns: u64) {
     for _ in 0..turns {
         if count.load(Ordering::SeqCst) >= wanted {
@@ -114,7 +114,7 @@ fn wait(count: &AtomicU64, wanted: u64, turns: u64) {
     }
 }
 
-/// Counts once more, and tells how often it was before.
+/// Adds one to the count of a part, and returns the count before.
 fn add(counts: &[AtomicU64; PARTS], part: usize) -> u64 {
     match counts.get(part) {
         Some(count) => count.fetch_add(1, Ordering::SeqCst),

@@ -1,5 +1,5 @@
-//! The values that several crates of tests share: settings and records that other programs made, a
-//! gate that counts the parts of a hash that arrive, and a password that no text may show.
+//! The values that several crates of tests share: settings and records of other programs, a gate
+//! that counts the parts of a hash, and a password that no text may show.
 #![tactic(auto)]
 
 pub use crowd::{Crowd, Visits};

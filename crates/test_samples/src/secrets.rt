@@ -3,10 +3,10 @@
 /// The password that tests look for.
 pub const SECRET: &str = "correct horse";
 
-/// Its bytes as `{:?}` shows a slice of them.
+/// The password's bytes as `{:?}` shows a slice of them.
 const SECRET_NUMBERS: &str = "99, 111, 114, 114, 101, 99, 116, 32, 104, 111, 114, 115, 101";
 
-/// Its bytes in base64.
+/// The password's bytes in base64.
 const SECRET_LETTERS: &str = "Y29ycmVjdCBob3JzZQ";
 
 /// Whether the text contains the password, as letters, as numbers or in base64.

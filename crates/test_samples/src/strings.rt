@@ -18,7 +18,7 @@ pub const B: &str =
 pub const INDEPENDENT: &str =
     "$argon2i$v=19$m=256,t=2,p=1$c29tZXNhbHQ$iekCn0Y3spW+sCcFanM2xBT63UP2sghkUoHLIUpWRS8";
 
-/// Like `A`, for `argon2i` and version 0x10, by the same program. It leaves the version out.
+/// Like `A`, for `argon2i` and version 0x10, by the same program. The text leaves the version out.
 pub const OLD: &str =
     "$argon2i$m=256,t=2,p=1$c29tZXNhbHQ$/U3YPXYsSb3q9XxHvc0MLxur+GP960kN9j7emXX8zwY";
 

@@ -1,5 +1,5 @@
-//! Tests of the limiter of failed tries, over what is public in `cred_tries`: what none of its
-//! clauses says.
+//! Tests of the limiter of failed tries. They show what no clause of `cred_tries` says, and use
+//! only public items.
 #![tactic(auto)]
 
 #[cfg(test)]

@@ -6,8 +6,8 @@ use std::alloc::Global;
 
 const LIMIT: u64 = 5;
 
-/// The answer to one who asks for a try, which ends at once: the seconds to wait, or none where
-/// others have to end first.
+/// Returns the answer to one who asks for a try, which ends at once: the seconds to wait, or none
+/// if others have to end first.
 fn answer(
     limiter: &mut Limiter,
     name: &Name,
@@ -24,7 +24,7 @@ fn answer(
     }
 }
 
-/// So many failures, each as soon as it may come. The moment of the last.
+/// Makes so many failures, each as soon as it may come, and returns the moment of the last.
 fn last_of(
     limiter: &mut Limiter,
     name: &Name,
@@ -60,7 +60,7 @@ fn waits_grow_to_a_quarter_of_an_hour(rt: HostRuntime) {
     }
 }
 
-/// The number of so many tries at once that begin.
+/// Asks for so many tries at once, and returns the number that begin.
 fn begun(limiter: &mut Limiter, name: &Name, tries: u32) -> Result<u32, BookError> {
     if tries == 0 {
         return Ok(0);
@@ -75,7 +75,8 @@ fn begun(limiter: &mut Limiter, name: &Name, tries: u32) -> Result<u32, BookErro
     }
 }
 
-/// The number of 128 that begin, and of 128 more, since none of the first was judged.
+/// Returns how many of 128 tries begin, and how many of 128 more, since none of the first was
+/// judged.
 fn begun_twice(alloc: Global) -> Result<(u32, u32), BookError> {
     let mut limiter = Limiter::new(alloc, LIMIT);
     let name = Name::new(b"ann")?;
@@ -88,8 +89,8 @@ fn five_of_many_begin(rt: HostRuntime) {
     assert_eq!(rt; begun_twice(rt.alloc()), Ok((5, 5)));
 }
 
-/// After seven failures, the last of them at 3 s, what each of these is answered: a clock that is
-/// set back by an hour, and goes on from there; a try at another name; and a forgiven one.
+/// Returns the answers to tries after seven failures, the last of them at 3 s. The clock is set
+/// back by an hour and goes on from there; one try is at another name, and one after a forgiving.
 fn answers(alloc: Global) -> Result<[Option<u64>; 6], BookError> {
     let mut limiter = Limiter::new(alloc, LIMIT);
     let (ann, bob) = (Name::new(b"ann")?, Name::new(b"bob")?);
@@ -129,8 +130,8 @@ fn failures_are_cleared(rt: HostRuntime) {
     assert_eq!(rt; cleared(rt.alloc()), Ok((true, false, 1, 86401)));
 }
 
-/// After seven failures of ann's and four of bob's: the failures and the seconds of the first wait,
-/// and the numbers of waits now and four seconds later.
+/// Returns the failures and the seconds of the first wait, and the numbers of waits now and four
+/// seconds later, after seven failures of ann's and four of bob's.
 fn listed(alloc: Global) -> Result<(Option<(u64, u64)>, usize, usize), BookError> {
     let mut limiter = Limiter::new(alloc, LIMIT);
     let last = last_of(&mut limiter, &Name::new(b"ann")?, 7, 0)?;
@@ -148,7 +149,8 @@ fn waits_are_listed(rt: HostRuntime) {
     assert_eq!(rt; listed(rt.alloc()), Ok((Some((7, 4)), 1, 0)));
 }
 
-/// The answers to two who ask for the one try that may run, of which the first may find no memory.
+/// Returns the answers to two who ask for the one try that may run, of which the first may find no
+/// memory.
 fn begun_behind_refusal(alloc: Global) -> Result<(bool, Option<u64>), BookError> {
     let mut limiter = Limiter::new(alloc, 1);
     let name = Name::new(b"ann")?;

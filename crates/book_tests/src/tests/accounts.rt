@@ -15,7 +15,7 @@ fn keeps<R: Wait, K: Keeper>(rt: &R, keeper: &mut K, name: Name, stored: Record)
         && keeper.show(&name) == Ok(Some(stored))
 }
 
-/// Whether each keeper does.
+/// Whether each keeper admits the name, and loads and shows the record.
 fn all_keep<R: Wait>(
     rt: &R,
     alloc: Global,
@@ -37,7 +37,7 @@ fn an_account_is_admitted_loaded_and_shown(rt: HostRuntime) {
     assert_eq!(rt; kept, Ok([true; 3]));
 }
 
-/// The records that a book and its copy show after the book's record is removed.
+/// Returns the records that a book and its copy show after the book's record is removed.
 fn shown_then(alloc: Global, account: Entry) -> Result<[Option<Record>; 2], BookError> {
     let mut book = book_with(alloc, account)?;
     let copy = book.copy()?;

@@ -1,5 +1,5 @@
 //! Tests of the number of an operation's hashes, and of their setting, by the lanes that enter a
-//! gate; and that as many threads as there are workers for work a ticket's lanes.
+//! gate. One test shows that as many threads as there are workers for work a ticket's lanes.
 use super::operations::{change, remove, standing, upgrade};
 use super::work::{Entry, begun, book_with};
 use super::{enrol, name, verify};
@@ -12,7 +12,7 @@ use test_samples::{A, A_SETTING, B_SETTING, Crowd, Visits};
 /// Eight lanes, one pass.
 const LANES: &str = "$argon2id$v=19$m=64,t=1,p=8$c29tZXNhbHQ";
 
-/// The visits that a gate counts during the work of the request at this account.
+/// Returns the visits that a gate counts during the work of the request at this account.
 fn seen<R: Threads + Sync>(
     rt: &R,
     alloc: Global,
@@ -37,7 +37,7 @@ fn each_lane_by_the_workers(rt: HostRuntime) {
     }
 }
 
-/// The record there, what is asked, and how often the first lane and the second enter.
+/// The record there, the request, and how often the first lane and the second enter.
 type Row = (Option<&'static str>, Request, [u64; 2]);
 
 fn hold<R: Threads + Sync + Abort>(rt: &R, alloc: Global, table: &[Row]) {
@@ -49,9 +49,9 @@ fn hold<R: Threads + Sync + Abort>(rt: &R, alloc: Global, table: &[Row]) {
     }
 }
 
-/// A hash has two passes of four slices, and lets each lane in once in each: `A` is of one lane,
-/// and the setting of two if a new record may be made. A wrong password takes as many hashes as a
-/// right one.
+/// Counts the lanes that enter. A hash has two passes of four slices, and each lane enters once in
+/// each slice. `A` has one lane, and the setting of a new record has two. A wrong password costs as
+/// many hashes as a right one.
 #[test]
 fn no_hash_too_many(rt: HostRuntime) {
     let table = [

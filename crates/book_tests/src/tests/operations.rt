@@ -1,5 +1,5 @@
-//! Whole operations, each begun, worked and committed: what is answered, and which record stands
-//! then. `script_tests` has those of all kinds.
+//! Tests of whole operations, each begun, worked and committed: the answer, and the record then.
+//! `script_tests` has operations of all kinds.
 use super::work::{Seen, operate};
 use super::{enrol, name, password, setting, stored, verify};
 use cred_book::{Reply, Request};
@@ -48,8 +48,8 @@ pub(super) fn standing<R: Abort>(rt: &R, text: Option<&str>) -> Option<Record> {
     }
 }
 
-/// A whole operation on the account a: the record there, what is asked, what is answered, and the
-/// record after it.
+/// A whole operation on the account a: the record there, the request, the answer, and the record
+/// after it.
 type Row = (Option<&'static str>, Request, Reply, Option<&'static str>);
 
 fn hold<R: Threads + Sync + Abort>(rt: &R, alloc: Global, table: &[Row]) {

@@ -1,12 +1,12 @@
-//! A register. `refused_register` holds whichever request for memory is refused, if one is:
-//! tools/refuse_memory.py refuses each.
+//! Tests of a register. `refused_register` holds whichever request for memory the allocator
+//! refuses, if any: tools/refuse_memory.py refuses each.
 use super::stored;
 use cred_book::{Book, BookError, Name, Register};
 use cred_phc::Record;
 use std::alloc::Global;
 use test_samples::A;
 
-/// The name `n` with the four digits of the number.
+/// Returns the name `n` with the four digits of the number.
 fn numbered(number: u32) -> Result<Name, BookError> {
     Name::new(&[
         b'n',
@@ -17,13 +17,13 @@ fn numbered(number: u32) -> Result<Name, BookError> {
     ])
 }
 
-/// The last digit of the number.
+/// Returns the last digit of the number.
 fn digit(number: u32) -> u8 {
     b'0' + (number % 10) as u8
 }
 
-/// Enters a name with a record, and once more if memory was refused, which must have changed
-/// nothing. Whether the record stands there then.
+/// Enters a name with a record, and once more if memory ran out, which must have changed nothing.
+/// Returns whether the name then has the record.
 fn enters(register: &mut Register, name: Name, record: Record) -> bool {
     let before = register.len();
     let mut entered = register.enter(name, Some(record));
@@ -33,7 +33,7 @@ fn enters(register: &mut Register, name: Name, record: Record) -> bool {
     entered == Ok(()) && register.show(&name) == Ok(Some(record))
 }
 
-/// Enters 64 names; the first number whose name isn't entered.
+/// Enters 64 names, and returns the first number whose name isn't entered.
 fn fill(register: &mut Register, record: Record) -> Result<Option<u32>, BookError> {
     for i in 0..64 {
         // as 37 is odd, each number below 64 once
@@ -46,7 +46,7 @@ fn fill(register: &mut Register, record: Record) -> Result<Option<u32>, BookErro
 }
 
 /// The results of a register with 64 names: the number that wasn't entered, whether a copy keeps a
-/// name that is removed from the register afterwards, and the number of names left.
+/// name that the register later loses, and the number of names left.
 type Shown = (Option<u32>, Result<bool, BookError>, usize);
 
 fn judge(alloc: Global, record: Record) -> Result<Shown, BookError> {
@@ -77,8 +77,8 @@ fn refused_register(rt: HostRuntime) {
     assert!(rt; kept == Ok(true) || kept == Err(BookError::Memory));
 }
 
-/// The number of names of the book of `count` names, and whether the book shows the first one's
-/// record.
+/// Returns the number of names of the book of `count` names, and whether the book shows the first
+/// one's record.
 fn book_of(alloc: Global, count: u32, record: Record) -> Result<(usize, bool), BookError> {
     let mut register = Register::new(alloc);
     for i in 0..count {

@@ -1,4 +1,4 @@
-//! Tickets that are worked one after another in memory that is kept.
+//! Tests of tickets that are worked one after another in memory that a scratch keeps.
 use super::operations::{change, remove, standing};
 use super::{enrol, verify};
 use cred_book::{Reply, Request, Ticket};
@@ -8,10 +8,10 @@ use std::alloc::Global;
 use std::process::Abort;
 use test_samples::{A, A_SETTING, B, B_SETTING, SCRYPT};
 
-/// The record at the copy, what is asked, what is answered, and how many KiB are kept then.
+/// The record at the copy, the request, the answer, and the number of KiB that are kept then.
 type Row = (Option<&'static str>, Request, Reply, usize);
 
-/// Operations that hash once, twice or not at all, under Argon2 and scrypt.
+/// Returns operations that hash once, twice or not at all, under Argon2 and scrypt.
 fn rows<R: Abort>(rt: &R) -> [Row; 8] {
     let right = "password";
     let changed = change(rt, right, "", B_SETTING);
@@ -28,14 +28,14 @@ fn rows<R: Abort>(rt: &R) -> [Row; 8] {
     ]
 }
 
-/// The reply of a ticket that is worked in the scratch; none if it comes back.
+/// Returns the reply of a ticket that is worked in the scratch; none if it comes back.
 fn reply<R: Abort>(rt: &R, alloc: Global, scratch: &mut Scratch, row: &Row) -> Option<Reply> {
     let ticket = Ticket::new(row.1, standing(rt, row.0));
     let work = ticket.work_in(scratch, alloc, &NoGate).ok()?;
     Some(work.reply())
 }
 
-/// The first row that is answered otherwise, or after which other memory is kept.
+/// Returns the first row that gets another answer, or after which the scratch keeps other memory.
 fn other_row<R: Abort>(rt: &R, alloc: Global, rows: &[Row]) -> Option<usize> {
     let mut scratch = Scratch::new(alloc, 1024);
     for (i, row) in rows.iter().enumerate() {

@@ -7,7 +7,8 @@ use std::process::Abort;
 use std::thread::Threads;
 use test_samples::{A, A_SETTING, SECRET, shows_secret};
 
-/// One request of each operation, at the account `a`, with the password in each place of one.
+/// Returns one request of each operation, at the account `a`, with the password in each place of a
+/// password.
 fn requests<R: Abort>(rt: &R) -> [Request; 5] {
     let (name, pw, setting) = (name(rt, "a"), password(rt, SECRET), setting(rt, A_SETTING));
     [
@@ -24,8 +25,8 @@ fn requests<R: Abort>(rt: &R) -> [Request; 5] {
     ]
 }
 
-/// Whether the password is seen in the request, in its ticket or in its work; none if it isn't
-/// begun or worked.
+/// Whether the request, its ticket or its work shows the password; none if the request isn't begun
+/// or worked.
 fn is_shown<R: Threads + Sync>(
     rt: &R,
     alloc: Global,
@@ -39,7 +40,8 @@ fn is_shown<R: Threads + Sync>(
     Some(shows_secret(&text) || shows_secret(&verify))
 }
 
-/// The same of the refusal to begin the request at a book without its name; none if it is begun.
+/// Whether the refusal to begin the request at a book without its name shows the password; none if
+/// the request is begun.
 fn is_shown_in_refusal(alloc: Global, request: Request) -> Option<bool> {
     let book = Book::new(alloc).ok()?;
     if !request.is_for_current() {

@@ -1,11 +1,11 @@
-//! Whole operations, each begun, worked and committed, and what is seen of them.
+//! Whole operations, each begun, worked and committed, and their results.
 use cred_book::{Book, BookError, Name, Reply, Request, Ticket, Worked};
 use cred_phc::Record;
 use cred_pool::NoGate;
 use std::alloc::Global;
 use std::thread::Threads;
 
-/// A name, and the record that stands there.
+/// A name, and its record.
 pub(super) type Entry = (Name, Option<Record>);
 
 /// The results of work that is committed.
@@ -19,14 +19,14 @@ pub(super) struct Seen {
     pub(super) shown: Result<Option<Record>, BookError>,
 }
 
-/// A book with one account.
+/// Returns a book with one account.
 pub(super) fn book_with(alloc: Global, account: Entry) -> Result<Book, BookError> {
     let mut book = Book::new(alloc)?;
     book.put(&account.0, account.1);
     Ok(book)
 }
 
-/// A ticket of the request; none if it is refused.
+/// Returns a ticket of the request; none if the book refuses it.
 pub(super) fn begun(book: &Book, request: Request) -> Option<Ticket> {
     if !request.is_for_current() {
         return None;
@@ -34,7 +34,7 @@ pub(super) fn begun(book: &Book, request: Request) -> Option<Ticket> {
     book.begin(request).ok()
 }
 
-/// The work of the request, begun at the book.
+/// Returns the work of the request, begun at the book.
 pub(super) fn worked<R: Threads + Sync>(
     rt: &R,
     alloc: Global,
@@ -56,7 +56,8 @@ fn committed(book: &mut Book, work: Worked) -> Seen {
     }
 }
 
-/// The whole operation at a book with one account, at which each of these is put before the commit.
+/// Does the whole operation at a book with one account, and puts each of these records there before
+/// the commit.
 pub(super) fn operate<R: Threads + Sync>(
     rt: &R,
     alloc: Global,

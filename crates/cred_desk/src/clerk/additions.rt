@@ -17,10 +17,10 @@ use cred_phc::Record;
 use std::sync::Wait;
 
 impl<J: Naming, W: EntryWriter> Clerk<J, W> {
-    /// Adds a name with no record for the session, which knows the list after it from then on and
-    /// counts an addition.
+    /// Adds a name with no record for the session. From then on the session knows the list after
+    /// the addition, and counts one addition more.
     ///
-    /// Errors: `Exists` if the name exists; `Full` if there is no room for it; as of `add`. The
+    /// Errors: `Exists` if the name exists; `Full` if there is no room for it; those of `add`. The
     /// list stays then, and the session knows it.
     pub(crate) fn admit<R: Wait>(
         &mut self,
@@ -42,8 +42,8 @@ impl<J: Naming, W: EntryWriter> Clerk<J, W> {
         self.add(rt, session, Entry { name, now })
     }
 
-    /// Puts a record at a name for the session, which knows the list after it from then on and
-    /// counts an addition.
+    /// Puts a record at a name for the session. From then on the session knows the list after the
+    /// load, and counts one addition more.
     ///
     /// Errors: `NoAccount` if the name doesn't exist; as of `add`. The list stays then, and the
     /// session knows it.
@@ -65,8 +65,8 @@ impl<J: Naming, W: EntryWriter> Clerk<J, W> {
         self.add(rt, session, Entry { name, now })
     }
 
-    /// Deletes a name for the session, which from then on knows the list after the deletion and
-    /// counts an addition.
+    /// Deletes a name for the session. From then on the session knows the list after the deletion,
+    /// and counts one addition more.
     ///
     /// Errors: `NoAccount` if the name doesn't exist; as of `add`. The list stays then, and the
     /// session knows it.
@@ -88,10 +88,11 @@ impl<J: Naming, W: EntryWriter> Clerk<J, W> {
         self.add(rt, session, gone)
     }
 
-    /// Adds an entry for the session, which knows the list after it from then on and counts it.
+    /// Adds an entry for the session, which knows the list after the entry from then on, and counts
+    /// the entry.
     ///
-    /// Errors: `Memory` if it runs out; the writer's own. The list stays then, and the session
-    /// knows it.
+    /// Errors: `Memory` if memory runs out; the writer's own error. The list stays then, and the
+    /// session knows it.
     fn add<R: Wait>(
         &mut self,
         rt: &R,
@@ -121,7 +122,7 @@ impl<J: Naming, W: EntryWriter> Clerk<J, W> {
         Ok(self.tell(session))
     }
 
-    /// The refusal of an addition. The session then knows the list that the refusal saw.
+    /// Returns the refusal of an addition. The session then knows the list that the refusal saw.
     fn refuse(&mut self, session: &mut Session<J>, error: BookError) -> KeepError<W::Error>
         ensures same { self.new ≡ self.old }
         ensures listed { IsListed J.loads J.opening self.old }

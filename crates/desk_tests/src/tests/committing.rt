@@ -1,5 +1,5 @@
-//! A committer: what a session reads of its commits, and its end. A script makes the calls of a
-//! keeper on one (`script_tests`).
+//! Tests of a committer: what a session reads of its commits, and its end. `script_tests` makes the
+//! calls of a keeper on a committer.
 ghost use Rattle.std.specs.Prelude.{◌≡◌, true};
 ghost use Rattle.cred_desk.specs.Naming.{IsNamed, StartsAt};
 
@@ -17,7 +17,7 @@ use test_samples::{A, B, B_SETTING};
 /// The book of the committer.
 const A_ALONE: Accounts<'static> = &[("a", Some(A))];
 
-/// Works the ticket and commits it, and has the session learn what was told.
+/// Works the ticket and commits it, and has the session learn the list that was told.
 fn commit<J: Naming, R: Threads + Wait + Sync>(
     rt: &R,
     alloc: Global,
@@ -37,7 +37,8 @@ fn commit<J: Naming, R: Threads + Wait + Sync>(
     }
 }
 
-/// The answers to a session that reads the committer's changes, and to work from before them.
+/// Returns the answers to a session that reads the committer's changes, and to work from before
+/// them.
 fn commit_and_read<J: Naming, R: Threads + Wait + Abort + Sync>(
     rt: &R,
     alloc: Global,
@@ -58,8 +59,8 @@ fn commit_and_read<J: Naming, R: Threads + Wait + Abort + Sync>(
     [unknown, upgraded, closed, copied, removed]
 }
 
-/// Commits and reads, ends the committer, and begins once more: what that answers, and what it
-/// reads then.
+/// Commits changes and reads them, ends the committer, and begins a request once more. Returns the
+/// answers, and what the session reads then.
 fn committed<J: Naming, R: Threads + Wait + Abort + Sync>(
     rt: &R,
     alloc: Global,
@@ -79,7 +80,7 @@ fn committed<J: Naming, R: Threads + Wait + Abort + Sync>(
     Ok((answers, [late, read(&open)]))
 }
 
-/// The same over a book of its own.
+/// Runs `committed` over a book of its own.
 fn committed_alone<R: Threads + Wait + Abort + Sync>(
     rt: &R,
     alloc: Global,

@@ -10,13 +10,13 @@ use std::sync::Wait;
 /// The end of a kept desk.
 #[derive(Clone, Copy)]
 pub(super) enum Ending {
-    /// With all sessions, in their order.
+    /// Closes the desk with all sessions, in their order.
     Close,
-    /// So many of the last sessions are lost.
+    /// Finishes the desk, with so many of the last sessions lost.
     Finish { lost: usize },
-    /// Without counts.
+    /// Gives the desk up, without counts.
     GiveUp,
-    /// Without a word, once all is handed out.
+    /// Ends the desk without a result, once all is handed out.
     End,
 }
 
@@ -24,7 +24,7 @@ pub(super) enum Ending {
 #[derive(Drop)]
 pub(super) struct Journal {
     alloc: Global,
-    /// The opening book, with the changes of the entries.
+    /// The opening book with the changes of the entries.
     pub(super) book: Book,
     pub(super) entries: Vec<Entry>,
     /// The number of entries of each piece.
@@ -32,7 +32,7 @@ pub(super) struct Journal {
 }
 
 impl Journal {
-    /// None if there is no memory.
+    /// Returns an empty journal, or none if there is no memory.
     pub(super) fn new(alloc: Global, opening: &Book) -> Option<Journal> {
         Some(Journal {
             alloc,
@@ -42,7 +42,7 @@ impl Journal {
         })
     }
 
-    /// None if there is no memory.
+    /// Adds a piece. Returns none if there is no memory.
     pub(super) fn add(&mut self, piece: Vec<Entry>) -> Option<()> {
         self.pieces.push(piece.len()).ok()?;
         replay(&mut self.book, &piece);
@@ -62,7 +62,7 @@ pub(super) struct Left {
     /// The changes of each session, as the desk counted them if it was closed.
     pub(super) counts: Vec<u64>,
     pub(super) additions: Vec<u64>,
-    /// The number of entries that the desk missed.
+    /// The number of entries of the sessions that the desk missed.
     pub(super) missing: u64,
     pub(super) log: Log,
 }
@@ -79,7 +79,7 @@ fn counted<J: Naming>(alloc: Global, sessions: &[Session<J>]) -> Option<Tallies>
     Some((counts, additions))
 }
 
-/// Ends a desk that has handed out this journal. None if memory or the desk fails.
+/// Ends a desk that has handed out this journal. Returns none if memory runs out or the desk fails.
 pub(super) fn end<J: Naming, R: Wait>(
     rt: &R,
     desk: KeptDesk<J, Log>,
@@ -152,7 +152,7 @@ fn close<J: Naming, R: Wait>(
     }
 }
 
-/// The values left by a desk that missed nothing.
+/// Returns the values left by a desk that missed nothing.
 fn finished(remains: Remains, writer: Log) -> Finished<Log> {
     Finished {
         remains,

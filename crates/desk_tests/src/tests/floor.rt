@@ -40,16 +40,16 @@ pub(super) enum Answer {
     Replied(Reply),
     /// The number of entries that the session was told of.
     Told(u64),
-    /// A request or a work came back.
+    /// The desk refused a request or a work, which came back.
     Refused(DeskError),
-    /// There was no ticket, or no memory for what is not the desk's.
+    /// There was no ticket, or no memory for a value that isn't the desk's.
     Failed,
 }
 
 /// An answer, and what the session was told with it.
 pub(super) type Taken<J> = Result<(Answer, Option<Told<J>>), KeepError<Refused>>;
 
-/// Begins the request, and puts the ticket into its place.
+/// Begins the request, and puts the ticket into `open`.
 pub(super) fn begin<J: Naming>(
     session: &mut Session<J>,
     open: &mut Option<Ticket>,
@@ -68,7 +68,7 @@ pub(super) fn begin<J: Naming>(
     }
 }
 
-/// The record that the ticket copied.
+/// Returns the record that the ticket copied.
 pub(super) fn read(open: &Option<Ticket>) -> Answer {
     match open {
         Some(ticket) => Answer::Copied(ticket.copy()),
@@ -76,7 +76,7 @@ pub(super) fn read(open: &Option<Ticket>) -> Answer {
     }
 }
 
-/// The work of the ticket; none if there is no memory or no ticket.
+/// Returns the work of the ticket; none if there is no memory or no ticket.
 pub(super) fn worked<R: Threads + Sync>(
     rt: &R,
     alloc: Global,
@@ -85,7 +85,7 @@ pub(super) fn worked<R: Threads + Sync>(
     open.take()?.work(rt, alloc, 1, &NoGate).ok()
 }
 
-/// The work of a request that the session begins.
+/// Returns the work of a request that the session begins.
 pub(super) fn work_of<J: Naming, R: Threads + Sync>(
     rt: &R,
     alloc: Global,
@@ -119,7 +119,7 @@ pub(super) struct Floor<'a, J: Naming, R: Wait> {
     pub(super) desk: &'a KeptDesk<J, Log>,
 }
 
-/// Names are admitted and deleted while others log in.
+/// Sessions admit and delete names while others log in.
 impl<'a, J: Naming, R: Wait> Model for Floor<'a, J, R> {
     ghost use Rattle.std.specs.Prelude.{◌≡◌, true};
 
@@ -131,7 +131,7 @@ impl<'a, J: Naming, R: Wait> Model for Floor<'a, J, R> {
 }
 
 impl<'a, J: Naming, R: Threads + Wait + Sync> Floor<'a, J, R> {
-    /// A step of one session alone.
+    /// Takes a step of one session alone.
     pub(super) fn take(
         &self,
         session: &mut Session<J>,

@@ -1,5 +1,5 @@
-//! A kept desk with one session, at which people sign up, records are loaded and names are taken
-//! away beside all other kinds of change; a book that is full, and memory.
+//! Tests of a kept desk with one session, which admits and deletes names and loads records beside
+//! all other kinds of change. Others test a full book, and a lack of memory.
 
 use super::floor::{Answer, Step};
 use super::scene::{DONE, FULL, NO_ACCOUNT, Scene, judge, left_of_act, operates, replied, show};
@@ -19,7 +19,7 @@ const C: &str =
 /// The number of names that a book has room for.
 const MOST_ACCOUNTS: usize = 4096;
 
-/// Every kind of change.
+/// Makes every kind of change.
 #[test]
 fn deletions_are_kept(rt: HostRuntime) {
     let book = book_of(&rt, rt.alloc(), NONE_STANDS).expect(&rt, "a book");
@@ -52,7 +52,8 @@ fn deletions_are_kept(rt: HostRuntime) {
     judge_replayed(&rt, &left);
 }
 
-/// A book with as many names as it has room for, all of 32 bytes, of which `LAST` is the last one.
+/// Returns a book with as many names as it has room for, all of 32 bytes, of which `LAST` is the
+/// last one.
 fn full_book<R: Abort>(rt: &R, alloc: Global) -> Option<Book> {
     let mut book = Book::new(alloc).ok()?;
     for place in 0..MOST_ACCOUNTS {
@@ -65,7 +66,7 @@ fn full_book<R: Abort>(rt: &R, alloc: Global) -> Option<Book> {
 
 const LAST: &str = "a-name-of-thirty-two-bytes--5095";
 
-/// A deletion makes room for one name. A removal that is due at a full book is done.
+/// Tests that a deletion makes room for one name, and that a removal succeeds at a full book.
 #[test]
 fn full_book_of_long_names(rt: HostRuntime) {
     let book = full_book(&rt, rt.alloc()).expect(&rt, "a book");
@@ -96,9 +97,9 @@ fn full_book_of_long_names(rt: HostRuntime) {
     judge_replayed(&rt, &left);
 }
 
-/// Names come and go at a kept desk, and a record is upgraded to and fro, each call a second time
-/// if it was refused. So a refused one did nothing. It holds whichever request for memory is
-/// refused: tools/refuse_memory.py refuses each in turn.
+/// Admits and deletes names at a kept desk, and upgrades a record to and fro. Each call runs a
+/// second time if it was refused, so this tests that a refused call did nothing. The test holds
+/// whichever request for memory is refused: tools/refuse_memory.py refuses each in turn.
 #[test]
 fn refused_desk(rt: HostRuntime) {
     let Some(book) = book_of(&rt, rt.alloc(), ONE_STANDS) else {
@@ -136,7 +137,7 @@ fn refused_desk(rt: HostRuntime) {
     if slip.is_none() {
         judge(&rt, &left, &journal, &[3], &[5]);
     } else {
-        // There was no memory for what one session hands on to others.
+        // There was no memory for the list that one session hands on to others.
         assert_eq!(rt; slip, Some((0, Ok(Answer::Failed))));
     }
 }

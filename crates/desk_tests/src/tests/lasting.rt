@@ -1,4 +1,5 @@
-//! Desks that live on or end early: their journals are handed out in pieces, and sessions are lost.
+//! Tests of desks that live on or end early: they hand out their journals in pieces, and lose
+//! sessions.
 
 use super::ending::Ending;
 use super::floor::{Answer, Step};
@@ -12,7 +13,7 @@ use std::alloc::{AllocError, Global};
 use std::process::Abort;
 use test_samples::{A, B};
 
-/// The number of sessions that a desk may have: from 1 to 128.
+/// Tests the number of sessions that a desk may have: from 1 to 128.
 #[test]
 fn numbers_of_sessions(rt: HostRuntime) {
     let book = book_of(&rt, rt.alloc(), NONE_STANDS).expect(&rt, "a book");
@@ -23,7 +24,8 @@ fn numbers_of_sessions(rt: HostRuntime) {
     }
 }
 
-/// The last session made two of four entries, the one before it one, and is told of those before.
+/// Tests desks that lose sessions: the last session made two of four entries, and the one before it
+/// made one.
 #[test]
 fn lasting_desk(rt: HostRuntime) {
     let book = book_of(&rt, rt.alloc(), NONE_STANDS).expect(&rt, "a book");
@@ -78,7 +80,8 @@ fn load<R: Abort>(
     Ok(())
 }
 
-/// More entries than any room that is taken at once: 5,000 loads, 300 upgrades and 300 admissions.
+/// Returns lines that make more entries than one allocation has room for: 5,000 loads, 300 upgrades
+/// and 300 admissions.
 fn thousands<R: Abort>(rt: &R, alloc: Global) -> Result<Vec<Line>, AllocError> {
     let mut lines = Vec::new(alloc);
     load(rt, &mut lines, 0, 3)?;
@@ -94,8 +97,8 @@ fn thousands<R: Abort>(rt: &R, alloc: Global) -> Result<Vec<Line>, AllocError> {
     Ok(lines)
 }
 
-/// A spare session makes the last 200 entries. Nothing is left when the desk is finished, with no
-/// session.
+/// Has a spare session make the last 200 entries, and finishes the desk with no session. Nothing is
+/// left then.
 #[test]
 fn thousands_of_entries(rt: HostRuntime) {
     let book = book_of(&rt, rt.alloc(), ONE_STANDS).expect(&rt, "a book");

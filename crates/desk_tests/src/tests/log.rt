@@ -1,13 +1,13 @@
-//! A log of numbers: that it is given a name at all, and what beginnings of it answer.
+//! Tests of a log of numbers: that it gets a name at all, and what its beginnings answer.
 ghost use Rattle.std.specs.Prelude.{◌≡◌, ℕ, List};
 
 use grow_log::{LogName, NewLog};
 use std::marker::Brand;
 use std::process::Abort;
 
-/// Adds two numbers to a new log, of which somebody keeps the first beginnings: how many entries
-/// there are after each of three calls; and whether the first beginning begins the last, the last
-/// the first, and the last itself.
+/// Adds two numbers to a new log, and keeps its first beginnings. Returns how many entries there
+/// are after each of three calls, and whether the first beginning begins the last, the last the
+/// first, and the last itself.
 fn grow_new<N: LogName<u32>>(new: NewLog<u32>) -> Option<([u64; 3], [bool; 3])>
     requires name { new ≡ N.book }
     requires holds { (entries : List ℕ) → N.holds entries }

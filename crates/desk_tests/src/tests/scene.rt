@@ -1,5 +1,5 @@
-//! Scenes at a kept desk: what its sessions do one after another and in threads, and how each call
-//! is to answer.
+//! Scenes at a kept desk: the steps of its sessions, one after another and in threads, and the
+//! answer that each call is to give.
 ghost use Rattle.std.specs.Prelude.{◌≡◌, true};
 ghost use Rattle.cred_desk.specs.Naming.{IsNamed, StartsAt};
 
@@ -19,13 +19,13 @@ use std::thread::{Threads, join};
 /// The outcome of a step.
 pub(super) type Outcome = Result<Answer, KeepError<Refused>>;
 
-/// The place of a session, what it does, and the answer that it is to have.
+/// The place of a session, its step, and the answer that it is to get.
 pub(super) type Line = (usize, Step, Outcome);
 
-/// The place of a line that was answered otherwise, and how.
+/// The place of a line that got another answer, and that answer.
 pub(super) type Slip = (usize, Outcome);
 
-/// A value that isn't the desk's found no memory.
+/// The slip if there was no memory for a value that isn't the desk's.
 const NO_MEMORY: Option<Slip> = Some((0, Ok(Answer::Failed)));
 
 pub(super) const DONE: Outcome = Ok(Answer::Done);
@@ -38,7 +38,7 @@ pub(super) fn replied(reply: Reply) -> Outcome {
     Ok(Answer::Replied(reply))
 }
 
-/// A session's whole operation, with its reply.
+/// Returns the line of a session's whole operation, with its reply.
 pub(super) fn operates(session: usize, request: Request, reply: Reply) -> Line {
     (session, Step::Operate(request), replied(reply))
 }
@@ -47,7 +47,7 @@ pub(super) fn operates(session: usize, request: Request, reply: Reply) -> Line {
 #[derive(Clone, Copy)]
 pub(super) struct Scene<'a> {
     pub(super) sessions: u8,
-    /// The most times that a step runs: it runs again if it is refused.
+    /// The most times that a step runs: a refused step runs again.
     pub(super) tries: usize,
     /// The steps of the front half of the sessions, in a thread of its own. Places count from the
     /// front of the half.
@@ -60,7 +60,8 @@ pub(super) struct Scene<'a> {
 }
 
 impl<'a> Scene<'a> {
-    /// The acts of so many sessions in one thread, after which the desk is closed.
+    /// Returns a scene of the acts of so many sessions in one thread, after which the desk is
+    /// closed.
     pub(super) fn new(sessions: u8, acts: &'a [&'a [Line]]) -> Scene<'a> {
         Scene {
             sessions,
@@ -75,7 +76,7 @@ impl<'a> Scene<'a> {
 
 type News<J> = (Sender<Told<J>>, Receiver<Told<J>>);
 
-/// Plays a line, whose session hands on what it is told, and says how it was answered.
+/// Plays a line, whose session hands on what it is told, and returns the answer.
 fn play_one<J: Naming, R: Threads + Wait + Sync>(
     floor: &Floor<J, R>,
     news: &News<J>,
@@ -104,7 +105,8 @@ fn play_one<J: Naming, R: Threads + Wait + Sync>(
         _ => {
             let (answer, told) = floor.take(session, open, step)?;
             if let Some(told) = told {
-                // Refused if the other half has ended, and nobody is left to learn it.
+                // The channel refuses the list if the other half has ended, and nobody is left to
+                // learn it.
                 let _handed = news.0.send(floor.rt, told);
             }
             Ok(answer)
@@ -112,7 +114,7 @@ fn play_one<J: Naming, R: Threads + Wait + Sync>(
     }
 }
 
-/// Plays the lines, up to one that is answered otherwise.
+/// Plays the lines, up to one that gets another answer.
 fn play<J: Naming, R: Threads + Wait + Sync>(
     floor: &Floor<J, R>,
     news: &News<J>,
@@ -138,8 +140,8 @@ fn play<J: Naming, R: Threads + Wait + Sync>(
     None
 }
 
-/// The second half learns each list that the first one hands on, and waits no longer once that one
-/// has ended.
+/// Plays both halves in threads. The second half learns each list that the first one hands on, and
+/// waits no longer once the first half has ended.
 fn play_in_two<J: Naming + Send + Sync, R: Threads + Wait + Sync>(
     floor: &Floor<J, R>,
     sessions: &mut [Session<J>],
@@ -195,7 +197,7 @@ fn play_acts<J: Naming, R: Threads + Wait + Sync>(
     None
 }
 
-/// The scene at a desk on this book; none if there is no memory, or the desk fails.
+/// Plays the scene at a desk on this book. Returns none if there is no memory, or the desk fails.
 fn played<J: Naming + Send + Sync, R: Threads + Wait + Sync>(
     rt: &R,
     alloc: Global,
@@ -225,7 +227,7 @@ fn played<J: Naming + Send + Sync, R: Threads + Wait + Sync>(
     Some((left, slip))
 }
 
-/// The values that the scene leaves, and the line that was answered otherwise.
+/// Returns the values that the scene leaves, and the line that got another answer.
 pub(super) fn show<R: Threads + Wait + Sync>(
     rt: &R,
     alloc: Global,
@@ -236,7 +238,8 @@ pub(super) fn show<R: Threads + Wait + Sync>(
     played::<Brand, R>(rt, alloc, Opened::new(sessions), book, sessions, scene)
 }
 
-/// The values that the scene leaves, all lines of which have the answers that are due.
+/// Plays a scene whose lines must all get the answers that are due, and returns the values that it
+/// leaves.
 pub(super) fn left_of<R: Threads + Wait + Abort + Sync>(
     rt: &R,
     alloc: Global,
@@ -248,8 +251,8 @@ pub(super) fn left_of<R: Threads + Wait + Abort + Sync>(
     left
 }
 
-/// The values that are left when so many sessions run these lines in one thread, and the desk is
-/// closed.
+/// Returns the values that are left when so many sessions run these lines in one thread, and the
+/// desk is closed.
 pub(super) fn left_of_act<R: Threads + Wait + Abort + Sync>(
     rt: &R,
     alloc: Global,
@@ -262,7 +265,8 @@ pub(super) fn left_of_act<R: Threads + Wait + Abort + Sync>(
     left_of(rt, alloc, book, &scene)
 }
 
-/// The desk left this journal, which its log keeps, and counted so many changes and additions.
+/// Asserts that the desk left this journal, which its log keeps, and counted so many changes and
+/// additions.
 pub(super) fn judge<R: Abort>(
     rt: &R,
     left: &Left,
@@ -278,7 +282,7 @@ pub(super) fn judge<R: Abort>(
     );
 }
 
-/// The book that is left has this record at the name, or none.
+/// Asserts that the book that is left has this record at the name, or none.
 pub(super) fn judge_record<R: Abort>(rt: &R, left: &Left, account: &str, record: Option<&str>) {
     let name = super::name(rt, account);
     assert_eq!(rt; left.book.show(&name), Ok(standing(rt, record)));

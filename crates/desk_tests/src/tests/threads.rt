@@ -1,5 +1,5 @@
-//! Two sessions of one desk, in a thread and in threads of their own: what one settles, the other
-//! meets.
+//! Tests of two sessions of one desk, in one thread and in threads of their own: what one settles,
+//! the other reads.
 use super::floor::{Answer, Step};
 use super::scene::{
     DONE, Outcome, Scene, judge, judge_record, left_of, left_of_act, operates, replied,
@@ -14,7 +14,7 @@ fn copied<R: Abort>(rt: &R, text: &str) -> Outcome {
     Ok(Answer::Copied(Some(stored(rt, text))))
 }
 
-/// One session settles an upgrade and tells the other, which then reads it.
+/// Has one session settle an upgrade and tell the other, which then reads the upgrade.
 #[test]
 fn told_and_read(rt: HostRuntime) {
     let one = [operates(0, upgrade(&rt, "a", B_SETTING), Reply::Upgraded)];
@@ -35,7 +35,8 @@ fn told_and_read(rt: HostRuntime) {
     judge_record(&rt, &left, "a", Some(B));
 }
 
-/// After two threads have settled and ended, each session reads both changes with nothing learned.
+/// Tests that after two threads have settled and ended, each session reads both changes with
+/// nothing learned.
 #[test]
 fn seen_after_settle(rt: HostRuntime) {
     let one = [operates(0, upgrade(&rt, "a", B_SETTING), Reply::Upgraded)];
@@ -62,8 +63,9 @@ fn seen_after_settle(rt: HostRuntime) {
     assert_eq!(rt; left.log.entries.len(), 2);
 }
 
-/// A session that has settled an upgrade reads it with nothing learned, and begins nothing at a
-/// name that doesn't exist. A verify that another began before is told of the change.
+/// Tests that a session that has settled an upgrade reads it with nothing learned, and begins
+/// nothing at a name that doesn't exist. A verify that another session began before gets the answer
+/// `Changed`.
 #[test]
 fn own_settle_is_read(rt: HostRuntime) {
     let missing = Ok(Answer::Refused(DeskError::NoAccount));

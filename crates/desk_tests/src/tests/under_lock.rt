@@ -1,5 +1,5 @@
-//! Tests of the work under the desk's lock, and between a reader's coming and going: no clause
-//! bounds that work.
+//! Tests of the work under the desk's lock, and while a session reads the book: no clause bounds
+//! that work.
 ghost use Rattle.std.specs.Prelude.{◌≡◌};
 ghost use Rattle.cred_desk.specs.Naming.{IsNamed, StartsAt};
 
@@ -27,10 +27,10 @@ const DEAR_SETTING: &str = "$argon2id$v=19$m=256,t=4294967295,p=1$c29tZXNhbHQ";
 /// million cycles, so as many turns of a loop need more.
 const LIMIT: u128 = 400_000;
 
-/// The number of times that they are timed.
+/// The number of times that the test times these calls.
 const TIMED: u32 = 40;
 
-/// Keeps nothing, and holds the lock of its desk until it is told to go on.
+/// A writer that keeps nothing, and holds the lock of its desk until it is told to go on.
 #[derive(Drop)]
 struct Turnstile<'a, R> {
     rt: &'a R,
@@ -43,14 +43,14 @@ impl<'a, R: Wait> EntryWriter for Turnstile<'a, R> {
 
     ghost keeps = { λ _ _. Unit {0} };
 
-    /// Refuses if nobody is left who would tell it to go on.
+    /// Refuses the entry if nobody is left who would tell the writer to go on.
     fn write(&mut self, _new: &Entry) -> Result<(), Refused> {
         self.asked.send(self.rt, ()).map_err(|_| Refused)?;
         self.go_on.recv(self.rt).map_err(|_| Refused)
     }
 }
 
-/// A session's upgrade of a.
+/// Has a session upgrade the record of a.
 fn settle_upgrade<J: Naming, W: EntryWriter<Error = Refused>, R: Threads + Wait + Abort + Sync>(
     rt: &R,
     alloc: Global,
@@ -76,8 +76,8 @@ fn settle<J: Naming, W: EntryWriter<Error = Refused>, R: Wait>(
     }
 }
 
-/// Once the lock is held, what a session copies at a and what its verify is answered; then the
-/// holder may go on.
+/// Once the lock is held, begins and closes a verify of a. Returns the record that the session
+/// copied and the answer. Then the holder may go on.
 fn read_meanwhile<J: Naming, R: Threads + Wait + Abort + Sync>(
     rt: &R,
     alloc: Global,
@@ -92,12 +92,12 @@ fn read_meanwhile<J: Naming, R: Threads + Wait + Abort + Sync>(
     begin(session, &mut open, verify(rt, "a"));
     let copied = read(&open);
     let closed = close(session, worked(rt, alloc, &mut open));
-    // Refused if the holder has failed, and nobody waits.
+    // The channel refuses the word if the holder has failed, and nobody waits.
     let _told = go_on.send(rt, ());
     [copied, closed]
 }
 
-/// One session settles, and another reads meanwhile.
+/// Has one session settle, while another reads.
 fn settle_and_read<J: Naming + Send + Sync, R: Threads + Wait + Abort + Sync>(
     rt: &R,
     alloc: Global,
@@ -122,7 +122,7 @@ fn settle_and_read<J: Naming + Send + Sync, R: Threads + Wait + Abort + Sync>(
     )
 }
 
-/// A desk with two sessions, whose lock is held until one of them has read.
+/// Builds a desk with two sessions, and holds its lock until one of them has read.
 fn read_under_lock<J: Naming + Send + Sync, R: Threads + Wait + Abort + Sync>(
     rt: &R,
     alloc: Global,
@@ -146,7 +146,8 @@ fn read_under_lock<J: Naming + Send + Sync, R: Threads + Wait + Abort + Sync>(
     Some(answers)
 }
 
-/// While the lock is held a session is let in to the book, which lacks the change, and is answered.
+/// Tests that while the lock is held, a session reads the book, which lacks the change, and gets an
+/// answer.
 #[test]
 fn readers_wait_for_no_lock(rt: HostRuntime) {
     let book = book_of(&rt, rt.alloc(), ONE_STANDS).expect(&rt, "a book");
@@ -157,15 +158,14 @@ fn readers_wait_for_no_lock(rt: HostRuntime) {
     assert_eq!(rt; read, [copied, Answer::Replied(Reply::Yes)]);
 }
 
-/// `Changed`, with the record under which a hash takes days.
+/// Returns the answer `Changed`, with the record under which a hash takes days.
 fn changed_to_dear<R: Abort>(rt: &R) -> Outcome {
     let now = standing(rt, Some(DEAR));
     replied(Reply::Changed { now })
 }
 
-/// A verify and an upgrade are begun before a record is loaded under which a hash takes days. A call
-/// of the desk that hashed under the present record, the copy or the request's setting would not
-/// end.
+/// Begins a verify and an upgrade, and then loads a record under which a hash takes days. A call of
+/// the desk that hashed under the present record, the copy or the request's setting would not end.
 #[test]
 fn nothing_is_hashed_at_a_desk(rt: HostRuntime) {
     let book = book_of(&rt, rt.alloc(), ONE_STANDS).expect(&rt, "a book");
@@ -183,13 +183,13 @@ fn nothing_is_hashed_at_a_desk(rt: HostRuntime) {
     assert_eq!(rt; left.log.entries.len(), 1);
 }
 
-/// The processor time of this thread, in nanoseconds.
+/// Returns the processor time of this thread, in nanoseconds.
 fn now<R: CpuClock + Abort>(rt: &R) -> u128 {
     rt.thread_cpu_time().expect(rt, "a clock").as_nanos()
 }
 
-/// The time of a verify's begin and close, and of the settle of an upgrade to this setting;
-/// `u128::MAX` if it isn't settled.
+/// Returns the time of a verify's begin and close, and of the settle of an upgrade to this setting,
+/// or `u128::MAX` if the desk doesn't settle the upgrade.
 fn time_once<J: Naming, R: Threads + Wait + CpuClock + Abort + Sync>(
     rt: &R,
     alloc: Global,
@@ -216,7 +216,7 @@ fn time_once<J: Naming, R: Threads + Wait + CpuClock + Abort + Sync>(
     took.saturating_add(begun).saturating_add(closed)
 }
 
-/// The least time of many.
+/// Returns the least time of many runs.
 fn timed<J: Naming, R: Threads + Wait + CpuClock + Abort + Sync>(
     rt: &R,
     alloc: Global,

@@ -3,7 +3,7 @@
 use cred_desk::{Entry, EntryWriter};
 use std::alloc::Global;
 
-/// Keeps entries, as long as there is memory.
+/// A writer that keeps entries, as long as there is memory.
 #[derive(Drop)]
 pub(super) struct Log {
     pub(super) entries: Vec<Entry>,
@@ -16,7 +16,7 @@ pub(super) struct Refused;
 impl Log {
     ghost use Rattle.std.specs.Prelude.{◌≡◌, []};
 
-    /// A log with no entry.
+    /// Returns a log with no entry.
     pub(super) fn new(alloc: Global) -> Log
         ensures { result.entries.items ≡ [] }
     {

@@ -1,5 +1,5 @@
-//! Of `cred_argon`: the standard's tags, and what running out of memory gives.
-//! c/tests/against_libargon2.py compares thousands with the reference library's.
+//! Tests of `cred_argon`: the standard's tags, and the result when memory runs out.
+//! c/tests/against_libargon2.py compares thousands of tags with the reference library's.
 
 use super::{byte_len, counted, first, is_hex, is_made};
 use cred_argon::Kind::{D, I, Id};
@@ -10,7 +10,7 @@ use std::alloc::Global;
 use std::thread::Threads;
 
 /// Kind, version, memory, passes and lanes; the lengths of password, salt, secret and associated
-/// data; and their seed, which is 1 more from each to the next, and their step.
+/// data; and their seed and step. The seed grows by 1 from each of these inputs to the next.
 struct Case(Kind, Version, [u32; 3], [usize; 4], (u8, u8));
 
 /// A case, and its tag.
@@ -55,7 +55,7 @@ fn tag_of<R: Threads + Sync>(
     )
 }
 
-/// The first row with another tag, or none.
+/// Returns the first row with another tag, or none.
 fn other_row<R: Threads + Sync>(rt: &R, alloc: Global, workers: u8, rows: &[Row]) -> Option<usize> {
     for (i, (case, tag)) in rows.iter().enumerate() {
         if !is_made(tag_of(rt, alloc, workers, case, byte_len(tag)), tag) {
@@ -79,8 +79,8 @@ fn is_standard<R: Threads + Sync>(rt: &R, alloc: Global) -> Result<bool, ArgonEr
     Ok(is_hex(&tag, wanted))
 }
 
-/// With ample memory this is one more vector. By tools/refuse_memory.py it shows that each refused
-/// request ends in `Memory` or is not met.
+/// With ample memory this test is one more vector. Under tools/refuse_memory.py the test shows that
+/// each refused request ends in `Memory`, or never occurs.
 #[test]
 fn refused_memory(rt: HostRuntime) {
     let answer = is_standard(&rt, rt.alloc());

@@ -1,5 +1,5 @@
-//! Of `cred_blake`: a vector of the authors of BLAKE2, H' by other programs, and what running out
-//! of memory leaves.
+//! Tests of `cred_blake`: a vector of the authors of BLAKE2, H' by other programs, and the result
+//! when memory runs out.
 
 use super::{counted, is_hex, is_made};
 use cred_blake::{Blake2b, BlakeError, Digest, hprime};
@@ -54,12 +54,12 @@ fn hash_prime_shapes(rt: HostRuntime) {
     }
 }
 
-/// The length of H' to 97 bytes.
+/// Returns the length of H' to 97 bytes.
 fn length_97(alloc: Global) -> Result<usize, BlakeError> {
     Ok(hprime(alloc, 97, b"abc")?.len())
 }
 
-/// Holds whichever request is refused; tools/refuse_memory.py refuses each in turn.
+/// Holds whichever request the allocator refuses; tools/refuse_memory.py refuses each in turn.
 #[test]
 fn refused_memory(rt: HostRuntime) {
     let len = length_97(rt.alloc());

@@ -7,7 +7,7 @@ use std::process::Abort;
 use std::thread::Threads;
 use test_samples::{Crowd, Visits};
 
-/// Argon2 with so many lanes, of which each enters in each of four slices.
+/// Returns a setting of Argon2 with so many lanes: each lane enters in each of four slices.
 fn lanes(rt: &impl Abort, p: u8) -> Setting {
     let scheme = Scheme::Argon2 {
         version: Version::V13,
@@ -19,12 +19,13 @@ fn lanes(rt: &impl Abort, p: u8) -> Setting {
     Setting::new(scheme, b"somesalt").expect(rt, "a setting")
 }
 
-/// scrypt with so many pieces, of which each enters once.
+/// Returns a setting of scrypt with so many pieces: each piece enters once.
 fn pieces(rt: &impl Abort, p: u8) -> Setting {
     Setting::new(Scheme::Scrypt { ln: 4, r: 1, p }, b"NaCl").expect(rt, "a setting")
 }
 
-/// The visits that a gate counts of a tag of whose parts so many are to be inside at once.
+/// Returns the visits that a gate counts during a tag, of whose parts so many are to be inside at
+/// once.
 fn seen<R: Threads + Sync + Abort>(
     rt: &R,
     alloc: Global,
@@ -39,7 +40,7 @@ fn seen<R: Threads + Sync + Abort>(
     }
 }
 
-/// The same of a tag that the caller's thread makes alone.
+/// Returns the visits of a tag that the caller's thread computes alone.
 fn seen_alone(alloc: Global, setting: &Setting) -> Result<Visits, TagError> {
     let gate = Crowd::new(8, 1);
     let mut scratch = Scratch::new(alloc, 0);
@@ -85,6 +86,6 @@ fn each_part_alone(rt: HostRuntime) {
         seen_alone(rt.alloc(), &lanes(&rt, 8)),
         seen_alone(rt.alloc(), &pieces(&rt, 8)),
     ];
-    // two lanes are worked at a time, a block of each in turn
+    // the thread works two lanes at a time, a block of each in turn
     assert_eq!(rt; seen, [Ok(Visits::of(2, 8, 4)), Ok(Visits::of(1, 8, 1))]);
 }

@@ -1,6 +1,5 @@
-//! Of `cred_pool`: how often each part is worked and seen by the gate, that as many are worked side
-//! by side as there are workers for, and no more, and that a part is worked while the gate has it
-//! inside.
+//! Tests of `cred_pool`: that a thread works each part once, while the gate has the part inside. As
+//! many parts are worked side by side as there are workers for, and no more.
 ghost use Rattle.std.specs.Prelude.{◌≤◌, ⊤};
 
 use cred_pool::{Gate, Part, run_parts};
@@ -8,7 +7,7 @@ use std::sync::atomic::{AtomicU64, Ordering};
 use std::thread::Threads;
 use test_samples::{Crowd, Visits};
 
-/// Counts how often it was worked.
+/// A part that counts how often it was worked.
 #[derive(Clone, Copy)]
 struct Tally {
     worked: u64,
@@ -24,8 +23,8 @@ impl Part<u64> for Tally {
     }
 }
 
-/// The visits that a gate counts of the parts that so many workers share, if so many are to be
-/// inside at once; and whether each part was worked once.
+/// Returns the visits that a gate counts of parts that so many workers share, and whether each part
+/// was worked once. The gate waits for `wanted` parts to be inside at once.
 fn seen<R: Threads + Sync>(rt: &R, count: usize, workers: u8, wanted: u64) -> (Visits, bool) {
     let gate = Crowd::new(count as u64, wanted);
     let mut parts = [Tally { worked: 0 }; 9];
@@ -43,7 +42,7 @@ fn are_worked_once(parts: &[Tally; 9], count: usize) -> bool {
     true
 }
 
-/// Counts the parts that are inside, for the parts to see.
+/// A gate that counts the parts that are inside, for the parts to see.
 #[derive(Drop)]
 struct Door<'a> {
     inside: &'a AtomicU64,
@@ -59,7 +58,7 @@ impl<'a> Gate for Door<'a> {
     }
 }
 
-/// Sees in its work how many parts are inside.
+/// A part that sees in its work how many parts are inside.
 #[derive(Clone, Copy)]
 struct Watcher {
     inside: u64,

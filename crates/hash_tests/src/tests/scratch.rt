@@ -1,4 +1,4 @@
-//! Tags that are made one after another in memory that is kept.
+//! Tests of tags that are computed one after another in memory that a scratch keeps.
 
 use super::strings::LARGE;
 use cred_phc::{Password, Record, Scratch, TagError, parse_record, tag_in};
@@ -10,12 +10,12 @@ use test_samples::{A, B, OLD, SCRYPT};
 #[derive(Clone, Copy)]
 struct Row(&'static str, &'static [u8], usize);
 
-/// A record of `password`.
+/// Returns a record of `password`.
 fn of_password(text: &'static str, kept: usize) -> Row {
     Row(text, b"password", kept)
 }
 
-/// A record by OpenSSL, whose table has 2 KiB.
+/// Returns a record by OpenSSL, whose table has 2 KiB.
 fn small_table(kept: usize) -> Row {
     of_password(
         "$scrypt$ln=4,r=1,p=1$TmFDbA$rsa3SD7SbgiAK0H0AyCGoOiGvnrEj8/ZL/DO+BCXUvQ",
@@ -23,7 +23,7 @@ fn small_table(kept: usize) -> Row {
     )
 }
 
-/// The third vector of RFC 7914, section 12, whose table has 16 MiB.
+/// Returns the third vector of RFC 7914, section 12, whose table has 16 MiB.
 fn large_table(kept: usize) -> Row {
     Row(
         "$scrypt$ln=14,r=8,p=1$U29kaXVtQ2hsb3JpZGU$\
@@ -33,7 +33,7 @@ fn large_table(kept: usize) -> Row {
     )
 }
 
-/// The record with the tag that is made anew.
+/// Returns the record with a tag that the function computes anew.
 fn made_again(
     scratch: &mut Scratch,
     alloc: Global,
@@ -46,7 +46,7 @@ fn made_again(
     Ok(Record::with_tag(setting, made))
 }
 
-/// Whether the tag of the row found memory; none if it is another.
+/// Whether the tag of the row found memory; none if the tag is wrong.
 fn is_made(scratch: &mut Scratch, alloc: Global, row: &Row) -> Option<bool> {
     let stored = parse_record(row.0.as_bytes()).ok()?;
     let pw = Password::new(row.1)?;
@@ -57,8 +57,8 @@ fn is_made(scratch: &mut Scratch, alloc: Global, row: &Row) -> Option<bool> {
     }
 }
 
-/// The first row whose tag isn't made, or after which other memory is kept, in a scratch that keeps
-/// at most so many KiB.
+/// Returns the first row whose tag fails, or after which the scratch keeps other memory, in a
+/// scratch that keeps at most so many KiB.
 fn other_row(alloc: Global, most: u32, rows: &[Row]) -> Option<usize> {
     let mut scratch = Scratch::new(alloc, most);
     for (i, row) in rows.iter().enumerate() {
@@ -69,8 +69,8 @@ fn other_row(alloc: Global, most: u32, rows: &[Row]) -> Option<usize> {
     None
 }
 
-/// Argon2 on one lane and on two and scrypt, in turn. The memory of one function is returned before
-/// the other begins.
+/// Returns rows of Argon2 on one lane and on two and of scrypt, in turn. The scratch frees the
+/// memory of one function before the other begins.
 fn in_turn() -> [Row; 6] {
     [
         of_password(A, 256),
@@ -87,7 +87,7 @@ fn tags_in_one_scratch(rt: HostRuntime) {
     assert_eq!(rt; other_row(rt.alloc(), 1024, &in_turn()), None);
 }
 
-/// A scratch keeps the memory that fits; a hash that needs more frees all.
+/// Tests that a scratch keeps the memory that fits, and that a hash that needs more frees all.
 #[test]
 fn small_large_small(rt: HostRuntime) {
     let lanes = [
@@ -112,13 +112,13 @@ fn small_large_small(rt: HostRuntime) {
     assert_eq!(rt; others, [None; 4]);
 }
 
-/// tools/peak_memory.py looks that memory is asked for once.
+/// Runs under tools/peak_memory.py too, which tests that the hashes ask for memory once.
 #[test]
 fn memory_taken_once(rt: HostRuntime) {
     assert_eq!(rt; other_row(rt.alloc(), 256, &[of_password(A, 256); 4]), None);
 }
 
-/// The same of a table.
+/// Runs under tools/peak_memory.py too, for a table of scrypt.
 #[test]
 fn table_taken_once(rt: HostRuntime) {
     assert_eq!(rt;
@@ -127,7 +127,7 @@ fn table_taken_once(rt: HostRuntime) {
     );
 }
 
-/// The number of rows that found no memory; none if a tag is wrong.
+/// Returns the number of rows that found no memory; none if a tag is wrong.
 fn refused(alloc: Global, rows: &[Row]) -> Option<u32> {
     let mut scratch = Scratch::new(alloc, 1024);
     let mut count: u32 = 0;
@@ -139,8 +139,8 @@ fn refused(alloc: Global, rows: &[Row]) -> Option<u32> {
     Some(count)
 }
 
-/// Holds whichever request is refused: tools/refuse_memory.py refuses each in turn. A refusal
-/// leaves the scratch good for the tags after it.
+/// Holds whichever request the allocator refuses: tools/refuse_memory.py refuses each in turn.
+/// After a refusal the scratch can still serve the next tags.
 #[test]
 fn refused_memory_leaves_the_scratch(rt: HostRuntime) {
     let count = refused(rt.alloc(), &in_turn());

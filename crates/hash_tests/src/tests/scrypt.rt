@@ -1,5 +1,5 @@
-//! Of `cred_scrypt`: vectors of the standards, keys that OpenSSL made, and what running out of
-//! memory gives.
+//! Tests of `cred_scrypt`: vectors of the standards, keys that OpenSSL made, and the result when
+//! memory runs out.
 use super::{byte_len, counted, first, is_hex, is_made};
 use cred_pool::NoGate;
 use cred_scrypt::{ScryptError, ScryptParams, pbkdf2, ro_mix, scrypt};
@@ -67,7 +67,7 @@ fn scrypt_vectors(rt: HostRuntime) {
 }
 
 /// Keys by Python's `hashlib`, which calls OpenSSL: ln, r and p, or the turns; the lengths of the
-/// password and of the salt and the seed, which is 128 more for the salt; and the key.
+/// password and of the salt, and the seed; and the key. The seed of the salt is 128 more.
 const SCRYPT: [((u8, u8, u8), (usize, usize, u8), &str); 3] = [
     ((1, 1, 1), (0, 0, 1), EMPTY_KEY),
     (
@@ -79,10 +79,10 @@ const SCRYPT: [((u8, u8, u8), (usize, usize, u8), &str); 3] = [
     ((3, 7, 2), (119, 51, 8), "8f31fed06594c84765ee7574f6265440"),
 ];
 
-/// Of no password and no salt.
+/// A key of no password and no salt.
 const EMPTY_KEY: &str = "fa76e020";
 
-/// Of the same, by one turn.
+/// A key of PBKDF2 of no password and no salt, by one turn.
 const EMPTY_DERIVED: &str = "f7";
 
 const PBKDF2: [(u32, (usize, usize, u8), &str); 2] = [
@@ -124,7 +124,8 @@ fn pbkdf2_keys(rt: HostRuntime) {
     }
 }
 
-/// Whether a key or its want of memory is answered. tools/refuse_memory.py refuses each request.
+/// Whether the answer is this key, or that memory ran out. tools/refuse_memory.py refuses each
+/// request.
 fn is_made_or_refused(key: Result<Vec<u8>, ScryptError>, wanted: &str) -> bool {
     match key {
         Ok(key) => is_hex(&key, wanted),

@@ -1,6 +1,6 @@
-//! Texts of other programs: their values, read and written, and their tags. Most of them are those
-//! of `test_samples`. And that a password isn't shown. tests/credbook has the faults of damaged
-//! texts.
+//! Tests of texts of other programs, most of them from `test_samples`: their values, read and
+//! written, and their tags. Other tests show that no text shows a password. tests/credbook has the
+//! faults of damaged texts.
 
 use super::stored;
 use cred_phc::{
@@ -13,15 +13,15 @@ use std::process::Abort;
 use std::thread::Threads;
 use test_samples::{A, A_SETTING, B, INDEPENDENT, OLD, OLD_WRITTEN, SCRYPT, SECRET, shows_secret};
 
-/// Records of `password` by the reference program of Argon2, of the least memory, whose segments
-/// have two blocks, and of 64 MiB.
+/// Records of `password` by the reference program of Argon2: one of the least memory, whose
+/// segments have two blocks, and one of 64 MiB.
 const SMALLEST: &str =
     "$argon2id$v=19$m=8,t=1,p=1$c29tZXNhbHQ$8Tf44YakA6Z5zNBgblq13Nr+Q8FkCFWsjG4z6b1j7rM";
 
 pub(super) const LARGE: &str =
     "$argon2id$v=19$m=65536,t=2,p=1$c29tZXNhbHQ$CTFhFdXPJO1aFaMaO6Mm5c8y7cJHAph8ArZWb2GRPPc";
 
-/// The record with its tag made anew of `password`.
+/// Returns the record with a tag that the function computes anew from `password`.
 fn made_again<R: Threads + Sync + Abort>(
     rt: &R,
     alloc: Global,
@@ -46,19 +46,19 @@ fn known_tags(rt: HostRuntime) {
     }
 }
 
-/// tools/peak_memory.py looks how much memory is asked for.
+/// Runs under tools/peak_memory.py too, which measures how much memory the hash asks for.
 #[test]
 fn large_vectors(rt: HostRuntime) {
     let stored = stored(&rt, LARGE);
     assert_eq!(rt; made_again(&rt, rt.alloc(), 1, &stored), Ok(stored));
 }
 
-/// Whether this text is written for the record.
+/// Whether `write_record` writes this text for the record.
 fn is_record_text(alloc: Global, stored: &Record, text: &str) -> Result<bool, PhcError> {
     Ok(write_record(alloc, stored)?.as_slice() == text.as_bytes())
 }
 
-/// Whether this text is written for the setting.
+/// Whether `write_setting` writes this text for the setting.
 fn is_setting_text(alloc: Global, setting: &Setting, text: &str) -> Result<bool, PhcError> {
     Ok(write_setting(alloc, setting)?.as_slice() == text.as_bytes())
 }
@@ -79,7 +79,7 @@ fn alphabet(rt: HostRuntime) {
     assert_eq!(rt; is_setting_text(rt.alloc(), &read, ALPHABET), Ok(true));
 }
 
-/// Also right if memory is refused, by tools/refuse_memory.py: a tag or a text, or `Memory`.
+/// Holds under tools/refuse_memory.py too: the result is a tag or a text, or `Memory`.
 #[test]
 fn refused_memory(rt: HostRuntime) {
     for text in [B, OLD_WRITTEN, SCRYPT] {

@@ -10,7 +10,7 @@ use std::marker::Brand;
 use std::sync::Wait;
 use std::thread::Threads;
 
-/// The result of a script on a committer of this book, which was ended then.
+/// Runs a script on a committer of this book, ends the committer, and returns the result.
 fn run_published<J: Naming, R: Threads + Wait + Sync>(
     rt: &R,
     alloc: Global,
@@ -29,7 +29,8 @@ fn run_published<J: Naming, R: Threads + Wait + Sync>(
     ran
 }
 
-/// The result of a script on a committer of an empty book; none without memory.
+/// Runs a script on a committer of an empty book, and returns the result, or none if memory runs
+/// out.
 pub(super) fn run_on_committer<R: Threads + Wait + Sync>(
     rt: &R,
     alloc: Global,

@@ -1,4 +1,4 @@
-//! The message of each fault on standard error.
+//! Tests of the message of each fault on standard error.
 
 use super::{hold_bytes, name};
 use cred_admin::{BadLine, Fault, ImportFault, LineFault};
@@ -10,7 +10,7 @@ use sqlite::{Error, ErrorCode};
 use std::alloc::Global;
 use std::process::Abort;
 
-/// Holds what was said against one line of the program's.
+/// Compares the bytes on standard error with one line of the program's.
 fn hold_line<R: Abort>(rt: &R, alloc: Global, said: &[u8], text: &str) {
     let line = format!(in alloc; "credkeep: {text}\n").expect(rt, "memory");
     hold_bytes(rt, said, &line);
@@ -28,7 +28,7 @@ fn hold_failure<R: Abort>(
     hold_line(rt, alloc, &said, text);
 }
 
-/// Of commands and imports.
+/// Tests the messages of commands and imports.
 #[test]
 fn texts_of_commands(rt: HostRuntime) {
     for (fault, text) in [
@@ -137,7 +137,7 @@ fn batch(alloc: Global, added: Register, changed: Register) -> Attempt {
     }
 }
 
-/// Holds what is said of a change that may be lost, on a full disk.
+/// Tests the message about a change that may be lost, on a full disk.
 fn hold_lost<R: Abort>(rt: &R, alloc: Global, attempt: Attempt, what: &str) {
     let error = Error::SqliteFailure(ErrorCode::DiskFull);
     let lost = Lost { error, attempt };

@@ -1,12 +1,12 @@
-//! The values that running out of memory leaves. These tests hold whichever request is refused:
-//! tools/refuse_memory.py refuses each in turn.
+//! Tests of the values that a lack of memory leaves. These tests hold whichever request the
+//! allocator refuses: tools/refuse_memory.py refuses each in turn.
 use super::committers::run_on_committer;
 use super::{Ran, hold_bytes, run_in_room};
 use cred_book::{Book, Register};
 use cred_cli::{End, ScriptFault};
 use std::process::Abort;
 
-/// A script, and what it is answered.
+/// A script, and its answers.
 const SCRIPT: &str = "\
 account a
 load a $argon2id$v=19$m=256,t=2,p=1$c29tZXNhbHQ$nf65EOgLrQMR/uIPnA4rEsF5h7TKyQwu9U1bMCHGi/4
@@ -32,13 +32,13 @@ removed
 none
 ";
 
-/// Holds whole answers from the front of those that the script has.
+/// Tests that the bytes are whole answers, from the first of those to the script on.
 fn hold_front<R: Abort>(rt: &R, whole: &str, written: &[u8]) {
     assert!(rt; whole.as_bytes().starts_with(written));
     assert!(rt; written.is_empty() || written.ends_with(b"\n"));
 }
 
-/// Holds the whole answers, or those that running out of memory leaves.
+/// Tests that the answers are whole, or are those that a lack of memory leaves.
 fn hold_refused<R: Abort>(rt: &R, ran: Option<Ran>) {
     let Some((end, written)) = ran else {
         return;

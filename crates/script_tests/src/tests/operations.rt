@@ -1,5 +1,5 @@
-//! Operations on an account, begun and committed, and their answers, on each keeper. `book_tests`
-//! and tests/operations.py have more of one operation alone.
+//! Tests of operations on an account, begun and committed, and their answers, on each keeper.
+//! `book_tests` and tests/operations.py have more tests of one operation alone.
 use super::committers::run_on_committer;
 use super::{Ran, filled_in, run_on};
 use cred_book::{Book, Register};
@@ -9,7 +9,7 @@ use std::process::Abort;
 use std::sync::Wait;
 use std::thread::Threads;
 
-/// With settings that are cheap.
+/// Scripts with settings that are cheap.
 const OPERATIONS: &str = "\
 # enrol
 begin 1 enrol a {PA} {SA} => begun
@@ -110,7 +110,7 @@ begin 64 verify a {PA} => begun
 commit 64 => yes
 ";
 
-/// The same, with the setting of scrypt's vector, and with 64 MiB.
+/// Scripts with the setting of scrypt's vector, and with 64 MiB.
 const COSTLY: &str = "\
 # enrol scrypt
 begin 1 enrol a {PA} $scrypt$ln=10,r=8,p=16$TmFDbA => begun
@@ -145,7 +145,7 @@ fn add_lines<R: Abort>(rt: &R, text: &mut String, lines: &[&str]) {
     }
 }
 
-/// A script, and what is to be answered to it.
+/// A script, and the answers that are due.
 #[derive(Drop)]
 struct Dialogue<'a> {
     name: &'a str,
@@ -154,8 +154,8 @@ struct Dialogue<'a> {
 }
 
 impl<'a> Dialogue<'a> {
-    /// The name of the script stands in the first line of the text, and then come its lines after
-    /// `account a`, each with its answer behind ` => `.
+    /// Reads a script from a text. The first line of the text has the script's name. Then come its
+    /// lines after `account a`, each with its answer after ` => `.
     fn read<R: Abort>(rt: &R, alloc: Global, text: &'a str) -> Dialogue<'a> {
         let (name, lines) = text.split_once('\n').expect(rt, "a name");
         let (mut script, mut answers) = (String::new(alloc), String::new(alloc));
@@ -174,15 +174,15 @@ impl<'a> Dialogue<'a> {
         }
     }
 
-    /// Holds it against what a run came to.
+    /// Compares the answers with those of a run.
     fn hold_ran<R: Abort>(&self, rt: &R, workers: u8, ran: &Ran) {
         let lines = self.answers.lines().count() as u64;
         let want = (Ok(End { lines }), self.answers.as_bytes());
         hold_seen(rt, self.name, workers, (ran.0, ran.1.as_slice()), want);
     }
 
-    /// Holds it against runs on an empty book, an empty register and a committer, with one worker
-    /// and with four.
+    /// Compares the answers with those of runs on an empty book, an empty register and a committer,
+    /// with one worker and with four.
     fn judge<R: Threads + Wait + Sync + Abort>(&self, rt: &R, alloc: Global) {
         let script = self.script.as_bytes();
         for workers in [1, 4] {
@@ -196,7 +196,7 @@ impl<'a> Dialogue<'a> {
     }
 }
 
-/// Holds each script of the text against its runs.
+/// Compares the answers of each script of the text with those of its runs.
 pub(super) fn judge_all<R: Threads + Wait + Sync + Abort>(rt: &R, alloc: Global, text: &str) {
     let text = filled_in(rt, alloc, text);
     for script in text.split("# ") {

@@ -1,5 +1,5 @@
-//! Lines that are refused, and which of two causes is answered. tests/credbook has each key, and
-//! forms of passwords and records.
+//! Tests of lines that the script refuses, and of which of two causes it answers. tests/credbook
+//! has each key, and forms of passwords and records.
 use super::operations::judge_all;
 use std::alloc::Global;
 use std::process::Abort;

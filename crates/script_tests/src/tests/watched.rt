@@ -1,10 +1,11 @@
-//! The calls that a watched reader or writer passes on, counts and remembers.
+//! Tests of the calls that a watched reader or writer passes on, counts and remembers.
 use cred_cli::Watched;
 use std::io;
 use std::io::{Read, Write};
 use std::process::Abort;
 
-/// The result of a call, none if it failed; the number of calls then, and whether one has failed.
+/// The result of a call, or none if it failed; the number of calls so far; and whether one has
+/// failed.
 type Seen = (Option<usize>, u64, bool);
 
 fn hold_seen<R: Abort>(rt: &R, seen: Seen, want: Seen) {
@@ -33,7 +34,7 @@ fn reads_are_counted(rt: HostRuntime) {
     hold_seen(&rt, after_read(&mut reader), (Some(0), 2, false));
 }
 
-/// Passes calls on behind the first one, which fails.
+/// A stream that fails the first call, and passes on the calls after it.
 #[derive(Drop)]
 struct Stumbling<X> {
     inner: X,
@@ -76,7 +77,7 @@ fn failing_once<X>(inner: X) -> Watched<Stumbling<X>> {
     })
 }
 
-/// A call that fails is told of, and isn't made again.
+/// Tests that a reader or writer reports a call that fails, and doesn't make it again.
 #[test]
 fn failures_are_told(rt: HostRuntime) {
     let mut reader = failing_once(b"ab".as_slice());

@@ -2,7 +2,7 @@ use Rattle.std.proofs.Common.{◌≡◌, ◌+◌, ◌≤◌, All, vec_len, vec_c
 use Rattle.cred_desk.specs.Standing.{IsNew}
 use Rattle.cred_desk.proofs.making.seats.Given as goal
 
--- a session for each part that was taken
+-- a session for each part so far
 abbrev pub invariant-loop-index : goal.invariant-loop-index
 invariant-loop-index g l =
     (l.spare.parts + l._index ≡ l.count)
