@@ -17,6 +17,9 @@ impl<J: ServiceId, K: Host, W: Write> Scribe<J, K, W> {
     /// or the account is marked or has failed tries. So the answer to a try that may be sent away
     /// waits for no changes of others, whether the password is right or wrong.
     pub(crate) fn is_apart(&self, hashed: &Hashed<J>) -> bool {
+        if !hashed.worked().reply().makes_change() {
+            return true;
+        }
         let name = hashed.worked().request().name();
         let (_, _, changes) = self.keeper.accounts().judge(hashed.worked());
         !changes || self.keeper.mark_of(&name).is_marked() || !self.tries.is_clear(&name)
