@@ -151,8 +151,9 @@ class Waits:
 
 
 def _reason(error: Exception) -> str:
-    """Returns the reason for a missing connection, in the words of the server or the system. The
-    text quotes no row, since the program sent nothing, and omits a password in the DSN.
+    """Returns the reason for a missing connection, in the words of the server or the system.
+
+    The text quotes no row, since the program sent nothing, and omits a password in the DSN.
     """
     lines = [line.strip() for line in str(error).splitlines()]
     return ": " + _DSN_PASSWORD.sub(r"\1***", "; ".join(filter(None, lines)))[:_LONGEST]

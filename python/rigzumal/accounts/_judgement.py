@@ -18,16 +18,18 @@ from rigzumal.accounts.types import Ticket, Worked, bytes_of_password
 Hasher = Union[PasswordHasher, ScryptHasher]
 
 Foreign = Callable[[str, bytes], Union[Optional[bool], Awaitable[Optional[bool]]]]
-"""Checks a password against a record of another scheme: True if the password is right, otherwise
-False. None means that no password is right and that the hook hashed nothing, as for a locked
+"""Returns whether a password is right for a record of another scheme, as True or False.
+
+None means that no password is right and that the hook hashed nothing, as for a locked
 login: Rigzumal then computes a hash, so that the answer takes equally long. Any other answer
 raises a TypeError. AsyncAccounts awaits a coroutine function, and calls any other function in
 its executor.
 """
 
 Prepare = Callable[[str], str]
-"""Converts a password to the form for the hash, as `rigzumal.opaque_string` does. The function
-raises ValueError for a password that no account may have.
+"""Converts a password to the form for the hash, as `rigzumal.opaque_string` does.
+
+The function raises ValueError for a password that no account may have.
 """
 
 FOREIGN_HINT: Final = ": pass Accounts a `foreign` that checks records of other schemes"
@@ -316,9 +318,10 @@ def step(
     setting: str = "",
     secret: Optional[bytes] = None,
 ) -> tuple[Reply, Optional[str]]:
-    """Returns the reply of a whole operation on a record of ours, and the new record. Calls
-    rigzumal_step_from, which has no reset, and without a secret runs the proved rigzumal_step. The
-    setting of a new record is its costs with a fresh salt.
+    """Returns the reply of a whole operation on a record of ours, and the new record.
+
+    Calls rigzumal_step_from, which has no reset, and without a secret runs the proved
+    rigzumal_step. The setting of a new record is its costs with a fresh salt.
     """
     size = _library.TEXT_SIZE if setting else 0
     text = ctypes.create_string_buffer(size) if setting else None

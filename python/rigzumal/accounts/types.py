@@ -179,7 +179,8 @@ class NoConnection(Unavailable):
 
 
 class OutcomeUnknown(AccountsError):
-    """The operation sent COMMIT, no answer arrived, and the row doesn't show the outcome. The
-    server may have stored the change, another client may have replaced it since, or it may still
-    take effect.
+    """The operation sent COMMIT, no answer arrived, and the row doesn't show the outcome.
+
+    The server may have stored the change, another client may have replaced it since, or it may
+    still take effect.
     """
