@@ -193,7 +193,7 @@ def own_methods(**_: Any) -> Messages:
     """Reports E006: our calls would skip a method of the user model."""
     hint = "Give the model the CompareAndSetMixin, after the class that has the method."
     for name in users.unreached_methods(get_user_model()):
-        text = f"{name} would be bypassed, so logins are refused."
+        text = f"Our calls would bypass {name}, and therefore refuse logins."
         yield _message("E006", text, hint)
 
 
