@@ -22,7 +22,7 @@ class Answer:
 
     meaning: str  # on pages
     tried: str = ""  # the counter for a try with this answer
-    changed: bool = False  # whether the book has changed; the answer `expired` to a try changes nothing
+    changed: bool = False  # whether the book has changed; after a try, `expired` changes nothing
     reply: str = ""  # the member of the clients' Reply; none if they raise an exception
     http: int = 503  # the status of a request whose password gets it
     pam: str = "AUTHINFO_UNAVAIL"  # the result of pam_rigzumal for such a password, without PAM_
