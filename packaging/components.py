@@ -46,13 +46,13 @@ OURS = {
 
 
 def crates_in(packed: str) -> list[dict[str, Any]]:
-    """The crates of the toolchain whose compiled code is packed."""
+    """Returns the crates of the toolchain whose compiled code the package has."""
     wanted = {*PARTS[packed]}
     return [it for it in KNOWN["crates"] if wanted & {*it["in"]}]
 
 
 def notices(packed: str) -> str:
-    """The copyright of each crate whose licence wants it named, and that licence."""
+    """Returns the copyright of each crate whose licence asks for that, and the licence."""
     named = [it for it in crates_in(packed) if it["licence"] != NOBODY]
     if not named:
         return ""
@@ -64,7 +64,7 @@ def notices(packed: str) -> str:
 
 
 def copyright_of(packed: str) -> str:
-    """A Debian package's file copyright: the notices are its comment."""
+    """Returns a Debian package's file copyright, with the notices as its comment."""
     head, _, rest = (HERE / "copyright").read_text().partition("\n\n")
     lines = [f" {it or '.'}" for it in notices(packed).splitlines()]
     comment = "\n".join(["", "Comment:", *lines] if lines else [])
@@ -72,7 +72,7 @@ def copyright_of(packed: str) -> str:
 
 
 def described(crate: dict[str, Any]) -> dict[str, Any]:
-    """An SPDX package of a crate."""
+    """Returns an SPDX package of a crate."""
     found = {
         "SPDXID": f"SPDXRef-crate-{crate['name'].replace('_', '-')}",
         "name": crate["name"],
@@ -86,13 +86,13 @@ def described(crate: dict[str, Any]) -> dict[str, Any]:
 
 
 def package(about: dict[str, Any]) -> dict[str, Any]:
-    """An SPDX package with the fields that all of ours share."""
+    """Returns an SPDX package with the fields that all of ours share."""
     unknown = {"downloadLocation": NOBODY, "filesAnalyzed": False, "licenseConcluded": NOBODY}
     return {**about, **unknown}
 
 
 def file_of(number: int, name: str, data: bytes) -> dict[str, Any]:
-    """An SPDX file."""
+    """Returns an SPDX file."""
     sums = {"SHA1": hashlib.sha1(data), "SHA256": hashlib.sha256(data)}
     return {
         "SPDXID": f"SPDXRef-file-{number}",
@@ -110,13 +110,13 @@ def related(one: str, how: str, other: str) -> dict[str, str]:
 
 
 def source_date() -> int:
-    """The time that packed files bear."""
+    """Returns the time of packed files."""
     done = subprocess.run([HERE / "source-date"], stdout=subprocess.PIPE, check=True)
     return int(done.stdout)
 
 
 def spdx(packed: str, files: dict[str, bytes]) -> bytes:
-    """An SPDX 2.3 document of a package, with these of its files."""
+    """Returns an SPDX 2.3 document of a package, with these of its files."""
     name = f"{packed}-{VERSION}"
     listed = [file_of(at, *it) for at, it in enumerate(sorted(files.items()))]
     crates = [described(it) for it in crates_in(packed)]

@@ -32,12 +32,13 @@ LINK = re.compile(r"(\]\()([^)\s#:]+)((?:#[^)\s]*)?\))")
 
 
 def place(path):
-    """A file's place on the site, or None if it isn't a page."""
+    """Returns a file's place on the site, or None if it isn't a page."""
     return PLACES.get(path) or (str(path.relative_to(TOP)) if path in PAGES else None)
 
 
 def link(page, target):
-    """A page's link in the form of the site: to another page, a picture, or a source file."""
+    """Returns a page's link in the form of the site: to another page, a picture, or a source
+    file."""
     path = (page.parent / target).resolve()
     path = path / "README.md" if path.is_dir() else path
     if path.suffix in (".svg", ".png"):
@@ -49,7 +50,7 @@ def link(page, target):
 
 
 def staged(page):
-    """The text of a page, with links in the form of the site."""
+    """Returns the text of a page, with links in the form of the site."""
     text = page.read_text()
     if page == promises.PAGE:
         text = clauses.linked(text)
@@ -60,7 +61,7 @@ def staged(page):
 
 
 def index(title, names):
-    """A page that lists other pages."""
+    """Returns a page that lists other pages."""
     lines = [title, "=" * len(title), "", ".. toctree::", "   :maxdepth: 1", ""]
     return "\n".join([*lines, *(f"   {it}" for it in names), ""])
 
@@ -72,7 +73,7 @@ def manual(file):
 
 
 def all_pages():
-    """The text of each page, by its place."""
+    """Returns the text of each page, by its place."""
     found = {place(it): staged(it) for it in PAGES}
     found["index.md"] += "\n" + (HERE / "index.md").read_text()
     found["docs/site/python.rst"] = (HERE / "python.rst").read_text()

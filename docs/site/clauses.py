@@ -16,13 +16,13 @@ LEFT = re.compile(rf"(?<!source:)(`?){FILES.pattern}\1")
 
 
 def link(words, file, at=None):
-    """A link to a file, or to the line of a place in it."""
+    """Returns a link to a file, or to the line of a place in it."""
     line = "" if at is None else f"#L-{source(file).count(chr(10), 0, at) + 1}"
     return f"[{words}](source:{file.relative_to(TOP)}{line})"
 
 
 def place(crate, name):
-    """The file and the place of a crate's function or definition of this name."""
+    """Finds the file and the place of a crate's function or definition of this name."""
     kinds = {"src/**/*.rt": rf"\bfn {name}\b", "specs/**/*.antt": rf"^(?:\w+ )*{name}\b.*:"}
     for files, form in kinds.items():
         for file in sorted((CRATES / crate).glob(files)):
@@ -32,7 +32,7 @@ def place(crate, name):
 
 
 def call(found):
-    """A call with its clauses, or a test."""
+    """Links a call with its clauses, or a test."""
     path, clauses = found[1], found[2] or ""
     crate = path.split("::")[0]
     if crate.endswith("_tests") and (test := place(crate, path.split("::")[-1])):
@@ -51,7 +51,7 @@ def call(found):
 
 
 def carried(item):
-    """The names that carry a promise: a bare name belongs to the crate named before it."""
+    """Links the names that carry a promise: a bare name belongs to the crate named before it."""
     crate = None
 
     def name(found):
@@ -66,7 +66,7 @@ def carried(item):
 
 
 def held(found):
-    """A file with the definitions that the page attributes to it."""
+    """Links a file with the definitions that the page attributes to it."""
     file = TOP / found[1]
 
     def definition(word):
@@ -77,7 +77,7 @@ def held(found):
 
 
 def linked(text):
-    """The text of the page with its links."""
+    """Returns the text of the page with its links."""
     text = HELD.sub(held, text)
     text = CALL.sub(call, text)
     text = CARRIED.sub(carried, text)

@@ -13,16 +13,16 @@ html_theme, html_theme_path = "theme", [str(HERE)]
 html_show_copyright = html_show_sphinx = html_copy_source = False
 # The search works without a server too, where a page can't fetch others.
 html_show_search_summary = False
-# Two hyphens begin an option, and stay.
+# Two hyphens begin an option, and stay two hyphens.
 smartquotes = False
 extensions = ["myst_parser", "sphinx.ext.autodoc", "sphinx.ext.napoleon"]
 extensions += ["docstrings", "manuals", "sources"]
 source_suffix = {".md": "markdown", ".rst": "restructuredtext"}
 
-# Anchors as forges make them, and links to a line of a source.
+# Anchors as forges generate them, and links to a line of a source.
 myst_heading_anchors = 4
 myst_url_schemes = ("http", "https", "source")
-# No lexer knows lines of a console, or the two dots of a sample.
+# No lexer parses lines of a console, or the two dots of a sample.
 suppress_warnings = ["misc.highlighting_failure"]
 
 # In docstrings `this` is code.

@@ -19,7 +19,7 @@ def samples(_, kind, name, thing, options, lines):
 
 
 def colons(app, doctree):
-    """Sphinx writes two hyphens between a name and its text."""
+    """Replaces the two hyphens that Sphinx writes between a name and its text."""
     for text in [*doctree.findall(nodes.Text)]:
         if text == " -- ":
             text.parent.replace(text, nodes.Text(": "))

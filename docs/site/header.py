@@ -15,7 +15,7 @@ def indented(text):
 
 
 def words_of(comment):
-    """The text of a comment: lines indented by four spaces are code, and so are names."""
+    """Returns the text of a comment: lines indented by four spaces are code, and so are names."""
     text = re.sub(r"^ \* ?", "", comment, flags=re.M).strip()
     return "\n\n".join(map(paragraph, re.split(r"\n\s*\n", text)))
 
@@ -32,7 +32,7 @@ def named(found):
 
 
 def members(kind, body):
-    """The values of an enumeration, or the members of a structure, each with its comment."""
+    """Returns the values of an enumeration, or a structure's members, each with its comment."""
     for what, words in re.findall(r"([^,;/]*)[,;]?(?: */\* (.*?) \*/)?\n", body):
         if what.strip():
             yield f".. c:{kind}:: {what.strip()}\n\n{indented(words_of(words))}"
@@ -41,7 +41,7 @@ def members(kind, body):
 
 
 def declared(text):
-    """The directives for a piece of C: the first one, and those inside it."""
+    """Returns the directives for a piece of C: the first one, and those inside it."""
     if found := re.match(r"(enum|struct) (\w+) \{(.*)\};", text, re.S):
         kind, name, body = found.groups()
         rows = re.sub(r"\A (.*), (.*) \Z", r"\1,\n\2\n", body)
@@ -61,7 +61,7 @@ def signatures(kind, names):
 
 
 def page(text):
-    """The page of a header, whose pieces are separated by empty lines."""
+    """Returns the page of a header, in which empty lines separate the pieces."""
     out = [f"{TITLE}\n{'=' * len(TITLE)}"]
     for piece in text.split("\n\n"):
         comment, code = re.match(r"(?:/\* (.*?)\*/\s*)?(.*)", piece.strip(), re.S).groups()

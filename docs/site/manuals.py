@@ -16,7 +16,7 @@ def plain(text):
 
 
 def inline(text):
-    """The nodes of a line with fonts; a name before a section number is a link."""
+    """Returns the nodes of a line with fonts; a name before a section number is a link."""
     found = []
     for font, words in re.findall(r"(?:\\f(.)|\A)((?:\\[^f]|[^\\])+)", text):
         words = plain(words)
@@ -30,7 +30,7 @@ def inline(text):
 
 
 def arguments(text):
-    """The words of a macro; a quoted text is one word."""
+    """Returns the words of a macro; a quoted text is one word."""
     return [quoted or word for quoted, word in re.findall(r'"([^"]*)"|(\S+)', text)]
 
 
@@ -81,7 +81,7 @@ class Manual(Directive):
         self.end_list("")
 
     def end_list(self, _):
-        """Begins a paragraph in the section; inside code it adds an empty line."""
+        """Begins a paragraph in the section, or adds an empty line inside code."""
         if self.code:
             self.add("")
         else:

@@ -13,7 +13,7 @@ from pygments.util import ClassNotFound
 TOP = pathlib.Path(__file__).resolve().parent.parent.parent
 SCHEME = "source:"
 LEXERS = {".rt": "rust", ".antt": "agda"}
-# It has the looks of the other pages, and no list of them.
+# The page has the looks of the other pages, but no list of them.
 PAGE = """<!doctype html>
 <html lang="en"><head><meta charset="utf-8"><title>{name} - Rigzumal</title>
 <meta name="viewport" content="width=device-width, initial-scale=1">
@@ -48,7 +48,7 @@ def lexer(name):
 
 
 def write(app, fault):
-    """The page of each source file, with a target L-1, L-2.. for each line."""
+    """Writes the page of each source file, with a target L-1, L-2.. for each line."""
     looks = HtmlFormatter(linenos="inline", lineanchors="L", cssclass="highlight")
     for name in () if fault else sorted(app.env.sources):
         file = pathlib.Path(app.outdir, "source", f"{name}.html")
