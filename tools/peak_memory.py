@@ -8,8 +8,8 @@ The script runs tests with external vectors in the program that `rt test` or `rt
 allocator adds up the memory that is requested and not yet freed. The maximum must be at most
 SOME_KIB more than the memory that the parameters of the largest hash require. In tests of hashes
 that reuse kept memory, all requests together must be at most the memory of one hash and SOME_KIB.
-The script prints a line for each test; the last line is `N passed, M failed`. It needs only the
-toolchain, whose compiler builds the shim.
+The script prints a line for each test; the last line is `N passed, M failed`. The script needs only
+the toolchain, whose compiler builds the shim.
 """
 
 import sys

@@ -24,8 +24,8 @@ OF_AN_OPERATION = ("absent", "expired")
 ELSE = ("SUCCESS", "AUTHINFO_UNAVAIL")
 COLUMNS = 140  # columns of a page's line
 
-HEADER = """/* What answers to a password mean for PAM, but for those that differ by operation. Any
- * other one is PAM_AUTHINFO_UNAVAIL. tools/protocol.py writes this file. */
+HEADER = """/* The meanings for PAM of answers to a password, except those that differ by operation.
+ * Any other answer is PAM_AUTHINFO_UNAVAIL. tools/protocol.py writes this file. */
 #ifndef RIGZUMAL_PAM_ANSWERS_H
 #define RIGZUMAL_PAM_ANSWERS_H
 
@@ -35,7 +35,7 @@ HEADER = """/* What answers to a password mean for PAM, but for those that diffe
 struct answer {
     const char *word;
     int result;
-    const char *text; /* what the user is told, or NULL */
+    const char *text; /* the text for the user, or NULL */
 };
 
 static const struct answer ANSWERS[] = {

@@ -8,9 +8,9 @@ A session is a block marked `sh`; the block marked `text` just below it is its o
 of a page run in one bash and one folder, in order. Their path has the built programs of
 crates/*/out (`rt run` builds them) and this Python as `python3`, with the Python package. The
 folder contains only links to crates/, c/ and python/. The script lists, but doesn't run, a session
-without a text below it or one that installs something. It lists and skips a session whose program
-is missing. The last line is `N passed, M failed`, and the status is 1 if anything failed or nothing
-passed.
+without a text below it or one that installs something. The script also lists and skips a session
+whose program is missing. The last line is `N passed, M failed`, and the status is 1 if anything
+failed or nothing passed.
 """
 
 import difflib

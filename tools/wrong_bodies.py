@@ -19,7 +19,8 @@ The script first proves the unchanged functions, and reuses what `rt check` kept
 out/, or an earlier run in .git/wrong-bodies. Then the prover must refuse each wrong body at a goal:
 the search doesn't prove the goal, or its written answer is no longer a proof. A refusal is weaker
 evidence if an answer only names what the edit removed, or if only a caller is refused, with no
-other plant. The status is 1 if a wrong body isn't refused, or can't be judged.
+other plant. The status is 1 if the prover doesn't refuse a wrong body, or the script can't judge
+one.
 """
 
 import argparse

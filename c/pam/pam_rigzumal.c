@@ -322,8 +322,8 @@ static int begin_change(pam_handle_t *pamh, struct question *question) {
     return result == PAM_AUTHINFO_UNAVAIL ? PAM_TRY_AGAIN : result;
 }
 
-/* The second call changes the password. It asks for the new one even if the book lacks the name or
- * doesn't answer: a later module with use_authtok needs the new password. */
+/* The second call changes the password. The call asks for the new one even if the book lacks the
+ * name or doesn't answer: a later module with use_authtok needs the new password. */
 static int finish_change(pam_handle_t *pamh, struct question *question) {
     int found = known(pamh, question), result = PAM_SUCCESS;
     if (found == PAM_SUCCESS)

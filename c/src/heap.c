@@ -229,7 +229,7 @@ static _Thread_local struct {
     uint64_t process; /* that took the first block */
     area area;        /* the area from which the heap cuts blocks, or 0 */
     size_t used;      /* the bytes of that area in use */
-    size_t most_used; /* the most since it was taken */
+    size_t most_used; /* the most since the call took it */
 } taken;
 
 static bool has_room_for_block(void) {

@@ -8,7 +8,7 @@ from tree import CRATES, TOP, listed, source
 
 CALL = re.compile(r"`(\w+(?:::\w+)+)`(\s*\((?:`\w+`(?:,\s*)?)+\))?")
 CARRIED = re.compile(r"^- \*Carried by\*.*?(?=^- |^#|^$|\Z)", re.S | re.M)
-# A name in code, outside of a link; or the words that name the crate of the next names.
+# A name in code, outside of a link, or the words that name the crate of the next names.
 NAMED = re.compile(r"crates/(\w+)/|\[`(\w+)::[^`]*`\]|`([\w:]+)`(?!\])")
 HELD = re.compile(rf"{FILES.pattern}(\s+has\s+)((?:`\w+`(?:,|\s+and)?\s*)+)")
 # A file that no link has yet, in code or not.

@@ -45,7 +45,7 @@ class Undone:
     """Nothing was stored, and the job may be repeated."""
 
     cause: Optional[BaseException]
-    reason: str = ""  # why there is no connection, in words that quote no row
+    reason: str = ""  # the reason for a missing connection, in words that quote no row
 
 
 class _Put(NamedTuple):

@@ -80,8 +80,8 @@ class Dialect:
         locked: the same statement, with the UPDATE's lock on the row until the transaction ends. A
             weaker lock, which two logins can hold, deadlocks if both then update the row.
         update: writes a record if the row has the copy; its values are record, key, copy.
-        at_once: writes a whole change and commits it, or undoes it; empty if the engine has no such
-            statement.
+        at_once: writes a whole change, and commits or undoes the change; empty if the engine has no
+            such statement.
         insert: adds the account of a key, without a record.
         every: reads all keys and records.
         returns: whether the UPDATE returns the record that it wrote.

@@ -31,7 +31,7 @@ SHORT = b"short"
 # The answers to `known`, by the beginning of a row.
 KNOWN = {b"$": b"yes", LOCKED: b"absent", MUST_CHANGE: b"expired"}
 KNOWN |= {NO_RECORD: b"absent", NO_ACCOUNT: b"noaccount"}
-TURNS = 8  # places for lines that are taken in a pass of the loop
+TURNS = 8  # places for lines in a pass of the event loop
 LOOKS, CHANGES = 16, 128  # places for lines that change nothing, and for quick changes
 SYNC_SECONDS = 0.01  # seconds that a change waits for the disk, about
 REFUSALS = (b"noaccount", b"bad ", LATER)  # these change nothing; a name may be a password
@@ -87,10 +87,10 @@ class Service:
         self.tasks = set[asyncio.Task[None]]()  # a task for each request
         self.audit = AuditLog(options.audit)
         if options.audit:
-            self.audit.append(b"")  # opened now, so that the start fails if it can't be written
+            self.audit.append(b"")  # opens it now, so that a fault ends the start
         self.upgrading = asyncio.Lock()
         self.transfers = Transfers(self)
-        self.answer = self.ask  # or an old file's, where the book lacks the name
+        self.answer = self.ask  # or an old file's, if the book lacks the name
         self.foreign: Optional["Foreign"] = None
         if options.foreign:
             from .foreign import Foreign  # this needs passlib
@@ -98,7 +98,7 @@ class Service:
             self.foreign = Foreign(self, options.foreign)
             self.answer = self.foreign.answer
 
-    # ---- a request comes
+    # ---- a request arrives
 
     def submit(self, client: Client, tag: bytes, words: list[bytes]) -> bytes:
         """Begins to process a request, or returns the server's own answer."""
@@ -161,7 +161,7 @@ class Service:
             return self.hashes
         return self.changes if operation.changes else self.looks
 
-    # ---- it is answered
+    # ---- the server answers the request
 
     async def process(self, request: Request) -> None:
         """Answers a request, and records the answer in the audit log. The server records a change
@@ -219,7 +219,7 @@ class Service:
             log_seldom(("disk", path), text, path, NEEDED // 1024)
         return not full
 
-    # ---- the book is asked
+    # ---- the server asks the book
 
     async def ask(self, request: Request) -> bytes:
         """Returns the book's answer to a request."""

@@ -100,7 +100,7 @@ class Transfers:
         self.one_at_a_time = asyncio.Lock()
         self.running: Optional[asyncio.subprocess.Process] = None
 
-    # ---- what a client asks for
+    # ---- a client's request
 
     def submit(self, request: Request) -> bytes:
         """Begins a request, or returns its answer."""
@@ -151,7 +151,7 @@ class Transfers:
         request.client.running += 1
         self.service.begin(self.process(request, text))
 
-    # ---- it is done
+    # ---- the work
 
     async def process(self, request: Request, text: Optional[BinaryIO]) -> None:
         """Runs and answers a request. A fault fails only this request, and never the service."""
