@@ -1,7 +1,7 @@
-# Rigzumal as a whole. What each part needs says docs/BUILDING.md.
+# Rigzumal as a whole. docs/BUILDING.md lists the needs of each part.
 #
 #     make build                    the programs, the library for C and Python, libargon2, and the PAM module
-#     make test                     the gate with the tests of every folder, and the long ones that it leaves out
+#     make test                     the gate with the tests of every folder, and the long ones that the gate omits
 #     make wrong-bodies             the gate with every wrong body, as before a release
 #     make deb                      Debian's packages: in c/out, python/out and c/pam/out, with programs that run
 #                                   on every x86-64 processor
@@ -14,7 +14,7 @@
 #     make install PREFIX=/usr/local [DESTDIR=..]
 #     make uninstall PREFIX=/usr/local [DESTDIR=..]
 #
-# Programs are compiled for the processor that they are built on. CPU=x86-64-v2 in front of build and install makes
+# make compiles programs for the processor of this machine. CPU=x86-64-v2 in front of build and install makes
 # those that run on others too. `make programs library ARCH=arm64` makes those for ARM64.
 
 PREFIX ?= /usr/local
@@ -29,7 +29,7 @@ RT ?= rt
 PYTHON ?= /usr/bin/python3
 
 PROGRAMS := credbook credkeep
-# The programs themselves. What bin has is bin/launcher.in, which runs them with huge pages.
+# The programs themselves. An installed bin has copies of bin/launcher.in, which run them with huge pages.
 LIBEXEC := $(PREFIX)/libexec/rigzumal
 # The modules of credkeep-server and, below them, of credkeep-ask.
 DAEMON := $(PREFIX)/share/rigzumal/daemon
@@ -48,11 +48,11 @@ PAM_WORDS = DESTDIR='$(DESTDIR)' PAMDIR='$(PAMDIR)' MANDIR='$(MAN)'
 # Each of these works on crates side by side, and no two may work on the same ones.
 .NOTPARALLEL:
 
-# The library first: it is there in minutes, and who wants it alone can stop then.
+# The library first: it takes minutes, and whoever wants only the library can stop then.
 build: library programs
 	$(if $(HAS_PAM),$(MAKE) -C c/pam,@echo 'pam_rigzumal.so is left out: libpam0g-dev is not there')
 
-# tools/build.py knows what is built already.
+# tools/build.py skips a program that is up to date.
 programs:
 	@for name in $(PROGRAMS); do RT='$(RT)' $(PYTHON) tools/build.py $(patsubst %,--cpu %,$(or $(filter arm64,$(ARCH)),$(CPU))) $$name || exit 1; done
 
@@ -76,18 +76,18 @@ wheel: library
 proved:
 	$(MAKE) -C c proved RT='$(RT)' PYTHON='$(PYTHON)'
 
-# Of every level that the tarball has, the highest last: that program stays built.
+# For every level of the tarball, the highest last, whose program stays built.
 dist:
 	$(MAKE) -C c check-proved RT='$(RT)' PYTHON='$(PYTHON)'
 	for level in x86-64 x86-64-v3; do for name in $(PROGRAMS); do \
 		RT='$(RT)' $(PYTHON) tools/build.py --object --cpu $$level $$name || exit 1; done; done
 	$(PYTHON) tools/dist.py
 
-# The reference of Python is of its docstrings, and the package needs the library.
+# The reference of Python comes from docstrings, and the package needs the library.
 html: library
 	$(PYTHON) docs/site/build.py
 
-# What bench/RESULTS.md has of the library, on a machine that has nothing else to do.
+# The figures of the library in bench/RESULTS.md, from a machine that does nothing else.
 bench: library
 	for pages in own none all; do $(PYTHON) bench/c/run.py --times 16 --pages $$pages || exit 1; done
 	$(PYTHON) bench/c/run.py --times 8 --callers 1 2 4
@@ -99,7 +99,7 @@ install: build install-programs
 	$(if $(HAS_PAM),$(MAKE) -C c/pam install $(PAM_WORDS))
 	$(MAKE) -C c install PREFIX='$(PREFIX)' DESTDIR='$(DESTDIR)' RT='$(RT)'
 
-# Where files are put, for a shell: paths may have spaces.
+# The target folders, for a shell: paths may have spaces.
 TO_PREFIX = '$(DESTDIR)$(PREFIX)'
 TO_LIBEXEC = '$(DESTDIR)$(LIBEXEC)'
 TO_DAEMON = '$(DESTDIR)$(DAEMON)'
@@ -109,7 +109,7 @@ TO_UNITS = '$(DESTDIR)$(UNIT_DIR)'
 NOTED = '$(DESTDIR)$(PREFIX)/share/rigzumal/folders'
 TO_SHELLS = '$(DESTDIR)$(BASH_DIR)' '$(DESTDIR)$(ZSH_DIR)' '$(DESTDIR)$(FISH_DIR)'
 
-# The programs that were built, the server with its units, their pages and completions.
+# The built programs, the server with its units, their pages and completions.
 install-programs:
 	packaging/folders make $(NOTED) programs $(TO_LIBEXEC) $(TO_PREFIX)/bin $(TO_PREFIX)/sbin $(TO_DAEMON) $(TO_DAEMON)/ask \
 		$(TO_MAN)/man1 $(TO_MAN)/man5 $(TO_MAN)/man8 $(TO_UNITS) $(TO_SHELLS)

@@ -11,14 +11,15 @@ from concurrent.futures import ThreadPoolExecutor
 
 
 def timed(work, *given):
-    """The wall time and the processor time of a call in milliseconds, and its result."""
+    """Measures the wall time and the processor time of a call in milliseconds, and returns its
+    result too."""
     wall, cpu = time.perf_counter(), time.process_time()
     made = work(*given)
     return (1000 * (time.perf_counter() - wall), 1000 * (time.process_time() - cpu)), made
 
 
 def rate(work, seconds, at_once):
-    """Calls a second of this many threads, each with one call after another."""
+    """Measures calls a second of this many threads, each with one call after another."""
     start = time.perf_counter()
 
     def works(_):
@@ -33,7 +34,7 @@ def rate(work, seconds, at_once):
 
 
 def take_turns(rows, times, warm=1):
-    """The figures of each way of each row, turn by turn.
+    """Returns the figures of each way of each row, turn by turn.
 
     A way of a row is a call that returns its figures and its result; all ways of a row have the
     same result. The rows take turns, and their ways in any order. The first turns load and warm up.
@@ -61,12 +62,12 @@ def median(turns, part=0):
 
 
 def ratio(turns, others, part=0):
-    """The figure of the best turns."""
+    """Returns the ratio of the best turns."""
     return best(turns, part) / best(others, part)
 
 
 def median_ratio(turns, others, part=0):
-    """The median of the turns' ratios."""
+    """Returns the median of the turns' ratios."""
     return statistics.median(one[part] / other[part] for one, other in zip(turns, others))
 
 

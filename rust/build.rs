@@ -1,14 +1,14 @@
-//! Says where librigzumal is: in the folder that `RIGZUMAL_LIB_DIR` names, in what `make -C c` has
-//! built beside this crate, where pkg-config finds it, or where the linker looks by itself.
+//! Tells the linker where librigzumal is: in the folder that `RIGZUMAL_LIB_DIR` names, in the
+//! output of `make -C c` beside this crate, in pkg-config's folder, or in the linker's own folders.
 
 use std::env;
 use std::path::{Path, PathBuf};
 use std::process::Command;
 
-/// The linker may know folders that this program doesn't, so it goes on.
+/// The linker may know folders that this program doesn't, so this is only a warning.
 const MISSING: &str = "no librigzumal was found: `make -C c` in the repository builds it";
 
-/// Where `make -C c` builds it, seen from this crate.
+/// The folder in which `make -C c` builds the library, relative to this crate.
 const BESIDE: &str = "../c/out";
 
 fn main() {
@@ -16,7 +16,7 @@ fn main() {
     println!("cargo:rerun-if-changed=build.rs");
     let Some(folder) = named().or_else(built_beside).or_else(by_pkg_config) else {
         println!("cargo:warning={MISSING}");
-        // looks again at the next build, as it does wherever such a file is missing
+        // cargo runs this again at the next build, since such a file is missing
         println!("cargo:rerun-if-changed={BESIDE}/librigzumal.a");
         println!("cargo:rustc-link-lib=dylib=rigzumal");
         return;

@@ -36,7 +36,7 @@ OF_CRATES = {
 EVERY = ("",)
 PACKAGE = ("python/tests/package", "tests/packages")
 PAGES = ("docs/tests", "tools/readme")
-# Of each file the row with the longest beginning of its path: the jobs that look at it.
+# The jobs that read a file are those of the row with the longest beginning of its path.
 READERS: Mapping[str, Collection[str]] = {
     ".": (),
     ".ci/": ("tests/tools/test_without_rt",),
@@ -48,7 +48,7 @@ READERS: Mapping[str, Collection[str]] = {
     "README.md": (*PAGES, "tests/packages/test_install"),
     "SECURITY.md": PAGES,
     "docs/": PAGES,
-    "crates/": (),  # by the programs that stand on the crate
+    "crates/": (),  # read by the programs over the crate
     "crates.txt": ("tests/packages/test_without_rt",),
     "pyproject.toml": ("tests/tools/test_layout",),
     "bench/": ("tests/tools/test_layout", "tests/tools/test_measures"),
@@ -79,7 +79,7 @@ READERS: Mapping[str, Collection[str]] = {
     "python/rigzumal/passlib.py": ("frameworks/test_passlib", "docs/tests", *PACKAGE),
     "python/rigzumal/server/": ("tests/server", "docs/tests", *PACKAGE),
 }
-# Seconds of a crate, of a job and of a wrong body that nobody has measured.
+# The assumed seconds of a crate, a job and a wrong body that nobody has measured.
 A_CRATE, A_JOB, A_WRONG_BODY = 60, 10, 10
 
 
@@ -90,7 +90,8 @@ def git(*words: str) -> str:
 
 
 def changed_files(commit: str) -> list[str]:
-    """The files that differ from a commit, or aren't committed; for a moved file, both names."""
+    """Lists the files that differ from a commit, or aren't committed; for a moved file, both
+    names."""
     differ = git("diff", "--name-only", "--no-renames", commit)
     return sorted(
         {*differ.splitlines(), *git("ls-files", "--others", "--exclude-standard").splitlines()}
@@ -98,18 +99,18 @@ def changed_files(commit: str) -> list[str]:
 
 
 def changed_crates(files: Iterable[str], parts: str) -> set[str]:
-    """The crates with a changed file in these folders."""
+    """Returns the crates with a changed file in these folders."""
     found = (re.match(rf"crates/(\w+)/(?:{parts})/", it) for it in files)
     return {it[1] for it in found if it} & {*listed()}
 
 
 def proved_again(crates: Collection[str]) -> list[str]:
-    """These crates and all crates above them, lowest first."""
+    """Returns these crates and all crates above them, lowest first."""
     return [it for it in listed() if it in crates or {*all_below(it)} & {*crates}]
 
 
 def jobs_of(file: str) -> Collection[str]:
-    """The words of the jobs that read a file."""
+    """Returns the words of the jobs that read a file."""
     for folder in FOLDERS:
         if file.startswith(f"{folder.path}/"):
             at = file.removesuffix(".py")
@@ -118,14 +119,14 @@ def jobs_of(file: str) -> Collection[str]:
 
 
 def jobs_to_run(files: Iterable[str], proved: Iterable[str]) -> list[Job]:
-    """The jobs that read one of these files, or the build results of these crates."""
+    """Returns the jobs that read one of these files, or the build results of these crates."""
     words = {word for it in files for word in jobs_of(it)}
     words |= {word for it in proved for word in OF_CRATES.get(it, ())}
     return jobs(words) if words else []
 
 
 def words_for(chosen: Iterable[Job]) -> str:
-    """The words that select these jobs: a folder's word if they include all of its jobs."""
+    """Returns the words that select these jobs: a folder's word if they include all of its jobs."""
     names = {it.name for it in chosen}
     every = jobs()
     in_part = {it.folder for it in every if it.name not in names}
@@ -138,13 +139,13 @@ def words_for(chosen: Iterable[Job]) -> str:
 
 
 def elapsed(parts: Mapping[str, float], longest: float) -> str:
-    """The approximate time of these seconds in parallel, and at least that of the longest part."""
+    """Describes the time of these parts in parallel, which is at least that of the longest part."""
     minutes = max(sum(parts.values()) / len(os.sched_getaffinity(0)), longest) / 60
     return f"about {minutes:.0f} min" if minutes >= 1 else "under a minute"
 
 
 def chain(name: str, proofs: Mapping[str, float]) -> float:
-    """The seconds of a proof and of the proofs for which it waits."""
+    """Returns the seconds of a proof and of the proofs for which it waits."""
     return proofs.get(name, 0) + max((chain(it, proofs) for it in below(name)), default=0)
 
 
@@ -176,7 +177,7 @@ def of_tests(chosen: Collection[Job]) -> str:
 
 
 def report(files: Collection[str]) -> Iterable[str]:
-    """The lines with the costs of these changed files."""
+    """Yields the lines with the costs of these changed files."""
     again = proved_again(changed_crates(files, "src|specs|proofs"))
     if again:
         yield of_proofs(again)

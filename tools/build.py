@@ -16,7 +16,7 @@ nothing, and the status is 1 if the program isn't built for LEVEL. With --object
 uses, the script builds the program again unless its object was kept (crates/NAME/out/objects). The
 time of each crate is the estimate for the next build (crates/NAME/out/seconds), and with --note
 also for those who build it first: tools/build_seconds.json, for four idle processors. `rt run`
-alone does the same in more time: only one rt at a time may work above a library, so the script
+alone needs more time for this build: only one rt at a time may work above a library, so the script
 builds independent libraries in two copies of the sources, and copies the results back. The variable
 RT selects another rt.
 """
@@ -51,8 +51,8 @@ ARM64, TARGET = programs.ARM64, "aarch64-unknown-linux-gnu"
 
 
 def folders(room):
-    """Folders with the sources, each for one rt at a time. If the repository itself is free, it is
-    used before the copies."""
+    """Lends folders with the sources, each to one rt at a time: first the repository, if it is
+    free, and then the copies."""
     free = queue.PriorityQueue()
     free.put((0, TOP))
     for number in range(1, AT_ONCE):
@@ -65,7 +65,7 @@ def folders(room):
 
 
 def expected(name):
-    """The estimated seconds for a crate: its last time here, or on another machine."""
+    """Returns the estimated seconds for a crate: its last time here, or on another machine."""
     last = source(CRATES / name / "out/seconds")
     return max(float(last), 1) if last else json.loads(source(NOTED) or "{}").get(name, 60)
 
@@ -104,9 +104,9 @@ class Progress:
             self.say(f"{name}: {what}, {seconds:.0f} s")
 
     def pace(self, done):
-        """The ratio of a crate's time here to the estimate. The most recent times count most, since
-        the first ones of a build also prepare what all crates need; a minute at the estimated pace
-        precedes them."""
+        """Computes the ratio of a crate's time here to the estimate. The most recent times count
+        most, since the first ones of a build also prepare the needs of all crates; a minute at the
+        estimated pace precedes them."""
         taken = foreseen = 60
         weight = 1
         for name in reversed(done):
@@ -116,8 +116,8 @@ class Progress:
         return taken / foreseen
 
     def rest(self):
-        """The seconds until all are done, AT_ONCE in parallel and each after those below it, if
-        each takes as long as estimated at the pace here."""
+        """Computes the seconds until all are done, AT_ONCE in parallel and each after those below
+        it, if each takes as long as estimated at the pace here."""
         now, done, begun = time.monotonic(), {**self.done}, {**self.running}
         pace, at = self.pace(done), 0
         left = {
@@ -137,7 +137,7 @@ class Progress:
         return at
 
     def say(self, what, end="\n"):
-        """The last event, the progress, and the remaining time."""
+        """Prints the last event, the progress, and the remaining time."""
         minutes = max(round(self.rest() / 60), 1)
         rest = (
             f", about {minutes} minute{'s' if minutes > 1 else ''} left"
@@ -192,14 +192,14 @@ def build_all(libraries, progress):
 
 
 def level_here():
-    """The highest level that this processor has, as the loader sees it."""
+    """Returns the highest level that this processor has, as the loader sees it."""
     output = subprocess.run([LOADER, "--help"], capture_output=True, text=True, check=True).stdout
     return max(it for it in LEVELS if it == LEVELS[0] or f"{it} (supported" in output)
 
 
 def sum_of(program, level, by=""):
-    """A checksum over everything on which a built program depends, over the program itself, and
-    over its linker, if that wasn't rt."""
+    """Computes a checksum over everything on which a built program depends, over the program
+    itself, and over its linker, if that wasn't rt."""
     sources = [*programs.sources(program), *([programs.CALLS] if by or level == ARM64 else [])]
     found = hashlib.sha256((level + by).encode())
     for file in [TOP / "crates.txt", *sources, files_of(program, level)[0]]:
@@ -208,18 +208,17 @@ def sum_of(program, level, by=""):
 
 
 def files_of(program, level):
-    """The place of a built program, its sources, and its level."""
+    """Returns the place of a built program, its sources, and its level."""
     out = CRATES / program / "out" / (ARM64 if level == ARM64 else "")
     return out / program, out / f"{program}.level"
 
 
-# Who linked a program where rt is missing.
+# The linker of a program if rt is missing.
 LINKED = "cc"
 
 
 def is_built(program, level):
-    """Whether the program, as rt built it, is up to date; without rt, as its packed object was
-    linked."""
+    """Whether the program that rt built, or without rt the linked object, is up to date."""
     built, seal = files_of(program, level)
     if not (built.is_file() and seal.is_file()):
         return False
@@ -229,8 +228,8 @@ def is_built(program, level):
 
 
 def best_level(program):
-    """The highest level for which a program can be built and that this processor has: if rt is
-    missing, among the levels of its objects."""
+    """Returns the highest level for which a program can be built and that this processor has: if rt
+    is missing, among the levels of its objects."""
     here = level_here()
     if has_rt():
         return here
@@ -253,13 +252,13 @@ def build_program(program, level, progress):
     for file in (built, compiled):
         file.unlink(missing_ok=True)
     with progress.of(program, "proved and built"):
-        # rt builds a program as it runs it: here for its help. It links none for another machine,
-        # and fails then.
+        # rt builds a program when it runs the program, here for its help. rt links none for another
+        # machine, and fails then.
         flag = f"--target={TARGET}" if level == ARM64 else f"--cpu={level}"
         done = subprocess.run(
             [RT, "run", flag, "--", "--help"], cwd=CRATES / program, capture_output=True, text=True
         )
-        said = done.stdout + done.stderr  # rt run says on the latter what was proved
+        said = done.stdout + done.stderr  # standard error names the proved parts
         if (
             level == ARM64
             and compiled.is_file()
@@ -295,7 +294,7 @@ def main():
         variable = "ARCH" if level == ARM64 else "CPU"
         raise SystemExit(f"{program} isn't built for {level}: run make programs {variable}={level}")
     if is_lacking and not has_rt():
-        if not programs.PACKED.is_dir():  # a checkout has none, and a tarball has
+        if not programs.PACKED.is_dir():  # only a tarball has objects
             need_rt(f"prove and build {program}")
         link_packed(program, level)
     elif is_lacking:

@@ -45,8 +45,8 @@ EMPTY_BODY = re.compile(
     r"(?:\w+:.*\n)?  ret void\n\}\n",
     re.M,
 )
-# Half a block, by lines of the cache. More would take all places where a processor keeps what it
-# waits for, and G's own reads would wait for one.
+# Half a block, by lines of the cache. More would fill the processor's list of pending reads, and
+# G's own reads would wait for a place in it.
 OFFSETS = range(0, 512, 64)
 DECLARED = "declare void @llvm.prefetch.p0(ptr, i32, i32, i32)\n"
 # Functions that lose `#[inline(always)]` in rattle. Some have several instances.
@@ -59,7 +59,7 @@ INLINED = (
 
 
 def with_prefetches(text):
-    """The module with prefetches at the places that request a block."""
+    """Returns the module with prefetches at the places that request a block."""
     found = EMPTY_BODY.findall(text)
     if len(found) != 1 or text.count(f'define internal void @"{PREFETCHES}"') != 1:
         sys.exit(f"the module has {len(found)} empty functions {PREFETCHES}, and not one")
@@ -73,7 +73,7 @@ def with_prefetches(text):
 
 
 def with_inlined(text):
-    """The module with inlining for the functions whose source requests it."""
+    """Returns the module with inlining for the functions whose source requests it."""
     for name in INLINED:
         head = re.compile(rf'^(define internal [^@\n]*@"{name}[^{{\n]*\) )(#\d+ \{{)', re.M)
         text, places = head.subn(r"\1alwaysinline \2", text)
@@ -83,7 +83,7 @@ def with_inlined(text):
 
 
 def at_level(text, level):
-    """The module for a level: for x86-64-v4, the one for x86-64-v3 with a changed level."""
+    """Returns the module for a level: for x86-64-v4, the one for x86-64-v3 with a changed level."""
     if level != "x86-64-v4":
         return text
     if V3 not in text:
@@ -105,7 +105,7 @@ def be_clang(level, clang, words):
 
 
 def make_toolchain(kit, room, level):
-    """A folder of links to the toolchain, except for its clang."""
+    """Creates a folder of links to the toolchain, except for its clang."""
     folder = pathlib.Path(room) / "toolchain"
     subprocess.run(["cp", "-rs", kit / "toolchain", folder], check=True)
     clang = folder / "bin/clang"
@@ -117,7 +117,7 @@ def make_toolchain(kit, room, level):
 
 
 def words_of(kit):
-    """The arguments of rt lib for rattle, for the crate and the built crates below it."""
+    """Returns the arguments of rt lib for rattle, for the crate and the built crates below it."""
     words = ["--crate-name", CRATE, "src/lib.rt", "--crate-type", "staticlib"]
     words += ["--extern", f"std={kit}/rlibs/std.rlib", "-L", f"dependency={kit}/rlibs"]
     for name in below(CRATE):
@@ -129,7 +129,7 @@ def words_of(kit):
 
 
 def build(level, target):
-    """Runs rattle, which writes the library; returns the reason for a failure, or nothing."""
+    """Runs rattle, which writes the library. Returns the reason for a failure, or nothing."""
     page = subprocess.run([os.environ.get("RT", "rt"), "doc"], capture_output=True, text=True)
     kit = pathlib.Path(page.stdout.strip()).parent
     if page.returncode or not (kit / "toolchain/bin/clang").is_file():

@@ -78,7 +78,7 @@ class Program:
         return " | ".join(f"*/2/{word}" for word in words or ["-"])
 
     def filled(self, template):
-        """A template, filled with the program's words."""
+        """Fills a template with the program's words."""
         each = [*self.commands, self.top]
         valued = {f"--{name}" for command in each for name, value, _ in command.options if value}
         fields = {
@@ -99,18 +99,18 @@ class Program:
 
 
 def server_commands():
-    """credkeep-ask's commands for a server, by their words, with their texts."""
+    """Returns credkeep-ask's commands for a server, by their words, with their texts."""
     return [(word, command.text) for word, command in COMMANDS.items()]
 
 
 def printed(words):
-    """The shell code that prints these words with their descriptions."""
+    """Returns the shell code that prints these words with their descriptions."""
     shown = [quoted(f"{word}:{short(text)}") for word, text in words]
     return " ".join(["printf '%s\\n'", *shown]) if shown else ":"
 
 
 def short(text):
-    """A description's first part."""
+    """Returns a description's first part."""
     return re.split(r"[:;] | \[default", text)[0].strip()
 
 
@@ -125,7 +125,7 @@ def written(template, fields):
 
 
 def files(folders):
-    """Each file with its shell and its program."""
+    """Yields each file with its shell and its program."""
     bash, zsh, fish = map(pathlib.Path, folders)
     for name in PROGRAMS:
         yield from (

@@ -5,8 +5,8 @@
 
 The script needs root on Debian, starts no services of these packages, and makes no requests if
 nothing is missing. The script always exits with status 0: if a package isn't available, or if
-INSTALL=no is in the environment, it says so, and the tests that need the package are skipped by
-name.
+INSTALL=no is in the environment, the script says so, and the tests that need the package skip
+themselves by name.
 """
 
 from __future__ import annotations
@@ -24,10 +24,10 @@ from typing import Any
 from tree import TOP
 
 LIST = TOP / "tools/debian-packages.txt"
-# What invoke-rc.d and systemd's helpers ask before they start a service.
+# The program that invoke-rc.d and systemd's helpers ask before they start a service.
 POLICY = pathlib.Path("/usr/sbin/policy-rc.d")
 GET = ["apt-get", "-qq", "--yes", "--no-install-recommends"]
-# Another apt-get may be at work; and a mirror that isn't to be had costs no more than a minute.
+# Another apt-get may be at work; and a mirror that doesn't answer costs no more than a minute.
 GET += ["-o", "DPkg::Lock::Timeout=600"]
 GET += ["-o", "Acquire::Retries=1", "-o", "Acquire::http::Timeout=30"]
 LIMIT = 1200
@@ -39,7 +39,7 @@ def listed() -> list[str]:
 
 
 def missing() -> list[str]:
-    """The listed packages that aren't installed."""
+    """Returns the listed packages that aren't installed."""
     words = ["dpkg-query", "--show", "--showformat", "${Package} ${db:Status-Status}\n"]
     done = subprocess.run([*words, *listed()], capture_output=True, text=True)
     installed = {
@@ -65,7 +65,7 @@ def no_services() -> Iterator[None]:
 
 
 def get(*words: str) -> str:
-    """The output of apt-get if it fails, or nothing."""
+    """Runs apt-get, and returns its output if it fails, or nothing."""
     given = {**os.environ, "DEBIAN_FRONTEND": "noninteractive"}
     pipes: dict[str, Any] = {
         "stdin": subprocess.DEVNULL,
@@ -80,13 +80,13 @@ def get(*words: str) -> str:
 
 
 def known(names: list[str]) -> list[str]:
-    """The packages that this Debian offers, by the fetched lists."""
+    """Returns the packages that this Debian offers, by the fetched lists."""
     show = ["apt-cache", "show"]
     return [it for it in names if not subprocess.run([*show, it], capture_output=True).returncode]
 
 
 def install(names: list[str]) -> str:
-    """Installs packages; returns the reason for a failure, or nothing. Fetches the lists if they
+    """Installs packages. Returns the reason for a failure, or nothing. Fetches the lists if they
     are too old for the packages."""
     with no_services():
         if known(names) == names and not get("install", *names):

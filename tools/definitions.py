@@ -17,21 +17,22 @@ from collections.abc import Iterator
 from tree import CRATES, source
 
 Place = tuple[str, ...]
-# Each local name of a file, with all paths that it is imported from.
+# Each local name of a file, with all paths from which the file imports it.
 Names = dict[str, set[Place]]
 
 NAME = r"[^\s(){}.;,@\"«»]+"
-# A name with the fields or modules behind its dots, a text, or a mark.
+# A name with the fields or modules after its dots, a text, or a mark.
 WORD = re.compile(rf'"(?:\\.|[^"\\])*"|(?:«{NAME}»|{NAME})(?:\.{NAME})*|[(){{}}.;,@]')
 COMMENT = re.compile(r"(^|(?<=\s))--.*", re.M)
 MARKS = {"pattern", "unfoldable", "abbrev", "pub", "axiom"}
 DECLARED = {"record", "data", "ruleset"}
-# The modules of a crate that the toolchain makes of its code.
+# The modules of a crate that the toolchain derives from its code.
 MADE = {"declared", "contracts"}
 
 
 def words(text: str) -> list[str]:
-    """The words of antt, without a comma or semicolon before a bracket, which is only layout."""
+    """Returns the words of antt, without a comma or semicolon before a bracket, which is only
+    layout."""
     found = WORD.findall(COMMENT.sub("", text))
     behind = [*found[1:], ""]
     pairs = zip(found, behind)
@@ -39,7 +40,7 @@ def words(text: str) -> list[str]:
 
 
 def closing(found: list[str], start: int) -> int:
-    """The place of the brace that closes the one at a word."""
+    """Returns the place of the brace that closes the one at a word."""
     depth = 0
     for at in range(start, len(found)):
         depth += (found[at] == "{") - (found[at] == "}")
@@ -49,7 +50,7 @@ def closing(found: list[str], start: int) -> int:
 
 
 def entries(found: list[str]) -> Iterator[list[str]]:
-    """The parts between the commas outside braces."""
+    """Yields the parts between the commas outside braces."""
     entry: list[str] = []
     at = 0
     while at < len(found):
@@ -64,7 +65,7 @@ def entries(found: list[str]) -> Iterator[list[str]]:
 
 
 def imported(path: list[str], front: Place = ()) -> Iterator[tuple[str, Place]]:
-    """The imports of `A.B.{c, d as e}`: each local name, with the path of its origin."""
+    """Yields the imports of `A.B.{c, d as e}`: each local name, with the path of its origin."""
     for entry in entries([part for it in path for part in it.split(".") if part]):
         if "{" in entry:
             opens = entry.index("{")
@@ -76,25 +77,25 @@ def imported(path: list[str], front: Place = ()) -> Iterator[tuple[str, Place]]:
 
 
 def parts(name: str) -> list[str]:
-    """A name or, for an operator such as `◌+◌`, the sign between its arguments."""
+    """Returns a name, or, for an operator such as `◌+◌`, the sign between its arguments."""
     return [name, *(it for it in name.split("◌") if it and it != name)]
 
 
 def add_names(names: Names, path: list[str]) -> None:
-    """Adds what a path imports."""
+    """Adds the names that a path imports."""
     for local, place in imported(path):
         for name in parts(local):
             names.setdefault(name, set()).add(place)
 
 
 def pieces(text: str) -> list[str]:
-    """The parts of a file that begin in its first column, except for brackets that close there."""
+    """Returns the parts of a file that begin in its first column, except closing brackets."""
     found = re.split(r"^(?=[^\s)}\]])", COMMENT.sub("", text), flags=re.M)
     return [it for it in found if it.strip()]
 
 
 def name_declared(piece: list[str]) -> str | None:
-    """The name that a piece declares; none if it is a case of the definition before it."""
+    """Returns the name that a piece declares, or none for a case of the definition before it."""
     rest = piece[next(at for at, it in enumerate(piece) if it not in MARKS) :]
     if rest[0] in DECLARED:
         return rest[1]
@@ -105,7 +106,7 @@ def name_declared(piece: list[str]) -> str | None:
 
 
 def constructors(piece: str) -> list[str]:
-    """The constructors that a piece declares, if it declares a data type."""
+    """Returns the constructors that a piece declares, if it declares a data type."""
     return re.findall(rf"^\s+({NAME}) :", piece, re.M) if "data" in words(piece)[:2] else []
 
 
@@ -131,7 +132,7 @@ class Definitions:
     def __init__(self, crates: pathlib.Path = CRATES) -> None:
         self.crates = {it.name for it in crates.iterdir()}
         self.found: dict[Place, Text] = {}
-        # The type of a constructor, and where a module has a name from that it hands on.
+        # The type of a constructor, and the origin of a name that a module re-exports.
         self.types: dict[Place, Place] = {}
         self.handed_on: dict[Place, Place] = {}
         self.meanings: dict[Place, Meaning] = {}
@@ -167,8 +168,8 @@ class Definitions:
         return ("Rattle", crate, "specs", *place)
 
     def origin(self, path: Place) -> Place:
-        """The path of a definition, from the module that defines it: other modules may re-export
-        it."""
+        """Returns the path of a definition, from the module that defines it: other modules may
+        re-export it."""
         rest = path[3:]
         for end in range(len(rest), 0, -1):
             if further := self.handed_on.get((path[1], *rest[:end])):
@@ -176,7 +177,7 @@ class Definitions:
         return path
 
     def at(self, path: Place) -> Place | None:
-        """The definition to which a path leads; fields may follow its name."""
+        """Returns the definition to which a path leads; fields may follow its name."""
         rest = path[3:]
         for end in range(len(rest), 0, -1):
             place = (path[1], *rest[:end])
@@ -190,7 +191,7 @@ class Definitions:
         return path[0] == "Rattle" and path[1] in self.crates
 
     def named(self, path: Place) -> str:
-        """The form of a name that we don't define: the toolchain's, by its whole path."""
+        """Returns the form of a name that we don't define: the toolchain's, by its whole path."""
         if not self.is_ours(path):
             return ".".join(path)
         if path[2] == "specs" and path[3] not in MADE:
@@ -198,9 +199,9 @@ class Definitions:
         return ".".join([path[1], *(it for it in path[3:] if not it[0].islower())])
 
     def meaning(self, text: Text) -> Meaning:
-        """The meaning of a text by itself: its words, and the definition of each name. An import
-        may rename a definition, so one of ours counts by its own name and words, and any other by
-        its path."""
+        """Returns the meaning of a text by itself: its words, and the definition of each name. An
+        import may rename a definition, so one of ours counts by its own name and words, and any
+        other by its path."""
         below, others = set(), set()
         for word in text.words:
             first, *fields = word.split(".")
@@ -220,7 +221,7 @@ class Definitions:
         return self.meanings[place]
 
     def below(self, text: Text) -> set[Place]:
-        """All definitions on which a text depends."""
+        """Returns all definitions on which a text depends."""
         found: set[Place] = set()
         left = self.meaning(text).below
         while left:
@@ -229,7 +230,7 @@ class Definitions:
         return found
 
     def sum_of(self, text: Text) -> str:
-        """A checksum over a text, and over everything on which it depends."""
+        """Computes a checksum over a text, and over everything on which it depends."""
         said = sorted(self.meaning_at(it).said for it in self.below(text))
         whole = "\n".join([self.meaning(text).said, *said])
         return hashlib.sha256(whole.encode()).hexdigest()[:16]

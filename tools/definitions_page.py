@@ -7,10 +7,10 @@ A line of the page requests the block of text after it:
 
     <!-- definitions of CRATE.MODULE.NAME, .. up to CRATE.MODULE.NAME, .. -->
 
-A block contains the definitions that are named first, and all of our definitions on which they
-depend, each with the comment above it, in the order in which they are first named. The definitions
-after `up to` are its chapters: they come last, without those on which they depend. A block doesn't
-repeat the definitions of earlier blocks. A block ends with the names of code and of the toolchain's
+A block contains the definitions that the line names first, and all of our definitions on which they
+depend, each with the comment above it, in the order of their first mention. The definitions after
+`up to` are its chapters: they come last, without those on which they depend. A block doesn't repeat
+the definitions of earlier blocks. A block ends with the names of code and of the toolchain's
 libraries that it uses, except those of Rattle.std.specs.Prelude.
 
 --write prints the blocks again. Without --write the tool lists the blocks that differ from the
@@ -31,12 +31,12 @@ from tree import CRATES, TOP, source
 PAGE = TOP / "docs/DEFINITIONS.md"
 BLOCK = re.compile(r"^<!-- definitions of ([^<>]+) -->\n```text\n(.*?)^```$", re.M | re.S)
 WRITE = "python3 tools/definitions_page.py --write"
-# What a reader of any text of antt knows.
+# The module that a reader of any text of antt knows.
 KNOWN = ("Rattle", "std", "specs", "Prelude")
 
 
 def texts_in(file: str) -> dict[str, str]:
-    """The text of each definition of a file, with the comment right above it."""
+    """Returns the text of each definition of a file, with the comment right above it."""
     found: dict[str, str] = {}
     name = comment = ""
     for piece in re.split(r"^(?=[^\s)}\]])", file, flags=re.M):
@@ -52,7 +52,7 @@ def texts_in(file: str) -> dict[str, str]:
 
 
 def texts() -> Iterator[tuple[Place, str]]:
-    """The text of each definition in the tree."""
+    """Yields the text of each definition in the tree."""
     for file in sorted(CRATES.glob("*/specs/**/*.antt")):
         crate, _, *module = file.relative_to(CRATES).with_suffix("").parts
         for name, text in texts_in(source(file)).items():
@@ -60,14 +60,14 @@ def texts() -> Iterator[tuple[Place, str]]:
 
 
 def item_of(path: Place) -> str:
-    """The type or constant in the code that a path names: `cred_cli::Event` for
+    """Returns the type or constant in the code that a path names: `cred_cli::Event` for
     `Rattle.cred_cli.specs.declared.event.Event.TheVariants.Begin`."""
     names = [it for it in path[3:] if it[0].isupper() and it != "TheConstants"]
     return "::".join([path[1], *names[:1]])
 
 
 def listed_as(head: str, names: Iterable[str]) -> list[str]:
-    """A comment that lists some names, if there are any."""
+    """Returns a comment that lists some names, if it has any to list."""
     said = f"{head}: {', '.join(sorted(names))}"
     lines = textwrap.wrap(said, 96, break_long_words=False, break_on_hyphens=False)
     return ["\n".join(f"-- {it}" for it in lines)] if names else []
@@ -88,7 +88,7 @@ class Printer:
         return place
 
     def named_in(self, place: Place) -> Iterator[Place]:
-        """The paths that a definition names, in its order."""
+        """Yields the paths that a definition names, in its order."""
         text = self.found.found[place]
         for word in text.words:
             first, *fields = word.split(".")
@@ -96,8 +96,8 @@ class Printer:
                 yield self.found.origin((*path, *fields))
 
     def below(self, roots: list[Place], chapters: list[Place]) -> list[Place]:
-        """Some definitions and all on which they depend, in the order in which they are first
-        named, except for chapters."""
+        """Returns some definitions and all on which they depend, except for chapters, in the order
+        of their first mention."""
         found: dict[Place, None] = {}
         left = [*reversed(roots)]
         while left:
@@ -109,7 +109,7 @@ class Printer:
         return [*found]
 
     def others(self, places: list[Place]) -> list[str]:
-        """The names in some definitions that `specs/` doesn't define."""
+        """Lists the names in some definitions that `specs/` doesn't define."""
         paths = {it for place in places for it in self.named_in(place) if it[:4] != KNOWN}
         ours = {it for it in paths if self.found.is_ours(it)}
         items = {item_of(it) for it in ours if it[3] in MADE}
@@ -117,7 +117,7 @@ class Printer:
         return [*listed_as("of the code", items), *listed_as("of the toolchain", library)]
 
     def block(self, said: str) -> str:
-        """The text that a line of the page requests."""
+        """Returns the text that a line of the page requests."""
         roots, chapters = (
             [self.place(it) for it in part.split(",") if it.strip()]
             for part in said.partition(" up to ")[::2]
@@ -136,7 +136,7 @@ class Printer:
 
 
 def printed(page: str) -> str:
-    """A page, with each of its blocks as in the tree."""
+    """Returns a page with each of its blocks as in the tree."""
     printer = Printer()
 
     def block(found: re.Match[str]) -> str:
@@ -146,7 +146,7 @@ def printed(page: str) -> str:
 
 
 def check() -> Iterator[str | None]:
-    """The fault of each block of the page."""
+    """Yields the fault of each block of the page."""
     page = source(PAGE)
     try:
         wanted = printed(page)

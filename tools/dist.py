@@ -28,13 +28,13 @@ OUT = TOP / "out"
 
 
 def git(*words):
-    """The output of git, independent of configured line ends and owners."""
+    """Returns the output of git, independent of configured line ends and owners."""
     words = ["git", "-c", f"safe.directory={TOP}", "-c", "core.autocrlf=false", *words]
     return subprocess.run(words, cwd=TOP, stdout=subprocess.PIPE, check=True).stdout
 
 
 def committed():
-    """Each committed file by its name, with its bytes, and whether it is executable."""
+    """Returns each committed file by its name, with its bytes, and whether it is executable."""
     if git("status", "--porcelain"):
         sys.exit("make dist packs committed files: commit your changes first")
     with tarfile.open(fileobj=io.BytesIO(git("archive", "--format=tar", "HEAD"))) as archive:
@@ -43,7 +43,7 @@ def committed():
 
 
 def objects():
-    """The objects of the programs, and the sources of each object."""
+    """Returns the objects of the programs, and the sources of each object."""
     for level in (*programs.LEVELS, programs.ARM64):
         for program in programs.PROGRAMS:
             if programs.is_kept(program, level):
@@ -59,7 +59,7 @@ def objects():
 
 
 def tarball(files, seconds):
-    """A tarball of these files in the order of their names, without owners."""
+    """Packs a tarball of these files in the order of their names, without owners."""
     packed = io.BytesIO()
     with tarfile.open(fileobj=packed, mode="w", format=tarfile.USTAR_FORMAT) as archive:
         for name, (data, is_program) in sorted(files.items()):

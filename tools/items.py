@@ -20,7 +20,7 @@ WITHOUT_BODY = {"use", "const", "static", "type"}
 ENDS_HEAD = {it: {"{", ";", *(CLAUSES if it == "fn" else ())} for it in KINDS}
 # Attributes that only concern the prover, the compiler or a reader.
 UNSEEN = {"tactic", "cycle", "inline", "allow", "doc"}
-# The attributes that are known to hide nothing, and the one that leaves out of all but tests.
+# The attributes that hide nothing, and the one that omits an item from all but tests.
 KNOWN = {"derive", "error", "repr", "test", "unsafe"} | UNSEEN
 FOR_TESTS = "cfg ( test )"
 
@@ -51,7 +51,7 @@ class Item:
     attributes: list[str] = dataclasses.field(default_factory=list)
     head: list[str] = dataclasses.field(default_factory=list)
     clauses: list[Clause] = dataclasses.field(default_factory=list)
-    # The words between its braces, if it has some.
+    # The words between the item's braces, if it has braces.
     body: list[str] | None = None
     inner: list[Item] = dataclasses.field(default_factory=list)
 
@@ -66,7 +66,7 @@ class File:
         self.closing = self.brackets()
 
     def brackets(self) -> dict[int, int]:
-        """The place where each bracket closes."""
+        """Finds the place where each bracket closes."""
         found, opened = {}, []
         for at, token in enumerate(self.tokens):
             if token.text in CLOSES:
@@ -79,23 +79,23 @@ class File:
         return found
 
     def words(self, start: int, end: int) -> list[str]:
-        """Some words, without a comma before a bracket, which is only layout."""
+        """Returns some words, without a comma before a bracket, which is only layout."""
         found = [it.text for it in self.tokens[start:end]]
         behind = [*found[1:], ""]
         return [it for it, after in zip(found, behind) if it != "," or after not in (")", "}", "]")]
 
     def text_of(self, start: int, end: int) -> str:
-        """The text of some words, without comments."""
+        """Returns the text of some words, without comments."""
         if start == end:
             return ""
         return COMMENT.sub("", self.text[self.tokens[start].start : self.tokens[end - 1].end])
 
     def between(self, start: int) -> str:
-        """The text between a brace and the one that closes it."""
+        """Returns the text between a brace and the one that closes it."""
         return self.text_of(start + 1, self.closing[start])
 
     def until(self, start: int, end: int, stops: set[str]) -> int:
-        """The first of some words after a place, outside brackets."""
+        """Finds the first of some words after a place, outside brackets."""
         at = start
         while at < end and self.tokens[at].text not in stops:
             at = self.closing.get(at, at) + 1
@@ -105,7 +105,7 @@ class File:
         return self.items_in(0, len(self.tokens))
 
     def items_in(self, at: int, end: int) -> list[Item]:
-        """The items between two places."""
+        """Returns the items between two places."""
         found = []
         while at < end:
             at, attributes = self.attributes(at, end)
@@ -116,7 +116,7 @@ class File:
         return [it for it in found if it.kind != ";"]
 
     def attributes(self, at: int, end: int) -> tuple[int, list[str]]:
-        """The place after some attributes, and the attributes that change the meaning of an
+        """Returns the place after some attributes, and the attributes that change the meaning of an
         item."""
         found = []
         while at < end and self.tokens[at].text == "#":
@@ -128,7 +128,7 @@ class File:
         return at, [" ".join(it) for it in found if it[0] not in UNSEEN]
 
     def item(self, at: int, end: int) -> tuple[Item, int]:
-        """The item at a place, and the place after it."""
+        """Returns the item at a place, and the place after it."""
         kind_at = self.until(at, end, KINDS | {";"})
         kind = self.tokens[kind_at].text if kind_at < end else ";"
         words = self.words(at, min(kind_at + 1, end))
@@ -175,7 +175,7 @@ class File:
         return stop
 
     def fields(self, at: int, end: int) -> list[Item]:
-        """The fields of a struct, and the facts that the struct keeps about them."""
+        """Returns the fields of a struct, and the facts that the struct keeps about them."""
         found = []
         while at < end:
             at, attributes = self.attributes(at, end)

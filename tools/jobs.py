@@ -19,16 +19,16 @@ class Folder:
     """A folder with test modules, each named by the part between `test_` and `.py`."""
 
     path: str
-    # Whether its modules are of the package `tests`, and not found from their own folder.
+    # Whether its modules are in the package `tests`, instead of on the path of their own folder.
     is_package: bool = False
-    # Whether its modules stand on the library for C: they wait until it is built.
+    # Whether its modules need the library for C, and wait until it is built.
     needs_library: bool = True
     # Options for Python, such as the one that makes a warning an error.
     options: tuple[str, ...] = ()
     # Long modules, with the number of processes that share their tests.
     parts: Mapping[str, int] = dataclasses.field(default_factory=dict)
-    # Modules that bound a time from above, and wait more than they compute: they run when all else
-    # is done.
+    # Modules that bound a time from above, and wait more than they compute: they run after all
+    # others.
     quiet: Collection[str] = ()
     # Modules that write into the folders out/ of c/ and python/: no two of them run at once.
     packing: Collection[str] = ()
@@ -36,7 +36,7 @@ class Folder:
     long: Collection[str] = ()
 
 
-# A warning is an error, but for the one of hashers that cost little, as those of tests do.
+# A warning is an error, except the warning of low costs, which the tests' hashers have.
 WARNINGS = ("-W", "error", "-W", "ignore:memory_cost=")
 
 FOLDERS = (
@@ -71,8 +71,8 @@ FOLDERS = (
     Folder("rust/tests"),
 )
 
-# Programs of tools/ that are tests too, with their words and the crate whose program, which rt
-# alone builds, they run. README's sessions need the library.
+# Programs of tools/ that are tests too, with their words and the crate whose program they run,
+# which only rt builds. README's sessions need the library.
 PROGRAMS = {
     "refuse_memory": ((), "book_tests/out/book_tests_tests"),
     "peak_memory": ((), "hash_tests/out/hash_tests_tests"),
@@ -92,7 +92,7 @@ class Job:
     is_quiet: bool = False
     is_packing: bool = False
     is_long: bool = False
-    # What is missing of the machine, without which it is skipped.
+    # The missing part of the machine for whose lack the job is skipped.
     lacks: str = ""
 
     @property
@@ -102,7 +102,7 @@ class Job:
 
 
 def modules_of(folder: Folder) -> Iterator[Job]:
-    """The jobs of a folder: one for each module, or each part of it."""
+    """Yields the jobs of a folder: one for each module, or each part of it."""
     at = TOP if folder.is_package else TOP / folder.path
     for file in sorted((TOP / folder.path).glob("test_*.py")):
         word = file.stem.partition("_")[2]
@@ -130,14 +130,14 @@ def programs() -> Iterator[Job]:
 
 
 def seconds() -> dict[str, float]:
-    """The seconds of each job when the file was written, by its name."""
+    """Returns the seconds of each job when the file was written, by its name."""
     known: dict[str, float] = json.loads(SECONDS.read_text()) if SECONDS.exists() else {}
     return known
 
 
 def jobs(words: Collection[str] = (), is_long: bool = False) -> list[Job]:
-    """The jobs with one of these words in their names, either those of every run or the long ones;
-    the longest jobs, and those of unknown length, come first."""
+    """Returns the jobs with one of these words in their names, either those of every run or the
+    long ones. The longest jobs, and those of unknown length, come first."""
     every = [*programs(), *(job for folder in FOLDERS for job in modules_of(folder))]
     found = [it for it in every if any(word in it.name for word in words or ("",))]
     known = seconds()

@@ -93,7 +93,7 @@ class Tokens:
         self.found, self.texts, self.pair, self.within, opened = [], [], {}, [], []
         for token in re.finditer(form, self.source, re.S | re.M):
             at, text = len(self.found), token.group()
-            # only outside of brackets the end of a line means something
+            # the end of a line has a meaning only outside of brackets
             if token.lastgroup == "gap" or text[0] == "\n" and opened:
                 continue
             if text in OPENING and opened:
@@ -115,7 +115,7 @@ class Tokens:
         return self.source[self.found[first].start() : self.found[last].end()]
 
     def edge(self, at, step, ends):
-        """The last token, in one direction, of the operand beside the token at a place."""
+        """Finds the last token, in one direction, of the operand beside the token at a place."""
         while 0 <= at + step < len(self.texts):
             text, jumps = self.texts[at + step], OPENING if step < 0 else OPENING.values()
             if text in ends or text not in jumps and self.within[at + step] != self.within[at]:
@@ -124,7 +124,7 @@ class Tokens:
         return at
 
     def parts(self, opening):
-        """The first and last token of each part between commas inside a bracket."""
+        """Yields the first and last token of each part between commas inside a bracket."""
         closing = self.pair.get(opening, opening)
         commas = [
             it
@@ -204,7 +204,7 @@ class Tokens:
         if text == "[" and is_name and ":" in self.texts[at : self.pair.get(at, at)]:
             yield self.mutant("operand dropped", at, self.pair[at], "")
         if text == "(" and is_name and self.texts[at - 2] not in ("fn", "def", "class"):
-            # outside of all brackets C and Rust have parameters
+            # outside of all brackets, C and Rust have parameters
             yield from self.of_call(
                 self.parts(at) if self.language is PYTHON or self.within[at] >= 0 else []
             )
@@ -235,7 +235,7 @@ class Tokens:
                 yield self.mutant("operands swapped", first, last, f"{right} {text} {left}")
 
     def of_call(self, arguments):
-        # the order of arguments with names says nothing
+        # the order of named arguments has no effect
         plain = [it for it in arguments if "=" not in self.texts[it[0] : it[1]]]
         for (first, end), (second, last) in zip(plain, plain[1:]):
             yield self.mutant(
@@ -251,7 +251,7 @@ class Tokens:
 
 
 def mutants_of(path):
-    """The mutants of a file, each only once, and none equal to the file."""
+    """Returns the mutants of a file, each only once, and none equal to the file."""
     source = path.read_bytes()
     places = {
         (it.start, it.end, it.new): it for it in Tokens(source, LANGUAGES[path.suffix]).mutants()

@@ -12,10 +12,10 @@ the contents of its `out` folders:
         /usr/bin/python3 -m unittest discover -s python/tests/hashers -k library
     python3 tools/mutate.py c/src/base64.c --sample 40 --tests make -s -C c test
 
-Without --sample it tries all changes. First the tests must pass in each copy, with nothing changed;
-the time limit of a mutant is five times their time, unless --limit sets another. A mutant survives
-if its run ends in time with status 0. A mutant that Python can't compile, or that --build refuses
-(for C `make` and for Rust `cargo test --no-run` in the nearest folder with a Makefile or
+Without --sample the script tries all changes. First the tests must pass in each copy, with nothing
+changed; the time limit of a mutant is five times their time, unless --limit sets another. A mutant
+survives if its run ends in time with status 0. A mutant that Python can't compile, or that --build
+refuses (for C `make` and for Rust `cargo test --no-run` in the nearest folder with a Makefile or
 Cargo.toml), doesn't count as refused. The status is 1 if the tests fail with nothing changed, and
 otherwise 0. Make sure that COMMAND runs any tests: unittest of Python 3.11 exits with status 0 if
 -k matches none, and then all mutants survive.
@@ -59,7 +59,7 @@ class Copy:
             for it in top.glob(at)
             if it.parent.parent.name != "crates"
         ]
-        # of a crate only the program: what was proved is large
+        # of a crate only the program, since the proofs are large
         files += [
             it.relative_to(top)
             for at in top.glob("crates/*")
@@ -69,8 +69,8 @@ class Copy:
         output(top, "cp", "-a", "--parents", "-t", room, *files)
 
     def passes(self, command, limit):
-        """Whether a command ends in time with status 0; afterwards nothing of its process group
-        remains."""
+        """Runs a command, ends its process group, and returns whether it ended in time with status
+        0."""
         env = {**os.environ, "PYTHONDONTWRITEBYTECODE": "1"}
         quiet = {
             "stdin": subprocess.DEVNULL,
@@ -89,7 +89,7 @@ class Copy:
                     os.killpg(running.pid, signal.SIGKILL)
 
     def verdict(self, data, asked, limit):
-        """The outcome of the file with this text."""
+        """Returns the outcome of the file with this text."""
         self.file.unlink()
         self.file.write_bytes(data)
         shutil.rmtree(self.file.parent / "__pycache__", ignore_errors=True)
@@ -99,7 +99,7 @@ class Copy:
 
 
 def builder(top, file):
-    """The command that compiles a file."""
+    """Returns the command that compiles a file."""
     if file.suffix == ".py":
         return [
             sys.executable,
@@ -122,7 +122,7 @@ def builder(top, file):
 
 
 def verdicts(top, file, mutants, asked):
-    """Each mutant with its outcome, in the order of their places."""
+    """Yields each mutant with its outcome, in the order of their places."""
     with tempfile.TemporaryDirectory(
         prefix="mutate-"
     ) as room, concurrent.futures.ThreadPoolExecutor(asked.jobs) as pool:

@@ -36,8 +36,8 @@ PAGES = [
 ]
 README, BUILDING = TOP / "README.md", TOP / "docs/BUILDING.md"
 
-# The folders of proofs by hand: each makes values of one struct with ghost data, and its page says
-# what is trusted of that.
+# The folders of proofs by hand: each creates values of one struct with ghost data, and its page
+# names the trusted part.
 WALKS = {"cred_cli/proofs/past"}
 MOST = {
     "words in README.md": 650,
@@ -49,16 +49,16 @@ FOLDERS = (
     "crates|c|python|rust|tests|docs|tools|bench|examples|man|bin|units|packaging|completions"
     "|proofs|specs|src"
 )
-# Names on pages that exist only where they are installed.
+# Names on pages that exist only after an installation.
 INSTALLED = {"bin/credkeep"}
-# A variable by which a test speaks to its own programs.
+# A variable with which a test controls its own programs.
 SET_BY_TESTS = {"FRAMEWORKS_ROOM"}
-# The variables that a user or a tester may set, where code reads them.
+# Code that reads a variable that a user or a tester may set.
 VARIABLE = re.compile(
     r"(?:environ(?:\.get\(|\[)|getenv\()"
     r'"((?:RIGZUMAL|TORTURE|FRAMEWORKS|SERVER|TEST|CREDKEEP|CREDBOOK)\w*)"'
 )
-# The files that say the version, and how.
+# The files that have the version, and its form in each.
 VERSIONED = {
     "c/include/rigzumal.h": r'RIGZUMAL_LIBRARY_VERSION "(.*)"',
     "man/rigzumal.3": r'^\.TH .* "rigzumal (\S+)"',
@@ -68,7 +68,8 @@ VERSIONED = {
     "crates/cred_cli/src/arguments.rt": r'\.version\("(.*)"\)',
     "crates/credkeep_words/src/arguments.rt": r'\.version\("(.*)"\)',
 }
-# The rows of BUILDING's table of times that README has, of its two commands: "7 and 34 minutes".
+# The rows of BUILDING's table of times that README repeats for its two commands: "7 and 34
+# minutes".
 TIMES = ("README's first command from nothing", "`.ci/run` from nothing")
 
 # The faults of the tree; None stands for a claim that is right.
@@ -76,7 +77,7 @@ Facts = Iterable["str | None"]
 
 
 def git(*words: str) -> str:
-    """The output of git; status 1 means that git found nothing."""
+    """Returns the output of git; status 1 means that git found nothing."""
     done = subprocess.run(["git", *words], cwd=TOP, capture_output=True, text=True)
     if done.returncode > 1:
         raise SystemExit(f"git {words[0]}: {done.stderr.strip()}")
@@ -88,7 +89,7 @@ def name_of(page: pathlib.Path) -> str:
 
 
 def versions() -> Facts:
-    """The fault of each file that contains the version."""
+    """Yields the fault of each file that contains the version."""
     there = (TOP / "VERSION").read_text().strip()
     for file, form in VERSIONED.items():
         said = re.search(form, (TOP / file).read_text(), re.M)
@@ -97,15 +98,14 @@ def versions() -> Facts:
 
 
 def found_in_english() -> int:
-    """The number of lines of the pages and manuals, outside of code, that tools/english.txt
-    finds."""
+    """Counts the lines of the pages and manuals, outside of code, that tools/english.txt finds."""
     forms = re.compile("|".join(source(TOP / "tools/english.txt").splitlines()))
     pages = [source(TOP / it) for it in git("ls-files", "*.md", "man").splitlines()]
     return sum(bool(forms.search(it)) for page in pages for it in without_code(page).splitlines())
 
 
 def house() -> Facts:
-    """The bounded counts: README's words and bytes, long lines of code, and lines that
+    """Checks the bounded counts: README's words and bytes, long lines of code, and lines that
     tools/english.txt finds."""
     readme, lines = README.read_text(), 0
     for file in [*CRATES.glob("*/src/**/*.rt"), *CRATES.glob("*/specs/**/*.antt")]:
@@ -122,8 +122,8 @@ def house() -> Facts:
 
 
 def figures() -> Facts:
-    """The counts in README: the crates that the gate proves, the wrong bodies that it tries, and
-    its tests. No time may be left open."""
+    """Checks the counts in README: the crates that the gate proves, the wrong bodies that it tries,
+    and its tests. No time may be left open."""
     code = [source(it) for it in CRATES.glob("*/src/**/*.rt")]
     there = {
         "crates": len(listed()),
@@ -149,7 +149,7 @@ def in_minutes(elapsed: str) -> str:
 
 
 def times() -> Facts:
-    """README's times, compared with BUILDING's table, and the number of processors."""
+    """Compares README's times, and the number of processors, with BUILDING's table."""
     readme, building = (" ".join(it.read_text().split()) for it in (README, BUILDING))
     rows = [re.search(rf"\| {re.escape(it)}[^|]*\| ([^|]*) \|", building) for it in TIMES]
     processors = re.search(r"The times below are from [^.]*?(\w+ processors)", building)
@@ -164,7 +164,7 @@ def times() -> Facts:
 
 
 def logic() -> Facts:
-    """The logic of the toolchain on this machine, and each page that doesn't name it."""
+    """Yields a fault for each page that doesn't name the logic of the toolchain on this machine."""
     [here] = re.findall(r"\blogic (\w+)", tree.told_by_rt("version"))
     for page in (README, BUILDING):
         named = f"{name_of(page)} doesn't name the toolchain's logic: {here}"
@@ -180,8 +180,8 @@ def stands(place: str) -> bool:
 
 
 def planted() -> Facts:
-    """The wrong bodies in docs/PLANTED.md: the third column of its tables names the place of each
-    in the gate, or the tests that refuse it."""
+    """Checks the wrong bodies in docs/PLANTED.md: the third column of its tables names the place of
+    each in the gate, or the tests that refuse it."""
     page = (TOP / "docs/PLANTED.md").read_text()
     rows = re.findall(r"^\| .*", re.sub(r"^\| .*\n\|-.*\n", "", page, flags=re.M), re.M)
     yield None if rows else "docs/PLANTED.md has no table of named wrong bodies"
@@ -198,13 +198,13 @@ def without_code(text: str) -> str:
 
 
 def anchors(page: pathlib.Path) -> set[str]:
-    """The anchors of a page's headings, as forges generate them."""
+    """Returns the anchors of a page's headings, as forges generate them."""
     heads = re.findall(r"^#+ (.*)$", without_code(source(page)), re.M)
     return {re.sub(r"[^\w -]", "", it.lower()).replace(" ", "-") for it in heads}
 
 
 def links(page: pathlib.Path) -> Facts:
-    """Each link and picture of a page."""
+    """Checks each link and picture of a page."""
     text = without_code(page.read_text())
     for picture, words, target in re.findall(r"(!?)\[([^\]]*)\]\(([^)\s]+)\)", text):
         file, _, place = target.partition("#")
@@ -220,8 +220,8 @@ def links(page: pathlib.Path) -> Facts:
 
 
 def places(page: pathlib.Path) -> Facts:
-    """Each file or folder of the tree that a page names in code, relative to the top, to the page
-    or to a crate."""
+    """Checks each file or folder of the tree that a page names in code, relative to the top, to the
+    page or to a crate."""
     text = re.sub(r"```.*?```|\[[^\]]*\]\([^)]*\)", "", source(page), flags=re.S)
     for place in re.findall(rf"(?<![\w/.~-])((?:{FOLDERS})/[\w./-]*\w)", text):
         if place not in INSTALLED and not re.search(r"/out\b|[A-Z]{4}", place):
@@ -231,7 +231,7 @@ def places(page: pathlib.Path) -> Facts:
 
 
 def variables() -> Facts:
-    """Each variable that a user or tester may set, on a page or in a manual."""
+    """Checks that a page or a manual names each variable that a user or tester may set."""
     pages = [*PAGES, *TOP.glob("*/README.md"), *TOP.glob("man/*")]
     said = "\n".join(source(it) for it in pages)
     files = git("ls-files", "*.py", "*.c", "*.rs").split()
@@ -242,13 +242,13 @@ def variables() -> Facts:
 
 
 def plain(code: str) -> str:
-    """Code without its indentation."""
+    """Returns code without its indentation."""
     return re.sub(r"[ \t]+", " ", re.sub(r"^[ \t]+", "", code, flags=re.M)).strip("\n")
 
 
 def callers(page: pathlib.Path) -> Facts:
-    """Code after a line `<!-- from FILE -->`: the file contains it word for word, except for the
-    part that a line of two dots omits."""
+    """Checks code after a line `<!-- from FILE -->`: the file must contain the code word for word,
+    except for the part that a line of two dots omits."""
     form = r"^<!-- from (\S+) -->\n```\w+\n(.*?)^```$"
     for name, code in re.findall(form, page.read_text(), re.S | re.M):
         parts = re.split(r"^\s*(?://\s*)?\.\.\s*$", code, flags=re.M)
@@ -259,7 +259,7 @@ def callers(page: pathlib.Path) -> Facts:
 
 
 def rooms() -> Facts:
-    """Each crate must have a page, and a place in the picture."""
+    """Checks that each crate has a page, and a place in the picture."""
     picture = (TOP / "docs/pictures/crates.svg").read_text()
     for name in sorted(listed()):
         is_there = (CRATES / name / "README.md").is_file()
@@ -270,8 +270,8 @@ def rooms() -> Facts:
 
 
 def order() -> Facts:
-    """The table in docs/ARCHITECTURE.md: each crate has a row, below the rows of all crates that it
-    uses."""
+    """Checks the table in docs/ARCHITECTURE.md: each crate has a row, below the rows of all crates
+    that it uses."""
     page = source(TOP / "docs/ARCHITECTURE.md")
     rows = [re.findall(r"\(\.\./crates/(\w+)\)", it) for it in re.findall(r"^\| \[.*", page, re.M)]
     at = {name: number for number, row in enumerate(rows) for name in row}
@@ -282,7 +282,7 @@ def order() -> Facts:
 
 
 def definitions() -> Facts:
-    """Each file of definitions must be in its crate's section of docs/DEFINITIONS.md."""
+    """Checks that each file of definitions is in its crate's section of docs/DEFINITIONS.md."""
     page = source(TOP / "docs/DEFINITIONS.md")
     sections = dict(re.findall(r"^## (\w+)\n(.*?)(?=^## |\Z)", page, re.S | re.M))
     for file in sorted(CRATES.glob("*/specs/**/*.antt")):
@@ -293,8 +293,8 @@ def definitions() -> Facts:
 
 
 def walks() -> Facts:
-    """The proofs by hand, which may give a ghost field any value: each must be in a folder that is
-    named here."""
+    """Checks the proofs by hand, which may give a ghost field any value: each must be in a folder
+    that this file names."""
     for proof in CRATES.glob("*/proofs/**/Proof.antt"):
         place = proof.relative_to(CRATES).as_posix()
         is_known = any(place.startswith(f"{it}/") for it in WALKS)
@@ -318,7 +318,7 @@ OF_TREE = (
     promises.check,
     statements.check,
 )
-# What only the toolchain tells.
+# The checks that need the toolchain.
 OF_TOOLCHAIN = {
     logic: "the logic that README and BUILDING name",
     promises.check_trusted: "the crates of the toolchain that PROMISES has as trusted",

@@ -8,8 +8,8 @@ The script runs tests with external vectors in the program that `rt test` or `rt
 allocator adds up the memory that is requested and not yet freed. The maximum must be at most
 SOME_KIB more than the memory that the parameters of the largest hash require. In tests of hashes
 that reuse kept memory, all requests together must be at most the memory of one hash and SOME_KIB.
-The script prints a line for each test; the last line is `N passed, M failed`. It needs only the
-toolchain, whose compiler builds the shim.
+The script prints a line for each test; the last line is `N passed, M failed`. The script needs only
+the toolchain, whose compiler builds the shim.
 """
 
 import sys
@@ -20,8 +20,8 @@ from tree import report
 
 # scrypt's memory of N = 2^14 and r = 8 in KiB.
 TABLE = 128 * 8 * 2**14 // 1024
-# The end of the test's name, the word that the shim says, and the memory of the largest hash in
-# KiB. The last two make several hashes of one memory, in memory that is kept.
+# The end of the test's name, the shim's word, and the memory of the largest hash in KiB. The last
+# two tests compute several hashes of one memory, in kept memory.
 TESTS = [
     ("::large_vectors", "PEAK", 65536),
     ("::scrypt_vectors", "PEAK", TABLE),
@@ -35,7 +35,7 @@ SOME_KIB = 64
 
 
 def looked_at(ending, word, kib):
-    """Measures a test; returns a line for it if it uses too much or too little memory."""
+    """Measures a test. Returns a line for a test that uses too much or too little memory."""
     [test] = tests_of("hash_tests", ending)
     done, counted = counts(test)
     found = counted.get(word, 0)

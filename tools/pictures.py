@@ -23,7 +23,7 @@ PROVED, TESTED, TRUSTED = "#e2f2e4", "#fdf1d0", "#e9e9ee"
 GROUND = "#ffffff"
 # Of bars: ours, and two others.
 BARS = ("#1a4f8b", "#b35900", "#6b7685")
-# What each colour is where the reader's system is dark.
+# The dark variant of each colour, for readers whose system is dark.
 DARK = {
     INK: "#e4e8ee",
     GROUND: "#14181d",
@@ -42,7 +42,7 @@ LOOKS = (
 
 
 def lines_of(name):
-    """The lines of a text that have content."""
+    """Returns the lines of a text that have content."""
     return [
         it
         for it in (PICTURES / name).read_text().splitlines()
@@ -51,7 +51,7 @@ def lines_of(name):
 
 
 def element(name, **attributes):
-    """An SVG element without content; `_` in a name stands for `-`."""
+    """Returns an SVG element without content; `_` in a name stands for `-`."""
     words = (f'{key.replace("_", "-")}="{value}"' for key, value in attributes.items())
     return f"<{name} {' '.join(words)}/>"
 
@@ -89,8 +89,8 @@ def svg(width, height, title, parts):
 
 
 def sequence(name):
-    """A sequence: a line with the participants, `A | B`, followed by `A > B: WORDS` for a step and
-    `* WORDS` for an action of all participants."""
+    """Draws a sequence: a line with the participants, `A | B`, followed by `A > B: WORDS` for a
+    step and `* WORDS` for an action of all participants."""
     title, who, *steps = lines_of(name)
     who = [it.strip() for it in who.split("|")]
     place = {it: 130 + 260 * i for i, it in enumerate(who)}
@@ -120,8 +120,8 @@ def sequence(name):
 
 
 def steps(name):
-    """Steps in their order, `WORDS | WHAT A CRASH LEAVES`: steps that leave the same result share a
-    band."""
+    """Draws steps in their order, `WORDS | WHAT A CRASH LEAVES`: steps that leave the same result
+    share a band."""
     title, heads, *rows = [[it.strip() for it in line.split("|")] for line in lines_of(name)]
     width, row = 900, 36
     parts = [text(56, 30, heads[0], weight="bold"), text(600, 30, heads[1], weight="bold")]
@@ -146,14 +146,15 @@ def steps(name):
 
 
 def setting(text):
-    """Costs in the form that readers know: `65536, 3, 1` is `64 MiB, t = 3, p = 1`."""
+    """Returns costs in the form that readers know: `65536, 3, 1` is `64 MiB, t = 3, p = 1`."""
     memory, passes, lanes = map(int, text.split(","))
     size = f"{memory / 1024:.3g} MiB" if memory >= 1024 else f"{memory} KiB"
     return f"{size}, t = {passes}, p = {lanes}"
 
 
 def bars():
-    """A group of bars for each row of the first table of bench/RESULTS.md, in milliseconds."""
+    """Draws a group of bars for each row of the first table of bench/RESULTS.md, in
+    milliseconds."""
     table = re.search(r"^\|.*\n\|-.*\n((?:\|.*\n)+)", RESULTS.read_text(), re.M)
     rows = [[it.strip() for it in row.strip("|").split("|")] for row in table[1].splitlines()]
     names = [it.partition(",")[0].strip() for it in table[0].split("|")[2:5]]
@@ -177,7 +178,7 @@ def bars():
 
 
 def crates():
-    """Each crate in crates.txt except tests and examples, with the crates that it uses directly."""
+    """Returns each crate except tests and examples, with the crates that it uses directly."""
     shown = sorted(it for it in listed() if not is_test_or_example(it))
     return {
         it: sorted(
@@ -188,20 +189,20 @@ def crates():
 
 
 def cluster(name, label, colour, style, more=""):
-    """The head of a group of boxes, for dot."""
+    """Returns the head of a group of boxes, for dot."""
     words = f'label="{label}"; labeljust=l; style="{style}";{more} fillcolor="{colour}";'
     return f"subgraph cluster_{name} {{ {words}"
 
 
 def node(line):
-    """A box for something that isn't a crate, for dot."""
+    """Returns a box for something that isn't a crate, for dot."""
     _, name, words, _ = line
     return f'"{name.strip()}" [label="{name.strip()}\\n{words.strip()}"];'
 
 
 def crate_layers():
-    """The crates above one another, between the tested parts above and the trusted parts below, as
-    dot draws them."""
+    """Draws, with dot, the crates above one another, between the tested parts above and the trusted
+    parts below."""
     title, *around = lines_of("around-the-crates.txt")
     graph = crates()
     tested = [it.split("|") for it in around if it.startswith("tested")]
@@ -241,12 +242,12 @@ DRAWN = {
 
 
 def drawn(name):
-    """The text of a picture as a single line, without comments for readers."""
+    """Returns the text of a picture as a single line, without comments for readers."""
     return " ".join(DRAWN[name]().split("\n")).strip() + "\n"
 
 
 def check():
-    """The fault of each picture that Python alone draws."""
+    """Yields the fault of each picture that Python draws without dot."""
     for name in DRAWN.keys() - {"crates.svg"}:
         is_new = (PICTURES / name).read_text() == drawn(name)
         old = f"docs/pictures/{name} differs from its text: run tools/pictures.py {name}"

@@ -6,10 +6,10 @@
 A maintainer runs this script before a release, once the gate has built everything. The script makes
 each change of the table below in a copy of the tree with its built files, where tools/run_tests.py
 runs the jobs that the plant names, up to the first failure. A test that fails without a plant
-refuses nothing, so all jobs first run once without one. If no other test fails, or the file lacks
-the text to replace, the plant is NOT REFUSED. With words, the script tries only plants whose file
-names contain one of them. Each line ends with the seconds of the plant's jobs. The last line is
-`N refused, M not`, and the status is 1 if a plant wasn't refused.
+refuses nothing, so the script first runs all jobs once without one. If no other test fails, or the
+file lacks the text to replace, the plant is NOT REFUSED. With words, the script tries only plants
+whose file names contain one of them. Each line ends with the seconds of the plant's jobs. The last
+line is `N refused, M not`, and the status is 1 if a plant wasn't refused.
 """
 
 from __future__ import annotations
@@ -164,7 +164,7 @@ PLANTS = (
 
 
 def copied(room: pathlib.Path) -> pathlib.Path:
-    """A copy of the files of the tree and of the build results, as a repository."""
+    """Copies the files of the tree and the build results into a new repository."""
     listed = ["git", "ls-files", "--cached", "--others", "--exclude-standard"]
     names = subprocess.run(listed, cwd=TOP, capture_output=True, text=True, check=True).stdout
     built = [it for form in BUILT for it in TOP.glob(form) if it.is_file()]
@@ -172,14 +172,15 @@ def copied(room: pathlib.Path) -> pathlib.Path:
         to = room / path.relative_to(TOP)
         to.parent.mkdir(parents=True, exist_ok=True)
         shutil.copy2(path, to)
-    # tests ask git which files the tree has
+    # tests ask git for the files of the tree
     for words in (["init", "--quiet"], ["add", "--all"]):
         subprocess.run(["git", *words], cwd=room, check=True)
     return room
 
 
 def failures(top: pathlib.Path, words: Iterable[str], *options: str) -> list[str]:
-    """The failing tests in the jobs of these words, or a text that says that none could run."""
+    """Returns the failing tests in the jobs of these words, or a text that says that none could
+    run."""
     done = subprocess.run(
         [sys.executable, str(top / "tools/run_tests.py"), *options, *words],
         cwd=top,
@@ -193,7 +194,7 @@ def failures(top: pathlib.Path, words: Iterable[str], *options: str) -> list[str
 
 
 def refusal(top: pathlib.Path, plant: Plant, failing: Collection[str]) -> str:
-    """The test that refuses a plant, among those that pass without a plant; or nothing."""
+    """Returns the test that refuses a plant, among those that pass without a plant, or nothing."""
     path = top / plant.file
     text = path.read_text()
     if plant.old not in text:

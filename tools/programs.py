@@ -16,7 +16,7 @@ import subprocess
 from tree import CRATES, TOP, all_below, source
 
 PROGRAMS = ("credbook", "credkeep")
-# What a tarball has; ARM64 if it was built.
+# The levels of a tarball; ARM64 only if it was built.
 LEVELS = ("x86-64", "x86-64-v3")
 ARM64 = "arm64"
 PACKED = TOP / "c/proved/programs"
@@ -26,7 +26,7 @@ FLAGS += " -Wl,-z,relro,-z,now -Wl,-z,noexecstack"
 
 
 def sources(program):
-    """All files of a program's crate and of the crates below it that rt reads, except for
+    """Returns all files of a program's crate and of the crates below it that rt reads, except for
     crates.txt."""
     crates = [CRATES / it for it in [*all_below(program), program]]
     folders = [crate / part for crate in crates for part in ("src", "specs", "proofs")]
@@ -34,8 +34,8 @@ def sources(program):
 
 
 def sums(program):
-    """The crates' lines of crates.txt as comments, and the checksum of each source, for sha256sum
-    -c."""
+    """Returns the crates' lines of crates.txt as comments, and the checksum of each source, for
+    sha256sum -c."""
     names = "|".join([*all_below(program), program])
     lines = re.findall(rf"^(?:{names})[ :].*\n", source(TOP / "crates.txt"), re.M)
     summed = [(hashlib.sha256(it.read_bytes()).hexdigest(), it) for it in sources(program)]
@@ -44,7 +44,7 @@ def sums(program):
 
 
 def kept(program):
-    """The folder with the objects built on this machine."""
+    """Returns the folder with the objects built on this machine."""
     return CRATES / program / "out/objects"
 
 
@@ -57,7 +57,7 @@ def keep(program, level, compiled):
 
 
 def other_source(program, level, folder):
-    """A source that has changed since the object was compiled, or nothing."""
+    """Returns a source that has changed since the object was compiled, or nothing."""
     was, now = (folder / level / f"{program}.sum").read_text(), sums(program)
     changed = sorted({*was.splitlines()} ^ {*now.splitlines()})
     if not changed:

@@ -23,8 +23,8 @@ FILES = re.compile(
 
 
 def contract_of(text):
-    """The front of a function, up to its body: the only brace that neither `ensures` nor `requires`
-    opens."""
+    """Returns the front of a function, up to its body: the only brace that neither `ensures` nor
+    `requires` opens."""
     depth = 0
     for place, letter in enumerate(text):
         if depth == 0 and (
@@ -38,14 +38,14 @@ def contract_of(text):
 
 
 def file_of(path):
-    """The file with the function that a path names."""
+    """Returns the file with the function that a path names."""
     crate, *modules, _ = path.split("::")
     modules = [it for it in modules if it.islower()]
     return CRATES / crate / "src" / f"{'/'.join(modules) or 'lib'}.rt"
 
 
 def owner(text, place):
-    """The head of the impl or the trait around this place, or nothing."""
+    """Returns the head of the impl or the trait around this place, or nothing."""
     heads = re.finditer(r"^(?:pub(?:\(\w+\))? )?(?:impl|trait)\b[^\n]*", text[:place], re.M)
     *_, last = (None, *heads)
     is_open = last and not re.search(r"^}", text[last.end() : place], re.M)
@@ -53,8 +53,8 @@ def owner(text, place):
 
 
 def functions(path):
-    """The places in its file where a function with this path begins: within the type that it names,
-    or outside any type."""
+    """Finds the places in its file where a function with this path begins: within the type that the
+    path names, or outside any type."""
     *modules, name = path.split("::")
     text, types = source(file_of(path)), [it for it in modules if not it.islower()]
     head = rf"\b{types[-1]}\b" if types else r"\A\Z"
@@ -63,12 +63,12 @@ def functions(path):
 
 
 def contracts(path):
-    """The contracts of the functions that a path names."""
+    """Returns the contracts of the functions that a path names."""
     return [contract_of(source(file_of(path))[it:]) for it in functions(path)]
 
 
 def fields(name):
-    """The field names of each record with this name."""
+    """Returns the field names of each record with this name."""
     texts = (source(it) for it in CRATES.glob("*/specs/**/*.antt"))
     records = re.compile(rf"^pub record {name}\b.*?(?=^\S|\Z)", re.S | re.M)
     found = [it for text in texts for it in records.findall(text)]
@@ -83,7 +83,8 @@ def has_clause(contract, name):
 
 
 def calls(text):
-    """The faults of the calls that a text names, and of the clauses in brackets after each call."""
+    """Yields the faults of the calls that a text names, and of the clauses in brackets after each
+    call."""
     for path, clauses in re.findall(r"`(\w+(?:::\w+)+)`(?:\s*\(((?:`\w+`(?:,\s*)?)+)\))?", text):
         crate, *middle = path.split("::")
         if crate not in listed():
@@ -99,8 +100,8 @@ def calls(text):
 
 
 def words(text):
-    """The faults of the bare names that carry a promise: each name belongs to the crate named
-    before it."""
+    """Yields the faults of the bare names that carry a promise: each name belongs to the crate
+    named before it."""
     for item in re.findall(r"^- \*Carried by\*.*?(?=^- |^#|^$|\Z)", text, re.S | re.M):
         crate = None
         for named, word in re.findall(
@@ -119,8 +120,8 @@ def words(text):
 
 
 def files(text):
-    """The faults of the files that a text names, and of the definitions that the text attributes to
-    them."""
+    """Yields the faults of the files that a text names, and of the definitions that the text
+    attributes to them."""
     for name in FILES.findall(text):
         yield None if (TOP / name).is_file() else f"the file {name} isn't there"
     for name, words in re.findall(
@@ -131,7 +132,7 @@ def files(text):
 
 
 def cells(text):
-    """Each cell that is too long."""
+    """Yields each cell that is too long."""
     for row in (it for it in text.splitlines() if it.startswith("|")):
         yield from (
             f"a cell of over 120 characters: {it.strip()[:60]}.."
@@ -141,7 +142,7 @@ def cells(text):
 
 
 def reached(libraries):
-    """The toolchain's crates that our crates use: those in crates.txt, and all crates below
+    """Returns the toolchain's crates that our crates use: those in crates.txt, and all crates below
     them."""
     found, more = set(), {
         "std",
@@ -162,8 +163,8 @@ def reached(libraries):
 
 
 def trusted(text, crates):
-    """The faults of the list of trusted code: a line that begins with the names of crates, or with
-    `NAME_*` for several, trusts these."""
+    """Yields the faults of the list of trusted code: a line that begins with the names of crates,
+    or with `NAME_*` for several, trusts these."""
     heads = re.findall(
         r"^- ((?:`[^`]+`(?:, )?)+):", text.partition("\n## What is trusted\n")[2], re.M
     )
@@ -183,7 +184,7 @@ def trusted(text, crates):
 
 
 def check():
-    """The faults of the names on the page."""
+    """Returns the faults of the names on the page."""
     text = PAGE.read_text()
     return [
         it and f"docs/PROMISES.md: {it}"
@@ -192,7 +193,7 @@ def check():
 
 
 def check_trusted():
-    """The faults of the list of trusted code, compared with the toolchain."""
+    """Returns the faults of the list of trusted code, compared with the toolchain."""
     return [
         it and f"docs/PROMISES.md: {it}"
         for it in trusted(PAGE.read_text(), reached(kit() / "rlibs"))

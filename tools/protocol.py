@@ -19,13 +19,13 @@ from tree import TOP
 sys.path.insert(0, str(TOP / "python/rigzumal/server"))
 from daemon.protocol import ANSWERS, OPERATIONS, TO_NEW_PASSWORDS  # noqa: E402
 
-# Answers that mean something else to each operation of the PAM module, or let nobody in.
+# Answers that have another meaning for each operation of the PAM module, or let nobody in.
 OF_AN_OPERATION = ("absent", "expired")
 ELSE = ("SUCCESS", "AUTHINFO_UNAVAIL")
-COLUMNS = 140  # of a page's line
+COLUMNS = 140  # columns of a page's line
 
-HEADER = """/* What answers to a password mean for PAM, but for those that differ by operation. Any
- * other one is PAM_AUTHINFO_UNAVAIL. tools/protocol.py writes this file. */
+HEADER = """/* The meanings for PAM of answers to a password, except those that differ by operation.
+ * Any other answer is PAM_AUTHINFO_UNAVAIL. tools/protocol.py writes this file. */
 #ifndef RIGZUMAL_PAM_ANSWERS_H
 #define RIGZUMAL_PAM_ANSWERS_H
 
@@ -35,7 +35,7 @@ HEADER = """/* What answers to a password mean for PAM, but for those that diffe
 struct answer {
     const char *word;
     int result;
-    const char *text; /* what the user is told, or NULL */
+    const char *text; /* the text for the user, or NULL */
 };
 
 static const struct answer ANSWERS[] = {
@@ -47,7 +47,7 @@ static const struct answer ANSWERS[] = {
 
 
 def header():
-    """The header of the PAM module."""
+    """Returns the header of the PAM module."""
     rows = []
     for word, answer in ANSWERS.items():
         if answer.pam in ELSE or word in OF_AN_OPERATION:
@@ -58,13 +58,13 @@ def header():
 
 
 def replies():
-    """The members of the clients' enumeration."""
+    """Returns the members of the clients' enumeration."""
     rows = [f'    {it.reply} = "{word}"' for word, it in ANSWERS.items() if it.reply]
     return "\n".join(rows)
 
 
 def rows_of_page():
-    """The table in docs/ERRORS.md."""
+    """Returns the table in docs/ERRORS.md."""
     rows = ["| Answer | What it means | HTTP | `credkeep-ask` ends with |", "|---|---|--:|--:|"]
     of_http = set(OPERATIONS[b"verify"].answers.split())
     of_others = {word for it in OPERATIONS.values() for word in it.answers.split()} - of_http
@@ -76,7 +76,7 @@ def rows_of_page():
 
 
 def section():
-    """The section in the manual."""
+    """Returns the section in the manual."""
     lines = []
     for word, answer in ANSWERS.items():
         text = re.sub(r"`([^`]*)`", r"\\fB\1\\fP", answer.meaning).replace("-", "\\-")
@@ -85,7 +85,7 @@ def section():
     return "\n".join(lines)
 
 
-# By file: the line before what is written there, and the line behind it.
+# For each file, the lines before and after the generated part.
 PARTS = {
     "python/rigzumal/server/_client.py": (
         replies,
@@ -106,7 +106,7 @@ PARTS = {
 
 
 def written(text, made, begin, end):
-    """A file's text, with the generated part between two of its lines."""
+    """Returns a file's text, with the generated part between two of its lines."""
     before, found, rest = text.partition(f"{begin}\n")
     _, found_end, after = rest.partition(f"{end}\n")
     if not found or not found_end:
@@ -115,7 +115,7 @@ def written(text, made, begin, end):
 
 
 def texts():
-    """Each file, and the text that it should have."""
+    """Yields each file, and the text that it should have."""
     yield TOP / "c/pam/answers.h", header()
     for name, (make, begin, end) in PARTS.items():
         path = TOP / name

@@ -8,9 +8,9 @@ A session is a block marked `sh`; the block marked `text` just below it is its o
 of a page run in one bash and one folder, in order. Their path has the built programs of
 crates/*/out (`rt run` builds them) and this Python as `python3`, with the Python package. The
 folder contains only links to crates/, c/ and python/. The script lists, but doesn't run, a session
-without a text below it or one that installs something. It lists and skips a session whose program
-is missing. The last line is `N passed, M failed`, and the status is 1 if anything failed or nothing
-passed.
+without a text below it or one that installs something. The script also lists and skips a session
+whose program is missing. The last line is `N passed, M failed`, and the status is 1 if anything
+failed or nothing passed.
 """
 
 import difflib
@@ -28,7 +28,7 @@ BLOCK = re.compile(r"^```(\w+)\n(.*?)^```$", re.M | re.S)
 MARK = "-- the end of session"
 INSTALLS = re.compile(r"\b(sudo|apt|apt-get|make .*install)\b")
 
-# What a session needs if it has this word: a program in the path, or a file of the repository.
+# The need of a session with this word: a program in the path, or a file of the repository.
 PROGRAMS = ["credbook", "credkeep", "php", "doveadm", "htpasswd", "django-admin"]
 LIBRARIES = {"rigzumal": "c/out/librigzumal.so", "LD_LIBRARY_PATH=c/out": "c/out/libargon2.so.1"}
 
@@ -43,7 +43,7 @@ def pages():
 
 
 def sessions_of(page):
-    """Each session with its line number and the expected output, or none."""
+    """Yields each session with its line number and the expected output, or none."""
     blocks = [*BLOCK.finditer(page), None]
     for block, below in zip(blocks, blocks[1:]):
         if block[1] == "sh":
@@ -56,8 +56,8 @@ def sessions_of(page):
 
 
 def missing(script, path):
-    """The reason to skip a session: it installs something, or needs a program that this machine
-    lacks."""
+    """Returns the reason to skip a session: it installs something, or needs a program that this
+    machine lacks."""
     if INSTALLS.search(script):
         return "it installs something"
     for name in PROGRAMS:
@@ -77,7 +77,7 @@ def missing(script, path):
 
 
 def printed(scripts, path, folder):
-    """The output of each of these scripts, in one bash and one folder."""
+    """Returns the output of each of these scripts, in one bash and one folder."""
     for name in ("crates", "c", "python"):
         (folder / name).symlink_to(TOP / name)
     whole = "".join(f"{script}\nprintf '%s\\n' '{MARK}'\n" for script in scripts)
@@ -89,7 +89,8 @@ def printed(scripts, path, folder):
 
 
 def run(name):
-    """The numbers of a page's sessions that print the expected output, and of those that don't."""
+    """Runs a page's sessions, and counts those that print the expected output and those that
+    don't."""
     with tempfile.TemporaryDirectory(prefix="readme-") as own, tempfile.TemporaryDirectory(
         prefix="readme-"
     ) as folder:

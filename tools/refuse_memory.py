@@ -8,9 +8,9 @@ The script runs the tests with the word in their names, `::refused` by default, 
 `rt test` or `rt ci` built last (crates/CRATE/out/CRATE_tests); without a crate, in those of all
 test crates. Each test runs with its Nth memory request refused, for N from 1 to the first N that
 refuses nothing. A line for each test has the number of refused requests, and the numbers at which
-the test failed; the last line is `N passed, M failed`. `rt try --test --fail-alloc N` does the same
-for a single N, and builds each time. The script needs only the toolchain, whose compiler builds the
-shim that refuses memory.
+the test failed; the last line is `N passed, M failed`. `rt try --test --fail-alloc N` refuses
+memory for a single N, and builds each time. The script needs only the toolchain, whose compiler
+builds the shim that refuses memory.
 """
 
 import pathlib
@@ -24,8 +24,8 @@ from tests.helpers import Ended, ended, in_turn, without_request  # noqa: E402
 
 
 def sweep(test):
-    """The number of refused requests, and the numbers at which the test failed; the last run
-    refuses nothing."""
+    """Returns the number of refused requests, and the numbers at which the test failed; the last
+    run refuses nothing."""
 
     def attempt(nth):
         try:
@@ -38,7 +38,7 @@ def sweep(test):
 
 
 def tests_of(crate, word):
-    """The tests of a crate with the word in their names, each as a command."""
+    """Returns the tests of a crate with the word in their names, each as a command."""
     program = CRATES / crate / "out" / f"{crate}_tests"
     if not program.exists():
         sys.exit(f"{program} doesn't exist: run rt test in its crate, or rt ci")

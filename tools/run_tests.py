@@ -40,18 +40,18 @@ from tree import TOP, has_rt, tell_each
 sys.path.insert(0, str(TOP))
 from tests import helpers, needs  # noqa: E402
 
-# A job that hasn't ended after this many seconds is ended.
+# The run ends a job after this many seconds.
 LIMIT = int(os.environ.get("JOB_LIMIT", 10 * helpers.LONGEST))
 EVERY = 30
-# A mark in the environment of each process that a job started, by which the run finds it whatever
-# its parent.
+# A mark in the environment of each process that a job started. The run finds the process by this
+# mark, whatever its parent.
 MARK = "RIGZUMAL_JOB"
 # Of a whole run, and what ends one.
 RUN = f"run-{os.getpid()}"
 SIGNALS = (signal.SIGINT, signal.SIGTERM, signal.SIGHUP)
 INTERRUPTED = threading.Event()
 BUILDS = [["make", "-s", "-C", "c"]]
-if has_rt():  # which compiles the proved code then, and c/proved is compared byte for byte
+if has_rt():  # it then compiles the proved code, and the job compares c/proved byte for byte
     BUILDS.append(["make", "-s", "-C", "c", "check-proved"])
 if pathlib.Path("/usr/include/security/pam_modules.h").exists():
     BUILDS.append(["make", "-s", "-C", "c/pam"])
@@ -71,7 +71,7 @@ def interrupt(number: int, _: Any) -> None:
     os.write(sys.stdout.fileno(), b"tests: interrupted\n")
     os.dup2(os.open(os.devnull, os.O_WRONLY), sys.stdout.fileno())
     end_all(RUN)
-    end_all(RUN)  # what one of them started meanwhile
+    end_all(RUN)  # a process that one of them started meanwhile
     os._exit(128 + number)
 
 
@@ -121,7 +121,7 @@ class Done:
         self.status = process.returncode = os.waitstatus_to_exitcode(status)
 
     def note(self, word: str, name: str, reason: str) -> None:
-        """The outcome of a test after one more line; a failure is never forgotten."""
+        """Notes the outcome of a test after one more line, and never forgets a failure."""
         if word == "all":
             self.is_whole = True
             return
@@ -132,8 +132,8 @@ class Done:
             self.tests[name] = f"{word} {reason}".strip()
 
     def judge(self) -> None:
-        """A test that has begun must end, and a module must report all its tests. A job that isn't
-        a test module is itself one test."""
+        """Judges the outcomes: a test that has begun must end, and a module must report all its
+        tests. A job that isn't a test module is itself one test."""
         for name, word in self.tests.items():
             if word == "begun":
                 self.output += f"{name}: has not ended after {self.seconds:.0f} s\n"
@@ -147,7 +147,7 @@ class Done:
 
 
 def fault_of_build() -> str:
-    """The output of a failed build of the library, or nothing."""
+    """Builds the library, and returns the output of a failed build, or nothing."""
     for command in BUILDS if helpers.IS_NATIVE else []:
         pipes: dict[str, Any] = {"stdout": subprocess.PIPE, "stderr": subprocess.STDOUT}
         try:
@@ -165,9 +165,9 @@ class Progress:
 
     def __init__(self, count: int, is_first: bool = False) -> None:
         self.count, self.done = count, list[Done]()
-        self.is_first = is_first  # whether the first failure is all that is asked for
+        self.is_first = is_first  # whether the run ends at the first failure
         self.running: dict[str, float] = {}
-        # What a build that failed says, once it has ended.
+        # The output of a failed build, once it has ended.
         self.library = concurrent.futures.Future[str]()
         tell_each(EVERY, self.tell)
 
@@ -213,14 +213,14 @@ class Progress:
         SECONDS.write_text(json.dumps(known, indent=1, sort_keys=True) + "\n")
 
     def tell_folders(self) -> None:
-        """A line for each folder: its tests, and their time."""
+        """Prints a line for each folder: its tests, and their time."""
         for folder in sorted({it.job.folder for it in self.done}):
             of_it = [it for it in self.done if it.job.folder == folder]
             tests, used = sum(len(it.tests) for it in of_it), sum(it.processor for it in of_it)
             print(f"{folder}: {tests} tests, {used:.0f} processor seconds")
 
     def end(self) -> int:
-        """Prints the skipped tests, the failures, and the last line; returns the status of the
+        """Prints the skipped tests, the failures, and the last line. Returns the status of the
         program."""
         words = [word for done in self.done for word in done.tests.values()]
         skips = collections.Counter(it for it in words if it.startswith("skipped"))

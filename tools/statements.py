@@ -24,7 +24,7 @@ no `mod` names, and an attribute that may hide an item, such as a condition othe
 A comment, the layout, the order of imports, a proof, a different body, or the file of an item
 changes no line. Renaming a bound variable or a definition does change lines, since the script
 compares words. No line shows the toolchain's own definitions, which its logic identifies; private
-parts of a type; or the crates of tests and examples, which promise nothing.
+parts of a type, or the crates of tests and examples, which promise nothing.
 
 --write writes the file again. Without --write the script prints the names whose lines differ, and
 the status is 1 if any differs.
@@ -50,22 +50,22 @@ HEAD = """\
 # A sum over each promise of the crates and all that it rests on. tools/statements.py says which,
 # and writes this file. A second person reads what changed behind each line (CONTRIBUTING.md).
 """
-# Whose bodies are the runs that their clauses tell of: functions, and all those of a crate.
+# The functions, and the crates of functions, whose bodies are the runs that their clauses describe.
 RUNS = {"crash_laws", "cred_file::crash_and_open", "cred_file::reopen"}
 RUNS |= {"credbook::main", "credkeep::main"}
-# The items that have a line of their own, beside those of their clauses.
+# The items that have their own line, beside those of their clauses.
 TOLD = {"fn", "struct", "enum", "trait", "const", "static", "type"}
 WRITE = "python3 tools/statements.py --write"
 
 
 def joined(words: Iterable[str]) -> str:
-    """Some words of Rattle as a name: `<FileBook<S> as Keeper>`."""
+    """Returns some words of Rattle as a name: `<FileBook<S> as Keeper>`."""
     text = re.sub(r" ?(::|[<(\[]) ?", r"\1", " ".join(words))
     return re.sub(r"(&) | ([,>)\]])", r"\1\2", text)
 
 
 def without_generics(words: list[str]) -> list[str]:
-    """Some words, without the `<..>` at their beginning."""
+    """Returns some words, without the `<..>` at their beginning."""
     depth = 0
     for at, word in enumerate(words):
         depth += {"<": 1, ">": -1}.get(word, 0)
@@ -75,7 +75,7 @@ def without_generics(words: list[str]) -> list[str]:
 
 
 def header_of(impl: Item) -> list[str]:
-    """The type of an impl, without its parameters and their bounds."""
+    """Returns the type of an impl, without its parameters and their bounds."""
     words = without_generics(impl.head[impl.head.index("impl") + 1 :])
     return words[: words.index("where")] if "where" in words else words
 
@@ -86,7 +86,7 @@ def is_of_trait(item: Item) -> bool:
 
 
 def name_of(item: Item) -> str:
-    """The name of an item; that of an impl is `FileBook`, or `<FileBook<S> as Keeper>`."""
+    """Returns an item's name; that of an impl is `FileBook`, or `<FileBook<S> as Keeper>`."""
     if item.kind in ("ghost", "field", "mod"):
         return ""
     if item.kind != "impl":
@@ -107,7 +107,7 @@ class Source:
     items: list[Item]
     constants: Names = dataclasses.field(default_factory=dict)
     names: Names = dataclasses.field(default_factory=dict)
-    # What its code has under another name than where it is from, or from other crates.
+    # The names that its code has from other crates, or under another name than at their origin.
     others: Names = dataclasses.field(default_factory=dict)
 
 
@@ -116,14 +116,14 @@ def is_for_tests(item: Item) -> bool:
 
 
 def all_items(items: list[Item]) -> Iterator[Item]:
-    """Items, and those inside their braces."""
+    """Yields items, and those inside their braces."""
     for item in items:
         yield item
         yield from all_items(item.inner)
 
 
 def sources_of(crate: str, crates: pathlib.Path) -> Iterator[Source]:
-    """The files of a crate's code, except those that only its tests use."""
+    """Yields the files of a crate's code, except those that only its tests use."""
     top = crates / crate / "src"
     found = {}
     for file in sorted(top.glob("**/*.rt")):
@@ -139,7 +139,7 @@ def sources_of(crate: str, crates: pathlib.Path) -> Iterator[Source]:
 
 
 def imports_of(item: Item) -> list[tuple[str, Place]]:
-    """The imports in a `use` of Rattle code: each local name, with its path."""
+    """Returns the imports in a `use` of Rattle code: each local name, with its path."""
     path = item.head[item.head.index("use") + 1 :]
     if "*" in path:
         raise ValueError(f"an import of unknown names: {''.join(path)}")
@@ -147,8 +147,8 @@ def imports_of(item: Item) -> list[tuple[str, Place]]:
 
 
 def stated(item: Item, owner: Item | None, is_run: bool) -> list[str]:
-    """The text for the checksum of an item's line: everything that others see of the item except
-    its clauses."""
+    """Returns the text for the checksum of an item's line: everything that others see of the item
+    except its clauses."""
     words = [*item.attributes, *item.head]
     if item.kind == "fn" and owner is not None and owner.kind == "impl":
         words = [*owner.head, *words]
@@ -219,8 +219,9 @@ class Statements:
                 file.others.setdefault(item.name, set()).add(("type", *item.head))
 
     def whence(self, file: Source, path: Place) -> Place:
-        """The origin of an import: its crate and its name there, and also its module if several
-        modules of the crate have that name. A library of the toolchain counts as a whole."""
+        """Returns the origin of an import: its crate and its name there, and also its module if
+        several modules of the crate have that name. A library of the toolchain counts as a
+        whole."""
         is_own = path[0] in ("crate", "self", "super") or (file.crate, path[0]) in self.modules
         crate = file.crate if is_own else path[0]
         if crate not in self.found.crates:
@@ -229,7 +230,7 @@ class Statements:
         return (crate, *(path[1:-1] if several else ()), path[-1])
 
     def exported(self, sources: list[Source]) -> list[str]:
-        """The names that a crate exports with their origins, and its public modules."""
+        """Returns the names that a crate exports with their origins, and its public modules."""
         public = [(file, it) for file in sources for it in all_items(file.items) if it.is_public]
         names = {
             f"{'.'.join(self.whence(file, path))} as {local}"
@@ -265,7 +266,7 @@ class Statements:
 
 
 def promises() -> list[tuple[str, str]]:
-    """The name and the checksum of each promise in the tree, by name."""
+    """Returns the name and the checksum of each promise in the tree, by name."""
     names = [it for it in listed() if not is_test_or_example(it)]
     found = Statements(names)
     for name in names:
@@ -276,7 +277,7 @@ def promises() -> list[tuple[str, str]]:
 
 
 def differences(text: str, lines: list[tuple[str, str]]) -> list[str]:
-    """The change of each promise whose line is missing from a text."""
+    """Returns the change of each promise whose line is missing from a text."""
     was, now = collections.defaultdict(list), collections.defaultdict(list)
     for line in text.splitlines():
         if not line.startswith("#"):
@@ -291,7 +292,7 @@ def differences(text: str, lines: list[tuple[str, str]]) -> list[str]:
 
 
 def check() -> list[str | None]:
-    """The faults of docs/STATEMENTS.txt."""
+    """Returns the faults of docs/STATEMENTS.txt."""
     try:
         found = differences(source(STATEMENTS), promises())
     except (LookupError, ValueError) as wrong:

@@ -1,4 +1,4 @@
-"""What the tools know of the tree and of the toolchain, and how they report.
+"""The tools' common knowledge of the tree and the toolchain, and their reports.
 
 If rt is missing, `python3 tools/tree.py run the gate` says why and exits with status 1.
 """
@@ -18,7 +18,7 @@ from collections.abc import Callable, Sequence
 
 TOP = pathlib.Path(__file__).resolve().parent.parent
 CRATES = TOP / "crates"
-# The toolchain's command, or what the variable RT names in its place.
+# The toolchain's command, or the one that the variable RT names instead.
 RT = os.environ.get("RT", "rt")
 NO_RT = """\
 {rt} isn't there: only the Rattle toolchain, which isn't published, can {what}.
@@ -37,30 +37,30 @@ def need_rt(what: str) -> None:
 
 
 def told_by_rt(*words: str) -> str:
-    """The output of a command of rt."""
+    """Returns the output of a command of rt."""
     return subprocess.run([RT, *words], capture_output=True, text=True, check=True).stdout
 
 
 @functools.cache
 def kit() -> pathlib.Path:
-    """The folder of the toolchain, whose first page rt names."""
+    """Returns the folder of the toolchain, whose first page rt names."""
     return pathlib.Path(told_by_rt("doc").strip()).parent
 
 
 @functools.cache
 def listed() -> dict[str, tuple[str, list[str]]]:
-    """Each crate in crates.txt, with the rest of its line after the colon."""
+    """Returns each crate in crates.txt, with the rest of its line after the colon."""
     lines = [it.split("#")[0].partition(":") for it in source(TOP / "crates.txt").splitlines()]
     return {head.split()[0]: (head, rest.split()) for head, _, rest in lines if head.strip()}
 
 
 def below(name: str) -> list[str]:
-    """The crates of the tree that a crate uses."""
+    """Returns the crates of the tree that a crate uses."""
     return [it for it in listed()[name][1] if it in listed()]
 
 
 def all_below(name: str) -> list[str]:
-    """The crates below a crate, lowest first."""
+    """Returns the crates below a crate, lowest first."""
     return [*dict.fromkeys(low for it in below(name) for low in [*all_below(it), it])]
 
 
@@ -97,7 +97,7 @@ def tell_each(seconds: float, tell: Callable[[], None]) -> None:
 
 
 def report(found: Sequence[str | None], left_out: Sequence[str] = ()) -> int:
-    """Prints the faults and the omissions, and the count of each; returns the program's status.
+    """Prints the faults and the omissions, and the count of each. Returns the program's status.
     None stands for a right claim."""
     failures = [it for it in found if it]
     counts = f"{len(found) - len(failures)} passed, {len(failures)} failed"

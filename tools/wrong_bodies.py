@@ -19,7 +19,8 @@ The script first proves the unchanged functions, and reuses what `rt check` kept
 out/, or an earlier run in .git/wrong-bodies. Then the prover must refuse each wrong body at a goal:
 the search doesn't prove the goal, or its written answer is no longer a proof. A refusal is weaker
 evidence if an answer only names what the edit removed, or if only a caller is refused, with no
-other plant. The status is 1 if a wrong body isn't refused, or can't be judged.
+other plant. The status is 1 if the prover doesn't refuse a wrong body, or the script can't judge
+one.
 """
 
 import argparse
@@ -52,13 +53,13 @@ def say(line):
 
 
 def checked(path):
-    """The part of a file that a check reads: a comment of Rattle changes no verdict."""
+    """Returns the part of a file that a check reads: a comment of Rattle changes no verdict."""
     text = path.read_bytes()
     return re.sub(rb"(?m)^[ \t]*//.*\n", b"", text) if path.suffix == ".rt" else text
 
 
 def sum_of(files):
-    """A checksum over what a check reads of these files, by their names."""
+    """Computes a checksum over the parts of these files that a check reads, by their names."""
     sums = [(name, hashlib.sha256(checked(files[name])).hexdigest()) for name in sorted(files)]
     return hashlib.sha256(repr(sums).encode()).hexdigest()
 
@@ -79,8 +80,8 @@ class Bench:
         self.sum = sum_of(self.files())
 
     def files(self):
-        """The inputs of a verdict: the crate's files and wrong bodies, and the items of the crates
-        below that it can cite, their functions without bodies, and their definitions."""
+        """Returns the inputs of a verdict: the crate's files and wrong bodies, and the items of the
+        crates below that it can cite, their functions without bodies, and their definitions."""
         at = CRATES / self.crate
         names = [*self.texts, *(f"wrong-bodies/{it.name}.edit" for it in self.edits)]
         files = {name: at / name for name in names}
@@ -96,11 +97,11 @@ class Bench:
         return any(head.search(it) for it in self.texts.values())
 
     def words(self):
-        """The check, as `rt` runs it."""
+        """Returns the check, as `rt` runs it."""
         head, uses = listed()[self.crate]
         built, rlibs = self.libraries, kit() / "rlibs"
         root = "src/lib.rt" if "src/lib.rt" in self.texts else "src/main.rt"
-        # behind COMMAND, whose tests have a minute each
+        # COMMAND goes first, since its tests have a minute each
         yield from ("nice", kit() / "bin/rattle", "check", "--crate-name", self.crate, root)
         yield from ("--jobs", "1")
         for name in ("std", *uses):
@@ -113,8 +114,8 @@ class Bench:
             yield from ("--crate-type", "staticlib")
 
     def check(self, texts, kept, functions):
-        """The verdict of a check of these functions over a copy with these texts, beginning with
-        kept proofs."""
+        """Returns the verdict of a check of these functions over a copy with these texts, beginning
+        with kept proofs."""
         with self.places, tempfile.TemporaryDirectory(prefix="wrong-bodies-") as room:
             for name, text in texts.items():
                 path = pathlib.Path(room) / name
@@ -135,7 +136,7 @@ class Bench:
 
 
 def link(one, other):
-    """A second copy, made of links if the system allows them: a check replaces such files, but
+    """Makes a second copy, of links if the system allows them: a check replaces such files, but
     changes none."""
     if subprocess.run(["cp", "-al", one, other], capture_output=True).returncode:
         shutil.rmtree(other, ignore_errors=True)
@@ -143,14 +144,14 @@ def link(one, other):
 
 
 def named_in_page():
-    """The wrong bodies in the first table of docs/PLANTED.md."""
+    """Returns the wrong bodies in the first table of docs/PLANTED.md."""
     _, _, rest = source(TOP / "docs/PLANTED.md").partition("\n| ")
     table, _, _ = rest.partition("\n\n")
     return re.findall(r"`(\w+/[\w-]+)`", table)
 
 
 def checks_at_once():
-    """The number of simultaneous checks that the processors and the memory allow."""
+    """Returns the number of simultaneous checks that the processors and the memory allow."""
     memory = pathlib.Path("/proc/meminfo").read_text()
     free = int(re.search(r"MemAvailable:\s+(\d+)", memory)[1]) << 10
     return max(1, min(len(os.sched_getaffinity(0)), free // BYTES_OF_A_CHECK))
@@ -211,7 +212,8 @@ class Trial:
                     self.settle(it, self.refused_elsewhere(bench, planted, kept), output)
 
     def refused_elsewhere(self, bench, planted, kept):
-        """The refused functions of the whole crate, for a body whose own function isn't refused."""
+        """Returns the refused functions of the whole crate, for a body whose own function isn't
+        refused."""
         status, output = bench.check(planted, kept, [])
         found = re.search(r"^((?:fn|impl) \S+): (?:no|could)", output, re.M)
         return status == 1 and found and f"not there, but {found[1]}, which is weaker evidence"

@@ -5,9 +5,9 @@ from typing import NamedTuple
 
 # Where a function begins, or an item ends.
 HEAD = re.compile(r"^\s*(?:pub(?:\(\w+\))? )?(?:const )?fn (\w+)|^\}", re.M)
-# Errors of a proof that names what the edit removed, or rests on what isn't proved.
+# Errors of a proof that names a removed thing, or rests on an unproved one.
 OF_NAMES = re.compile(r"has no field|is not in scope|has no `|was not admitted")
-# Weaker evidence than a goal that is false.
+# Weaker evidence than a false goal.
 LIMIT = "a limit of the prover, which is weaker evidence"
 LOST_NAME = "a name that the edit removed, which is weaker evidence"
 
@@ -21,7 +21,7 @@ class Change(NamedTuple):
     new: str
 
     def place(self, texts):
-        """The name of the file, or nothing if several files or none have the text."""
+        """Returns the name of the file, or nothing if several files or none have the text."""
         if self.file:
             return self.file
         files = [name for name, text in texts.items() if self.old in text]
@@ -44,7 +44,8 @@ class Edit:
         return f"{self.crate}/{self.name}"
 
     def planted(self, texts):
-        """The texts of a crate's files with this edit applied, or None if it doesn't apply."""
+        """Returns the texts of a crate's files with this edit applied, or None if it doesn't
+        apply."""
         found = dict(texts)
         for change in self.changes:
             file = change.place(found)
@@ -63,10 +64,10 @@ class Edit:
         return True
 
     def judge(self, output):
-        """The goal at which a check refuses its function. False: the function is proved. None: the
-        function waits for the proof of another."""
+        """Returns the goal at which a check refuses its function, False if the function is proved,
+        or None if the function waits for the proof of another."""
         name = re.escape(f"{self.crate}::{self.function}")
-        # the lines above its own, up to another function's, and what is said of it
+        # the lines above its own, up to another function's, and the check's words about it
         line = re.search(rf"((?:^(?!fn ).*\n)*)^fn {name}: (.*)", output, re.M)
         if line is None:
             return None
@@ -84,8 +85,8 @@ class Edit:
         return None if "it calls" in said else LOST_NAME
 
     def error_of_answer(self, output):
-        """The first error in the function's written answers other than a lost name: the goal at its
-        beginning, or the first letters."""
+        """Returns the first error in the function's written answers other than a lost name: the
+        goal at its beginning, or the first letters."""
         folder = self.function.replace("::", "/")
         form = rf"^\./proofs/{folder}/\w+\.antt:\d+:\d+: error: (.*)"
         errors = [it for it in re.findall(form, output, re.M) if not OF_NAMES.search(it)]
@@ -95,7 +96,8 @@ class Edit:
         return goal[0] if goal else errors[0][:80]
 
     def false_lemma(self, output):
-        """The lemma that the edit makes false, if the function's written answers use one."""
+        """Returns the lemma that the edit makes false, if the function's written answers use
+        one."""
         folder = self.function.replace("::", "/")
         form = rf"^\./proofs/{folder}/\w+\.antt:\d+:\d+: error: .* which was not admitted"
         if not re.search(form, output, re.M):
@@ -106,8 +108,8 @@ class Edit:
 
 
 def groups(edits, texts):
-    """Edits that can be planted together, each in a different function, with the resulting
-    texts."""
+    """Returns edits that the script can plant together, each in a different function, with the
+    resulting texts."""
     while edits:
         group, planted, later = [], texts, []
         for edit in edits:

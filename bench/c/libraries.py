@@ -22,7 +22,7 @@ class Numbers(ctypes.Structure):
 
 
 def library(path):
-    """A library, or None if this machine lacks it."""
+    """Loads a library, or returns None if this machine lacks it."""
     try:
         return ctypes.CDLL(str(path))
     except OSError:
@@ -31,8 +31,8 @@ def library(path):
 
 
 def libsodium():
-    """libsodium, which chooses its code for this processor in sodium_init, and until then runs slow
-    code for any processor."""
+    """Loads libsodium, which chooses its code for this processor in sodium_init, and until then
+    runs slow code for any processor."""
     found = library("libsodium.so.23")
     if found is not None and found.sodium_init() < 0:
         sys.exit("libsodium can't be initialised")
@@ -46,7 +46,7 @@ def need_initialised(sodium):
 
 
 def made(call, *given):
-    """The bytes that a call writes into its ROOM."""
+    """Returns the bytes that a call writes into its ROOM."""
     room = ctypes.create_string_buffer(SIZE)
     if call(*(room if it is ROOM else it for it in given)) != 0:
         sys.exit(f"{call.__name__} refuses")
@@ -54,7 +54,7 @@ def made(call, *given):
 
 
 def rigzumal_argon2(ours, most_threads=1):
-    """Argon2 with a thread for each lane, up to this many."""
+    """Returns our Argon2, with a thread for each lane, up to this many."""
     call = ours.rigzumal_argon2_threads
     call.argtypes = [*DATA, ctypes.POINTER(Numbers), *DATA * 4, NUMBER]
     none = (None, 0, None, 0)
@@ -73,7 +73,7 @@ def original_argon2(original):
 
 
 def sodium_argon2(sodium):
-    """libsodium's Argon2, which has one lane."""
+    """Returns libsodium's Argon2, which has one lane."""
     need_initialised(sodium)
     call = sodium.crypto_pwhash
     call.argtypes = [TEXT, WIDE, TEXT, WIDE, TEXT, WIDE, LENGTH, ctypes.c_int]

@@ -5,21 +5,22 @@ settings.
     make -C c && /usr/bin/python3 bench/c/run.py [--times N] [--pages WHOSE]
                                     [--callers N [N ..]] [--small] [--other LIBRARY]
 
-One process calls all of them in turn, N times over. It prints the best wall time of each, and the
-least processor time where libargon2 has threads. libargon2 gets as many threads as lanes; libsodium
-has one lane only; ours works on the caller's thread. The run compares their tags, which must be
-equal. A library that isn't installed has an empty column. Ours clears its stack, and its memory
-before it frees it. --other names another librigzumal.so.1, such as one that was built before a
+One process calls all of them in turn, N times over. The script prints the best wall time of each,
+and the least processor time if libargon2 has threads. libargon2 gets as many threads as lanes;
+libsodium has one lane only; ours works on the caller's thread. The run compares their tags, which
+must be equal. A library that isn't installed has an empty column. Ours clears its stack, and its
+memory before it frees that memory. --other names another librigzumal.so.1, such as one that was
+built before a
 change: the run prints the ratio of both, by the best times and by the median of the turns.
 
-WHOSE says who gets huge pages: `own`, a library that asks for them, as ours does; `none`, as on a
-system that allows none; or `all`, by a shim before mmap and malloc's own setting. At the end the
+WHOSE chooses who gets huge pages: `own`, a library that asks for them, as ours does; `none`, as on
+a system that allows none; or `all`, by a shim before mmap and malloc's own setting. At the end the
 run prints the amount of memory in huge pages.
 
 --callers times Argon2 alone, ours also with a thread for each lane, by this many callers at once:
 threads that begin at the same moment, and compute two tags one after another. A cell has the best
 and the median of the N times, in milliseconds a tag: the wall time of all callers over the number
-of their tags, and behind it the processor time. --small times memories for which the library starts
+of their tags, followed by the processor time. --small times memories for which the library starts
 no thread, in a build that starts them whatever the memory is.
 """
 
@@ -78,17 +79,17 @@ TAGS_A_CALLER = 2
 
 
 def ms(name):
-    """A column: the best time of a library, or nothing if this machine lacks the library."""
+    """Returns a column: the best time of a library, or nothing if this machine lacks it."""
     return lambda row: f"{best(row[name]):.1f}" if name in row else ""
 
 
 def over(name, figure, part=WALL):
-    """A column: the ratio of ours to another, by one figure."""
+    """Returns a column: the ratio of ours to another, by one figure."""
     return lambda row: f"{figure(row['ours'], row[name], part):.2f}" if name in row else ""
 
 
 def spread(name):
-    """A column: best and median of both times."""
+    """Returns a column: best and median of both times."""
     figures = lambda turns, part: f"{best(turns, part):.1f}/{median(turns, part):.1f}"
     return (
         lambda row: "; ".join(figures(row[name], part) for part in (WALL, CPU))
@@ -98,8 +99,8 @@ def spread(name):
 
 
 def threads_over_libargon2(part):
-    """A column: the ratio of ours, with threads if there are several lanes, by the best times and
-    by the medians."""
+    """Returns a column: the ratio of ours, with threads if there are several lanes, by the best
+    times and by the medians."""
 
     def cell(row):
         ours, theirs = row.get("threads") or row["ours"], row.get("libargon2")
@@ -153,7 +154,7 @@ def print_table(what, columns, rows, times):
 
 
 def at_once(callers, way, *setting):
-    """Wall and processor milliseconds a tag, and the tag that all callers computed."""
+    """Returns wall and processor milliseconds a tag, and the tag that all callers computed."""
     tags, start = set(), threading.Barrier(callers + 1)
 
     def work():
@@ -185,19 +186,19 @@ def argon2_ways(ours, sodium):
 
 
 def calls(ways, call, *setting):
-    """The calls of a row, for the installed libraries."""
+    """Returns the calls of a row, for the installed libraries."""
     return {name: functools.partial(call, way, *setting) for name, way in ways.items() if way}
 
 
 def argon2_calls(ways, call, *setting):
-    """The calls of a row of Argon2: threads need several lanes, and libsodium has one."""
+    """Returns the calls of a row of Argon2: threads need several lanes, and libsodium has one."""
     lanes = setting[-1]
     fits = {"threads": lanes > 1, "libsodium": lanes == 1}
     return calls({name: way for name, way in ways.items() if fits.get(name, True)}, call, *setting)
 
 
 def without_least_memory(room):
-    """A build of the library that starts threads whatever the memory is."""
+    """Builds the library in a form that starts threads whatever the memory is."""
     path = pathlib.Path(room) / "librigzumal.so"
     sources = [
         it
@@ -240,7 +241,7 @@ def have_pages(whose):
 
 
 def huge_pages():
-    """The MiB of this process's memory that are in huge pages."""
+    """Returns the MiB of this process's memory that are in huge pages."""
     return (
         int(
             re.search(
@@ -256,8 +257,8 @@ def shown(*setting):
 
 
 def tables(ours, other):
-    """Argon2 and scrypt beside the others: the names of the first columns, the others, and the
-    rows."""
+    """Yields Argon2 and scrypt beside the others: the names of the first columns, the others, and
+    the rows."""
     more, sodium = OTHER_COLUMNS if other else {}, libsodium()
     ways = {**argon2_ways(ours, sodium), "other": other and libraries.rigzumal_argon2(other)}
     rows = {(shown(*it),): argon2_calls(ways, timed, *it) for it in ARGON2}
@@ -273,7 +274,7 @@ def tables(ours, other):
 
 
 def table_of_callers(ours, other, callers, settings):
-    """Argon2 by this many callers at once, as a table of the same form."""
+    """Returns Argon2 by this many callers at once, as a table of the same form."""
     ways = {
         **argon2_ways(ours, libsodium()),
         "threads": libraries.rigzumal_argon2(ours, most_threads=255),

@@ -37,13 +37,13 @@ rows = sqlite3.connect(sys.argv[1]).execute('SELECT name, record FROM account')
 rows = dict(rows)"""
 TABLE = "CREATE TABLE account (name TEXT NOT NULL PRIMARY KEY, record TEXT) STRICT"
 BCRYPT = ("htpasswd", "-b", "-B", "-C", "4")
-# The number of lines of a kind that are timed at once.
+# The number of lines of a kind to time at once.
 LINES = 1000
 SHOWN = 200_000
 
 
 def run(*words: str | pathlib.Path, given: str = "", status: int = 0) -> float:
-    """Runs a program with this input to this status; returns the seconds."""
+    """Runs a program with this input, expects this status, and returns the seconds."""
     nothing = subprocess.DEVNULL
     with tempfile.TemporaryFile() as text:
         text.write(given.encode())
@@ -57,7 +57,7 @@ def run(*words: str | pathlib.Path, given: str = "", status: int = 0) -> float:
 
 
 def each_timed(work: Callable[[str], object], given: list[str]) -> float:
-    """The seconds of one of these calls."""
+    """Returns the seconds of one of these calls."""
     start = time.perf_counter()
     for word in given:
         work(word)
@@ -101,12 +101,12 @@ class Sample:
         self.users.write_text("".join(f"{name}:{bcrypt}\n" for name in self.names))
 
     def some(self, count: int) -> list[str]:
-        """This many names out of all, in random order."""
+        """Returns this many of the names, in random order."""
         return random.Random(7).choices(self.names, k=count)
 
 
 def ours(sample: Sample, turns: int) -> dict[str, str]:
-    """The figures of credkeep."""
+    """Measures the figures of credkeep."""
     program, book, one = sample.program, sample.book, sample.names[0]
     best = lambda *words, **given: min(run(program, *words, **given) for _ in range(turns))
     opened = best(book, "show", "nobody", status=4)
@@ -146,7 +146,7 @@ def ours(sample: Sample, turns: int) -> dict[str, str]:
 
 
 def imported(sample: Sample) -> float:
-    """The seconds of an import of all accounts into a new book."""
+    """Measures the seconds of an import of all accounts into a new book."""
     fresh = sample.book.with_name("fresh.db")
     run(sample.program, fresh, "init")
     lines = "".join(f"{name}:{record}\n" for name, record in sample.rows)
@@ -157,10 +157,10 @@ def imported(sample: Sample) -> float:
 
 
 def theirs(sample: Sample, turns: int) -> dict[str, str]:
-    """The figures of Python's sqlite3 on the same file, and of htpasswd."""
+    """Measures the figures of Python's sqlite3 on the same file, and of htpasswd."""
     one, fresh = sample.names[0], sample.book.with_name("fresh.db")
     best = lambda more, *words: min(run(*words) for _ in range(turns + more))
-    # The difference of two starts of Python: of a few rows one turn shows nothing.
+    # The difference of two starts of Python: with few rows, one turn shows nothing.
     read = best(2, sys.executable, "-c", READ_ALL, sample.book)
     empty = best(2, sys.executable, "-c", "import sqlite3, sys")
     connection = sqlite3.connect(sample.book, isolation_level=None)

@@ -23,7 +23,7 @@ class Service(books.Service):
         super().__exit__(*given)
 
     def seconds_at_once(self, lines: list[str]) -> float:
-        """The seconds of lines that don't wait for answers."""
+        """Measures the seconds of lines that don't wait for answers."""
         writer, left = threading.Thread(target=self.send, args=[books.lined(lines)]), len(lines)
         start = time.perf_counter()
         writer.start()
@@ -36,8 +36,8 @@ class Service(books.Service):
         return seconds
 
     def rate(self, lines: list[str], after: Callable[[str, str], str], seconds: float) -> float:
-        """Answers a second: these tagged lines are open, and each answer is followed by a new
-        line."""
+        """Measures answers a second: these tagged lines are open, and a new line follows each
+        answer."""
         self.send(books.lined(lines))
         start, count = time.perf_counter(), 0
         while time.perf_counter() - start < seconds:
@@ -47,6 +47,6 @@ class Service(books.Service):
         return count / (time.perf_counter() - start)
 
     def peak_mb(self) -> float:
-        """The most memory that the service has held so far."""
+        """Returns the most memory that the service has held so far."""
         status = pathlib.Path(f"/proc/{self.process.pid}/status").read_text()
         return int(status.partition("VmHWM:")[2].split()[0]) / 1024

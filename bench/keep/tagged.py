@@ -33,8 +33,8 @@ class Book:
         subprocess.run([*self.words, "init"], check=True)
 
     def changes_a_second(self, clients: int, pause: float) -> float:
-        """Changes a second of this many clients, each with its own account, who send a line once
-        the previous one is answered."""
+        """Measures changes a second of this many clients, each with its own account, who send a
+        line after each answer."""
 
         def after(tag: str, answer: str) -> str:
             assert answer in ("enrolled", "removed")

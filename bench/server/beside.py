@@ -4,9 +4,9 @@
     /usr/bin/python3 bench/server/beside.py OTHER [--seconds S] [--turns N] [--clients N [N ..]]
                                             [--accounts N] [--setting COSTS]
 
-OTHER is the top of a checkout with its built credkeep. Both servers run, and take turns. Prints
-verifies and changes a second for each number of clients, of which each has its own account and
-sends a line once the last one is answered. Then it prints the seconds of a start over so many
+OTHER is the top of a checkout with its built credkeep. Both servers run, and take turns. The script
+prints verifies and changes a second for each number of clients. Each client has its own account,
+and sends a line after each answer. Then the script prints the seconds of a start over this many
 accounts, from the server's process to its first answer. A figure is the best turn's; the ratios are
 of this tree over the other one, by the best turns and as the median of the turns. The files are in
 TMPDIR: changes include the syncs of that disk. Run it on a machine that does nothing else.
@@ -38,7 +38,7 @@ LONGEST = 60  # seconds until an answer
 
 
 def connected(path: pathlib.Path) -> socket.socket:
-    """A client of a socket."""
+    """Connects a client to a socket."""
     client = socket.socket(socket.AF_UNIX)
     client.settimeout(LONGEST)
     client.connect(str(path))
@@ -46,7 +46,7 @@ def connected(path: pathlib.Path) -> socket.socket:
 
 
 def ask(path: pathlib.Path, line: str) -> str:
-    """The answer of a server to a line."""
+    """Returns the answer of a server to a line."""
     with connected(path) as client:
         client.sendall(f"1 {line}\n".encode())
         return client.makefile().readline().strip().removeprefix("1 ")
@@ -66,7 +66,7 @@ class Tree:
 
     @contextlib.contextmanager
     def served(self, name: str) -> Iterator[pathlib.Path]:
-        """The admin socket of a server over a book of this name, once it answers."""
+        """Yields the admin socket of a server over a book of this name, once it answers."""
         path = self.folder / f"{name}.sock"
         words = [PYTHON, self.top / "bin/credkeep-server", "--credkeep", self.program]
         words += ["--socket", "admin", path, "0600", "-", "all", "--setting", self.setting]
@@ -84,7 +84,7 @@ class Tree:
             server.wait()
 
     def begin(self, name: str, accounts: int) -> None:
-        """A new book with so many accounts, all of which have one record."""
+        """Creates a book with this many accounts, all of which have one record."""
         file = self.folder / f"{name}.db"
         subprocess.run([self.program, file, "init"], check=True)
         with self.served(name) as path:
@@ -96,7 +96,7 @@ class Tree:
         subprocess.run(words, input=lines.encode(), check=True, stdout=subprocess.DEVNULL)
 
     def start(self, name: str) -> tuple[tuple[float], None]:
-        """The seconds of a start."""
+        """Measures the seconds of a start."""
         began = time.perf_counter()
         with self.served(name):
             return (time.perf_counter() - began,), None
@@ -112,7 +112,7 @@ def is_answered(path: pathlib.Path) -> bool:
 def answered(
     path: pathlib.Path, word: str, clients: int, seconds: float
 ) -> tuple[tuple[float], None]:
-    """The seconds of an answer, with so many clients at once."""
+    """Measures the seconds of an answer, with this many clients at once."""
     form, answer = LINES[word]
     ought = f"1 {answer}\n".encode()
     count, open_lines = 0, clients
@@ -145,7 +145,7 @@ def printed(found: dict, given: argparse.Namespace) -> None:
             what, over = f"s of a start, {given.accounts} accounts", (this, other)
             shown = [f"{ours:.2f}", f"{theirs:.2f}"]
         else:
-            what, over = f"{word}, a second", (other, this)  # of rates, not of times
+            what, over = f"{word}, a second", (other, this)  # a ratio of rates, not of times
             shown = [f"{1 / ours:.0f}", f"{1 / theirs:.0f}"]
         ratios = [f"{it(*over):.2f}" for it in (ratio, median_ratio)]
         print_row([what, clients, *shown, *ratios])

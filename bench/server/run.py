@@ -3,11 +3,12 @@
 
     /usr/bin/python3 bench/server/run.py [--seconds S] [--clients N [N ..]] [--fast]
 
-For 64 MiB and 4 MiB (Argon2id, t=1, p=1) and 1, 4 and 16 clients: verifies a second at the socket,
-each client with a connection that it keeps; through pam_rigzumal, each login with a connection of
-its own; and through pam_unix with yescrypt at its default costs. It needs root, the built credkeep,
-libpam0g-dev and pamtester, and runs in namespaces of its own. `--fast` uses the tests' book, whose
-hashes cost nothing: the rest is the time of the path. Run it on a machine that does nothing else.
+The script measures 64 MiB and 4 MiB (Argon2id, t=1, p=1) and 1, 4 and 16 clients: verifies a second
+at the socket, each client with a connection that it keeps; through pam_rigzumal, each login with
+its own connection; and through pam_unix with yescrypt at its default costs. The script needs root,
+the built credkeep, libpam0g-dev and pamtester, and runs in its own namespaces. `--fast` uses the
+tests' book, whose hashes cost nothing: the rest is the time of the path. Run it on a machine that
+does nothing else.
 """
 
 import argparse
@@ -29,7 +30,7 @@ FIELD = field_of(WORD.encode())
 
 
 async def at_socket(clients: int, seconds: float) -> float:
-    """Verifies a second of this many clients."""
+    """Measures verifies a second of this many clients."""
     end, counts = time.perf_counter() + seconds, [0] * clients
 
     async def one(number: int) -> None:
@@ -46,7 +47,7 @@ async def at_socket(clients: int, seconds: float) -> float:
 
 
 def by_pam(service: str, clients: int, seconds: float) -> float:
-    """Logins a second of this many clients, ten by each run of pamtester."""
+    """Measures logins a second of this many clients, ten in each run of pamtester."""
     words, given = ["pamtester", service, "ada", *["authenticate"] * 10], f"{WORD}\n" * 10
     ten = lambda: subprocess.run(words, input=given, text=True, capture_output=True, check=True)
     return 10 * rate(ten, seconds, clients)

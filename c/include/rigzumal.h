@@ -1,7 +1,7 @@
 /* Argon2 (RFC 9106), scrypt (RFC 7914) and the strings of password records, for programs in C.
  *
  * The hashing and the reading and writing of strings are proved. The thin layer of C in front of
- * them is not.
+ * them isn't.
  *
  *     char record[RIGZUMAL_TEXT_SIZE];
  *     int fault = rigzumal_record(record, sizeof record, RIGZUMAL_TAG_SIZE, RIGZUMAL_ARGON2_COSTS,
@@ -16,41 +16,41 @@
  *         let_in();
  *     }
  *
- * Every call returns RIGZUMAL_OK or the number of a fault, and writes no output with a fault. All
+ * Every call returns RIGZUMAL_OK or the number of a fault, and writes no output after a fault. All
  * sizes are in bytes, except those of a memory cost. Strings end with a zero byte.
  *
- * Any number of threads may call at the same time. Each call works on its own thread alone, but for
- * the calls at the end: with those several threads may work the lanes of one tag. After a call only
- * cleared memory stays, for the next calls: as much as calls used at one time, and at most 64 MiB
- * or the bound of rigzumal_keep or of RIGZUMAL_KEEP in the environment. Tools count it as the
- * process's own until the system is short of memory and reclaims it; rigzumal_trim returns it at
- * once.
+ * Any number of threads may call at the same time. Each call works only on its own thread, except
+ * for the calls at the end, with which several threads may work the lanes of one tag. After a call
+ * the library keeps only cleared memory, for the next calls: as much as calls used at one time, and
+ * at most 64 MiB or the bound of rigzumal_keep or of RIGZUMAL_KEEP in the environment. Tools count
+ * this memory as the process's own until the system is short of memory and reclaims it;
+ * rigzumal_trim returns it at once.
  *
- * A call clears its memory before it frees or keeps it, and at its end 22 KiB of the stack below it
- * and all vector registers of the processor. Blocks of 64 KiB and more are in no core dump, and
- * read as zero in a forked child. Large memory has huge pages.
+ * A call clears its memory before it frees or keeps it. At its end the call clears 22 KiB of the
+ * stack below it and all vector registers of the processor. Blocks of 64 KiB and more are in no
+ * core dump, and read as zero in a forked child. Large blocks have huge pages.
  *
  * The library for x86-64 runs on any such processor. The first call chooses a build for x86-64-v2,
  * x86-64-v3 or x86-64-v4 if the processor has all of its features and the system keeps its
  * registers. The library for ARM64 is one build for any such processor.
  *
- * The caller owes this:
+ * The caller must meet these conditions:
  * - A pointer with a size reaches that many bytes; it may be null if the size is 0, and so may a
- *   salt of some calls. Of other inputs null with a size over 0 is a fault, NULL_PASSWORD to
- *   NULL_ASSOCIATED: a secret that failed to load makes no record and checks none. Other pointers
- *   are never null.
+ *   salt of some calls. Any other null input with a size over 0 is a fault, NULL_PASSWORD to
+ *   NULL_ASSOCIATED, so a secret that failed to load makes no record and checks none. Other
+ *   pointers are never null.
  * - The output of a call doesn't overlap its inputs.
  * - The stack has RIGZUMAL_STACK_SIZE bytes left below the call: threads with a stack of 32 KiB may
  *   call. The memory of a hash is not on the stack, whatever its costs.
- * - No call is made in a signal handler, nor in the child of a process of several threads that
- *   forked and has not called exec. A child that is forked in a handler and goes on with its
- *   parent's call returns a right answer, or ends by abort.
- * - No call is left by longjmp or by asynchronous cancellation: its memory, with what is in it,
- *   would stay mapped for ever.
+ * - The program makes no call in a signal handler, nor, before exec, in a child that a process of
+ *   several threads forked. A child that a handler forks and that goes on with its parent's call
+ *   returns a right answer, or ends by abort.
+ * - The program leaves no call by longjmp or by asynchronous cancellation: the call's memory, with
+ *   its contents, would stay mapped for ever.
  *
- * The ABI: in librigzumal.so.1 no call, structure or number of this header changes. Calls and
- * faults are only added; treat an unknown fault as a refusal. An incompatible change gets another
- * number after ".so". */
+ * The ABI: in librigzumal.so.1 no call, structure or number of this header changes. Later versions
+ * only add calls and faults; treat an unknown fault as a refusal. An incompatible change gets
+ * another number after ".so". */
 #ifndef RIGZUMAL_H
 #define RIGZUMAL_H
 
@@ -83,7 +83,7 @@ enum rigzumal_size {
     RIGZUMAL_TAG_SIZE_MAX = 64
 };
 
-/* The kinds of Argon2, and a number for scrypt. For passwords: Argon2id. */
+/* The kinds of Argon2, and a number for scrypt. For passwords use Argon2id. */
 enum rigzumal_scheme {
     RIGZUMAL_ARGON2D = 0,
     RIGZUMAL_ARGON2I = 1,
@@ -91,7 +91,7 @@ enum rigzumal_scheme {
     RIGZUMAL_SCRYPT = 3
 };
 
-/* The versions of Argon2. For new records: 0x13, which is written v=19. */
+/* The versions of Argon2. For new records use 0x13, which records write as v=19. */
 enum rigzumal_argon2_version { RIGZUMAL_VERSION_10 = 0x10, RIGZUMAL_VERSION_13 = 0x13 };
 
 /* Costs for rigzumal_record. RFC 9106's second recommendation, 64 MiB; and scrypt with 128 MiB. */
@@ -100,7 +100,7 @@ enum rigzumal_argon2_version { RIGZUMAL_VERSION_10 = 0x10, RIGZUMAL_VERSION_13 =
 
 enum rigzumal_fault {
     RIGZUMAL_OK = 0,
-    /* Of a text, or of its parts: the first from the left. */
+    /* Of a text, or of its parts: the first fault from the left. */
     RIGZUMAL_SHAPE = 1,    /* the text lacks its '$' or a field, or has a field too many */
     RIGZUMAL_SCHEME = 2,   /* the scheme is none of argon2d, argon2i, argon2id and scrypt */
     RIGZUMAL_VERSION = 3,  /* unsupported version: settings need 19, records 19 or 16 */
@@ -144,19 +144,19 @@ enum rigzumal_fault {
 /* The version of the library in use, such as "0.2.0". */
 const char *rigzumal_version(void);
 
-/* Releases the memory that is kept between calls to the system, and returns its size. Running calls
- * keep theirs. Use it in a program that hashes seldom: the system maps and clears the memory of the
- * next call again, which takes longer. */
+/* Returns to the system the memory that the library keeps between calls, and returns its size.
+ * Running calls keep their memory. Use this call in a program that seldom hashes: the system maps
+ * and clears the memory of the next call again, which takes longer. */
 size_t rigzumal_trim(void);
 
 /* Bounds the bytes that the library keeps from now on, in whole huge pages of 2 MiB: 0 keeps none,
  * and 134217728 keeps the table of RIGZUMAL_SCRYPT_COSTS, or the memory of two callers at once with
- * RIGZUMAL_ARGON2_COSTS. The call releases the memory that is kept now, and returns the old bound.
- * The first bound is RIGZUMAL_KEEP of the environment, or 64 MiB. */
+ * RIGZUMAL_ARGON2_COSTS. The call releases the kept memory, and returns the old bound. The first
+ * bound is RIGZUMAL_KEEP of the environment, or 64 MiB. */
 size_t rigzumal_keep(size_t most);
 
-/* The same for libargon2.so.1, the drop-in library, which has its own memory and no other call of
- * this header. */
+/* The two calls above for libargon2.so.1, the drop-in library, which has its own memory and no
+ * other call of this header. */
 size_t rigzumal_libargon2_trim(void);
 size_t rigzumal_libargon2_keep(size_t most);
 
@@ -164,14 +164,14 @@ size_t rigzumal_libargon2_keep(size_t most);
 const char *rigzumal_strerror(int fault);
 const char *rigzumal_word(int fault);
 
-/* Returns the fault of a record, a setting or costs: OK, or SHAPE to TOO_LONG. Writes its meaning
- * into text, which has room for text_size bytes, and cuts it off there. The text shows a number
- * that is out of its range with the range: "m=7 is under 8 p (8 KiB)". */
+/* Returns the fault of a record, a setting or costs: OK, or SHAPE to TOO_LONG. Writes the fault's
+ * meaning into text, which has room for text_size bytes, and truncates it there. The text shows a
+ * number that is out of its range with the range: "m=7 is under 8 p (8 KiB)". */
 int rigzumal_explain(char *text, size_t text_size, const char *record);
 
 /* Writes a new record of the password into text, which has room for text_size bytes. The tag gets
  * tag_size bytes. The costs are the front of the record, such as RIGZUMAL_ARGON2_COSTS.
- * If salt is null, the system's getrandom generates salt_size bytes; otherwise give a fresh salt.
+ * If salt is null, the system's getrandom generates salt_size bytes; otherwise pass a fresh salt.
  * If salt_size is 0, the costs already have a salt: "$argon2id$v=19$m=65536,t=3,p=4$c29tZXNhbHQ".
  * Faults: NO_RANDOM; SHAPE to TOO_LONG, of costs and salt as a text; TAG; INPUT_SIZE; MEMORY;
  * NO_ROOM. */
@@ -179,15 +179,15 @@ int rigzumal_record(char *text, size_t text_size, size_t tag_size, const char *c
                     const void *salt, size_t salt_size, const void *password,
                     size_t password_size) RIGZUMAL_CHECK_ANSWER;
 
-/* Whether the password is the record's: OK, otherwise MISMATCH. 0 is right, so compare with
+/* Whether the password is the record's: OK, otherwise MISMATCH. OK is 0, so compare with
  * RIGZUMAL_OK: `if (rigzumal_check(..))` lets everyone in but the user.
  * Faults: SHAPE to TOO_LONG, of the record; INPUT_SIZE; MEMORY. */
 int rigzumal_check(const char *record, const void *password,
                    size_t password_size) RIGZUMAL_CHECK_ANSWER;
 
 /* The two calls above with a secret beside the password: a pepper that the program keeps apart from
- * its records, K of RFC 9106, section 3.1. The text doesn't show the secret; without the
- * same one no password is right. Scrypt has no secret: SCHEME.
+ * its records, K of RFC 9106, section 3.1. The text doesn't show the secret; without the same
+ * secret no password is right. Scrypt has no secret, so these calls refuse scrypt as SCHEME.
  * Faults: those of rigzumal_record and of rigzumal_check; INPUT_SIZE of the secret too. */
 int rigzumal_record_with_secret(char *text, size_t text_size, size_t tag_size, const char *costs,
                                 const void *salt, size_t salt_size, const void *password,
@@ -213,12 +213,12 @@ struct rigzumal_parts {
 };
 
 /* Reads the numbers of a record, or of costs, with or without a salt after them: a text without a
- * tag is no record. By these numbers you can refuse a record that needs too much memory, before
+ * tag is no record. With these numbers you can refuse a record that needs too much memory, before
  * rigzumal_check. Faults: SHAPE to TOO_LONG. */
 int rigzumal_parts(struct rigzumal_parts *parts, const char *text) RIGZUMAL_CHECK_ANSWER;
 
 /* Whether a record needs a rehash: OTHER_COSTS if its scheme, its costs, or the sizes of its salt
- * and tag differ from a new one's, otherwise OK. Rehash after a right login, which has the
+ * and tag differ from a new one's, otherwise OK. Rehash after a right login, when you have the
  * password. If the costs have a salt, salt_size is 0.
  * Faults: SHAPE to TOO_LONG, of the record, and then of the costs. */
 int rigzumal_needs_rehash(const char *record, const char *costs, size_t salt_size,
@@ -233,8 +233,8 @@ enum rigzumal_operation {
     RIGZUMAL_REMOVE = 5   /* remove the record */
 };
 
-/* The replies to them. After ENROLLED, REPLACED, UPGRADED and REMOVED the store has to change the
- * record. The store answers the last two: a step never does. */
+/* The replies to the operations. After ENROLLED, REPLACED, UPGRADED and REMOVED the store has to
+ * change the record. Only the store gives the last two replies. */
 enum rigzumal_reply {
     RIGZUMAL_REPLY_ENROLLED = 1,   /* to an enrol: the account had no record */
     RIGZUMAL_REPLY_EXISTS = 2,     /* to an enrol: the account has a record */
@@ -246,11 +246,11 @@ enum rigzumal_reply {
     RIGZUMAL_REPLY_UPGRADED = 8,   /* to an upgrade */
     RIGZUMAL_REPLY_KEPT = 9,       /* to an upgrade: the record already has these costs */
     RIGZUMAL_REPLY_REMOVED = 10,   /* to a remove */
-    RIGZUMAL_REPLY_CHANGED = 11,   /* the record isn't the copy any more, and stays */
+    RIGZUMAL_REPLY_CHANGED = 11,   /* the record is no longer the copy, and stays */
     RIGZUMAL_REPLY_NO_ACCOUNT = 12 /* the store doesn't have the account */
 };
 
-/* Does one whole operation at a copy of an account's record, for a store that holds the records of
+/* Does one whole operation on a copy of an account's record, for a store that holds the records of
  * accounts, such as a table of a database:
  *
  *     SELECT record FROM accounts WHERE id = ?                         -- the copy, or NULL
@@ -258,25 +258,26 @@ enum rigzumal_reply {
  *     UPDATE accounts SET record = ?                                   -- the text, or NULL
  *         WHERE id = ? AND record IS NOT DISTINCT FROM ?               -- id; the copy, or NULL
  *
- * IS NOT DISTINCT FROM is an = that holds of two NULLs too: MySQL and MariaDB write <=>, and SQLite
- * before 3.39 IS. With = alone an ENROL would never find its copy. Compare bytes, whatever the
- * column's collation.
+ * IS NOT DISTINCT FROM is an = that also holds for two NULLs. MySQL and MariaDB write <=>, and
+ * SQLite before 3.39 writes IS. With = alone an ENROL would never find its copy. Compare bytes,
+ * whatever the column's collation.
  *
  * Without a copy a step computes no hash, except an ENROL. Make a record then, and discard it, so
  * that the answer takes as long.
  *
- * If the store updates a row only if it still has the copy, and compares and writes in one step,
- * its replies are those of one history, in which each operation was done whole at its update. This
- * holds beside any other changes that compare and write so: a reset, a record of another scheme, or
- * a new row, whose copy is no row. If an update changes no row, answer CHANGED, or begin again with
- * the row's record. A reply that makes no change needs a second look instead of the update.
+ * Let the store update a row only if the row still has the copy, and compare the copy and write the
+ * record in one step. The replies are then those of one history, in which each whole operation
+ * happens at its update. This holds beside any other changes that compare and write in this way: a
+ * reset, a record of another scheme, or a new row, whose copy is no row. If an update changes no
+ * row, answer CHANGED, or begin again with the row's record. A reply that makes no change needs a
+ * second look instead of the update.
  *
  * copy is the record's text, or null if the account has none. password is the new password of an
  * ENROL, and otherwise the judged one. A CHANGE reads new_password; an ENROL, a CHANGE and an
  * UPGRADE read setting, which is costs with a fresh salt; others may pass null. A new tag has 32
  * bytes. With OK, reply is one of rigzumal_reply. After ENROLLED, REPLACED and UPGRADED text is the
- * new record, and otherwise it is empty; then text_size may be 0. A password of over 256 bytes is
- * refused; rigzumal_check accepts one of any size. Faults, in this order: NO_OPERATION; COPY;
+ * new record; otherwise text is empty, and text_size may be 0. A step refuses a password of over
+ * 256 bytes; rigzumal_check accepts one of any size. Faults, in this order: NO_OPERATION; COPY;
  * LONG_PASSWORD; SHAPE to TOO_LONG, of the setting; MEMORY; NO_ROOM. */
 int rigzumal_step(char *text, size_t text_size, uint32_t *reply, uint32_t operation,
                   const char *copy, const void *password, size_t password_size,
@@ -319,18 +320,19 @@ int rigzumal_scrypt(void *key, size_t key_size, const struct rigzumal_scrypt *nu
                     const void *password, size_t password_size, const void *salt,
                     size_t salt_size) RIGZUMAL_CHECK_ANSWER;
 
-/* The calls below answer as those of the same names without _threads, but several threads work the
- * lanes of Argon2: up to so many, the caller's among them; 0 means 1. The call uses at most one
- * thread a lane and one for each processor that the caller may run on, and only one below 4 MiB of
- * memory and for scrypt. If the system refuses a thread, the others do its work. They end before
- * the call does; meanwhile they handle no signal, and the caller can't be cancelled. The call
- * clears and unmaps their stacks, of which a core dump has the highest page of each alone, and
- * which read as zero in a child forked meanwhile.
+/* The calls below answer like those of the same names without _threads, but up to `threads` threads
+ * work the lanes of Argon2, the caller's among them; 0 means 1. The call uses at most one thread
+ * for each lane, and for each processor that the caller may run on, and only one below 4 MiB of
+ * memory and for scrypt. If the system refuses a thread, the others do its work. The threads end
+ * before the call does; meanwhile they handle no signal, and nothing can cancel the caller. The
+ * call clears and unmaps their stacks. A core dump has only the highest page of each stack, and a
+ * child forked meanwhile reads the stacks as zero.
  *
- * Use threads to speed up one login on an idle machine. Of 64 MiB, three passes and four lanes, on
- * four processors, a tag took 64 ms on one thread and 23 ms on four (bench/RESULTS.md). A service
- * that has as many logins at once as processors gains nothing: four callers computed a tag every 22
- * ms with one thread each, and every 23 ms with four; at 19 MiB and two passes every 3 and 4 ms. */
+ * Use threads to speed up one login on an idle machine. On four processors, a tag with 64 MiB,
+ * three passes and four lanes took 64 ms on one thread and 23 ms on four (bench/RESULTS.md). A
+ * service that has as many logins at once as processors gains nothing: four callers computed a tag
+ * every 22 ms with one thread each, and every 23 ms with four; with 19 MiB and two passes, every 3
+ * and 4 ms. */
 int rigzumal_argon2_threads(void *tag, size_t tag_size, const struct rigzumal_argon2 *numbers,
                             const void *password, size_t password_size, const void *salt,
                             size_t salt_size, const void *secret, size_t secret_size,
@@ -370,7 +372,7 @@ struct rigzumal_inputs {
 };
 
 /* rigzumal_argon2_threads, and rigzumal_record_threads and rigzumal_check_threads with a secret and
- * associated data too. Scrypt has neither: SCHEME. */
+ * associated data too. Scrypt has neither, so these calls refuse scrypt as SCHEME. */
 int rigzumal_argon2_from(void *tag, size_t tag_size, const struct rigzumal_argon2 *numbers,
                          const struct rigzumal_inputs *inputs) RIGZUMAL_CHECK_ANSWER;
 int rigzumal_record_from(char *text, size_t text_size, size_t tag_size, const char *costs,
@@ -393,8 +395,8 @@ struct rigzumal_step_inputs {
 };
 
 /* rigzumal_step with a secret and threads. With either, C chooses the reply, and only the hashing
- * is proved; without both the proved code chooses. Scrypt has no secret: SCHEME, of the copy and of
- * the setting. */
+ * is proved; without both the proved code chooses the reply. Scrypt has no secret, so with one the
+ * call refuses scrypt as SCHEME, in the copy and in the setting. */
 int rigzumal_step_from(char *text, size_t text_size, uint32_t *reply,
                        const struct rigzumal_step_inputs *inputs) RIGZUMAL_CHECK_ANSWER;
 

@@ -1,5 +1,5 @@
-/* What answers to a password mean for PAM, but for those that differ by operation. Any
- * other one is PAM_AUTHINFO_UNAVAIL. tools/protocol.py writes this file. */
+/* The meanings for PAM of answers to a password, except those that differ by operation.
+ * Any other answer is PAM_AUTHINFO_UNAVAIL. tools/protocol.py writes this file. */
 #ifndef RIGZUMAL_PAM_ANSWERS_H
 #define RIGZUMAL_PAM_ANSWERS_H
 
@@ -9,7 +9,7 @@
 struct answer {
     const char *word;
     int result;
-    const char *text; /* what the user is told, or NULL */
+    const char *text; /* the text for the user, or NULL */
 };
 
 static const struct answer ANSWERS[] = {

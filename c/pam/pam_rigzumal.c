@@ -1,6 +1,6 @@
 /* A PAM module that asks a kept book over a socket of credkeep-server: auth, account, password. The
- * module keeps nothing between two calls and has no static state, so threads may call it at once. A
- * call sends one line and reads one line, on a connection of its own, all before its deadline. */
+ * module keeps nothing between two calls and has no static state, so several threads may call it at
+ * once. A call sends one line and reads one line on its own connection before its deadline. */
 #define _GNU_SOURCE
 #include "answers.h"
 #include "base64.h"
@@ -21,13 +21,14 @@ enum {
     MOST_NAME = 32,      /* bytes of a name in a book */
     MOST_ADDRESS = 254,  /* bytes of an e-mail address */
     MOST_PASSWORD = 256, /* bytes */
-    MOST_LINE = 1024,    /* bytes that are sent: "1 change ", a name and two passwords */
-    MOST_ANSWER = 64,    /* bytes that are read */
+    MOST_LINE = 1024,    /* bytes of a request: "1 change ", a name and two passwords */
+    MOST_ANSWER = 64,    /* bytes of an answer */
     FIRST_PAUSE = 10,    /* milliseconds until the module tries again, which double each time .. */
     LONGEST_PAUSE = 640, /* .. up to these */
 };
 
-/* The answer to a connection for which the server has no room now: it read no line. */
+/* The answer to a connection for which the server has no room now, and from which it read no line.
+ * */
 static const char NO_ROOM[] = "* unavailable";
 
 /* The options, and the fields of the line: a password that the operation doesn't need is NULL. */
@@ -70,7 +71,7 @@ static bool read_option(struct question *question, const char *word) {
            *question->socket == '/' && size < sizeof((struct sockaddr_un *)0)->sun_path;
 }
 
-/* Reads the options, and asks for the user's name if it isn't known yet. */
+/* Reads the options, and asks for the user's name if PAM doesn't know it yet. */
 static int begin(pam_handle_t *pamh, struct question *question, int argc, const char **argv) {
     *question = (struct question){.socket = "/run/rigzumal/users/login.sock", .seconds = 10};
     for (int i = 0; i < argc; i++)
@@ -95,7 +96,7 @@ static bool is_password(const struct question *question, const char *password, i
     return strlen(password) <= MOST_PASSWORD;
 }
 
-/* Whether a name may be sent: with no space and no line end in it, it stays one field. */
+/* Whether the module may send a name: a name without a space and a line end stays one field. */
 static bool is_name(const struct question *question) {
     const char *name = question->name, *at = strrchr(name, '@');
     size_t size = strspn(name, "abcdefghijklmnopqrstuvwxyz0123456789._-");
@@ -107,7 +108,7 @@ static bool is_name(const struct question *question) {
            at != name && at[1] != '\0';
 }
 
-/* Writes a password as a field, or nothing for NULL; returns where it ends. */
+/* Writes a password as a field, or nothing for NULL, and returns the end of the field. */
 static char *put_password(char *text, const char *password) {
     if (password == NULL)
         return text;
@@ -125,8 +126,8 @@ static long milliseconds(void) {
     return now.tv_sec * 1000 + now.tv_nsec / 1000000;
 }
 
-/* A connection, or -1. If too many other clients wait for the server, the call waits behind them.
- * */
+/* Opens a connection, or returns -1. If too many other clients wait for the server, the call waits
+ * behind them. */
 static int connection(const char *path, long deadline) {
     struct sockaddr_un at = {.sun_family = AF_UNIX};
     memcpy(at.sun_path, path, strlen(path));
@@ -144,7 +145,7 @@ static int connection(const char *path, long deadline) {
     return -1;
 }
 
-/* Waits until something can be read or written, or has failed; false at the deadline. */
+/* Waits until the file can be read or written, or has failed. Returns false at the deadline. */
 static bool is_ready(int fd, short events, long deadline) {
     for (long rest; (rest = deadline - milliseconds()) > 0;) {
         struct pollfd it = {.fd = fd, .events = events};
@@ -166,7 +167,7 @@ static bool send_line(int fd, const char *text, size_t size, long deadline) {
     return sent == size;
 }
 
-/* Reads a line, after which nothing may come; a zero byte replaces its end. */
+/* Reads a line, after which nothing may follow, and replaces the line's end by a zero byte. */
 static bool read_answer(int fd, char answer[MOST_ANSWER], long deadline) {
     size_t size = 0;
     while (size < MOST_ANSWER && is_ready(fd, POLLIN, deadline)) {
@@ -182,8 +183,7 @@ static bool read_answer(int fd, char answer[MOST_ANSWER], long deadline) {
     return false;
 }
 
-/* The meaning of the server's line, by its answer. A word that answers no operation is no answer.
- * */
+/* Returns the meaning of the server's line. A word that answers no operation is no answer. */
 static int result_of(pam_handle_t *pamh, const struct operation *operation, const char *line) {
     if (strncmp(line, "1 ", 2) != 0)
         return PAM_AUTHINFO_UNAVAIL;
@@ -210,7 +210,7 @@ static const char *text_item(const pam_handle_t *pamh, int item) {
 }
 
 /* Logs a failed try in the form of pam_unix. The line has the name only if the book has it: another
- * name may be a password that was typed too early. */
+ * name may be a password that the user typed too early. */
 static void log_failure(const pam_handle_t *pamh, const char *name) {
     pam_syslog(pamh, LOG_NOTICE,
                "authentication failure; logname= uid=%u euid=%u tty=%s ruser=%s rhost=%s %s%s",
@@ -231,8 +231,8 @@ static void log_result(pam_handle_t *pamh, const struct question *question,
         pam_syslog(pamh, LOG_DEBUG, "%s: %s", operation->word, pam_strerror(pamh, result));
 }
 
-/* Sends a question's line and reads its answer. A server without room may close before it has read
- * the line. */
+/* Sends a question's line and reads its answer. A server without room may close the connection
+ * before it has read the line. */
 static bool has_answer(int fd, const struct question *question, const struct operation *operation,
                        char answer[MOST_ANSWER], long deadline) {
     char line[MOST_LINE];
@@ -244,7 +244,8 @@ static bool has_answer(int fd, const struct question *question, const struct ope
     return read_answer(fd, answer, deadline) && (is_sent || strcmp(answer, NO_ROOM) == 0);
 }
 
-/* Asks a question, again while the server has no room, and returns the meaning of its answer. */
+/* Asks a question, repeatedly while the server has no room, and returns the meaning of the answer.
+ * */
 static int answer_to(pam_handle_t *pamh, const struct question *question,
                      const struct operation *operation) {
     char answer[MOST_ANSWER];
@@ -255,7 +256,7 @@ static int answer_to(pam_handle_t *pamh, const struct question *question,
         if (!is_answered || strcmp(answer, NO_ROOM) != 0)
             return is_answered ? result_of(pamh, operation, answer) : PAM_AUTHINFO_UNAVAIL;
         long next = milliseconds() + pause;
-        is_ready(-1, 0, next < deadline ? next : deadline); /* no file: it only waits */
+        is_ready(-1, 0, next < deadline ? next : deadline); /* with no file, the call only waits */
         pause = pause < LONGEST_PAUSE ? 2 * pause : pause;
     }
     return PAM_AUTHINFO_UNAVAIL;
@@ -302,7 +303,8 @@ int pam_sm_acct_mgmt(pam_handle_t *pamh, int flags, int argc, const char **argv)
     return result == PAM_SUCCESS ? ask(pamh, &question, &KNOWN) : result;
 }
 
-/* Whether the book has the name; PAM_TRY_AGAIN without an answer, since no change began yet. */
+/* Asks whether the book has the name. Without an answer, returns PAM_TRY_AGAIN, since no change has
+ * begun yet. */
 static int known(pam_handle_t *pamh, const struct question *question) {
     int result = ask(pamh, question, &KNOWN);
     if (result == PAM_NEW_AUTHTOK_REQD)
@@ -320,8 +322,8 @@ static int begin_change(pam_handle_t *pamh, struct question *question) {
     return result == PAM_AUTHINFO_UNAVAIL ? PAM_TRY_AGAIN : result;
 }
 
-/* The second call changes the password. It asks for the new one even if the book lacks the name or
- * doesn't answer: a later module with use_authtok needs the new password. */
+/* The second call changes the password. The call asks for the new one even if the book lacks the
+ * name or doesn't answer: a later module with use_authtok needs the new password. */
 static int finish_change(pam_handle_t *pamh, struct question *question) {
     int found = known(pamh, question), result = PAM_SUCCESS;
     if (found == PAM_SUCCESS)
@@ -336,8 +338,8 @@ static int finish_change(pam_handle_t *pamh, struct question *question) {
     return result == PAM_AUTH_ERR ? PAM_AUTHTOK_ERR : result;
 }
 
-/* Another module's password must be changed. The second call asks for the new one: a later module
- * with use_authtok needs it, and can't ask itself. */
+/* Another module's password must be changed. The second call asks for the new password: a later
+ * module with use_authtok needs it, and can't ask itself. */
 static int pass_expired(pam_handle_t *pamh, int flags) {
     const char *fresh;
     if (flags & PAM_PRELIM_CHECK)

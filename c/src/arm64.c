@@ -24,14 +24,14 @@ void processor_clear_bytes(void *start, size_t size) {
 
 static bool has_masks;
 
-/* Determined before all calls: no function may run between the clearing of the stack and that of
- * the general registers. */
+/* Runs before all calls: no function may run between the clearing of the stack and that of the
+ * general registers. */
 __attribute__((constructor)) static void ask_for_masks(void) {
     has_masks = getauxval(AT_HWCAP) & HWCAP_SVE;
 }
 
-/* The lower halves of v8 to v15 are the caller's. With SVE each is the lower part of a longer
- * register, and such an instruction clears the other part. */
+/* The lower halves of v8 to v15 are the caller's. With SVE each of them is the lower part of a
+ * longer register, and an instruction that writes one clears the other part. */
 static void clear_vectors(void) {
     __asm__ volatile(EIGHT(CLEAR) NEXT_EIGHT(CLEAR_UPPER) UPPER_SIXTEEN(CLEAR)::
                          : "v0", "v1", "v2", "v3", "v4", "v5", "v6", "v7", "v16", "v17", "v18",

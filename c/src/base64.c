@@ -4,12 +4,12 @@ size_t base64_size(size_t size) {
     return size / 3 * 4 + (size % 3 == 0 ? 0 : size % 3 + 1);
 }
 
-/* All ones where the number is below the limit, and otherwise zero: both are below 2^31. */
+/* All ones if the number is below the limit, otherwise zero: both are below 2^31. */
 static uint32_t is_below(uint32_t number, uint32_t limit) {
     return 0u - ((number - limit) >> 31);
 }
 
-/* All ones where first <= number <= last. */
+/* All ones if first <= number <= last, otherwise zero. */
 static uint32_t is_within(uint32_t number, uint32_t first, uint32_t last) {
     return is_below(number, last + 1) & ~is_below(number, first);
 }

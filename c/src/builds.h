@@ -1,7 +1,7 @@
-/* The exports of the crate cred_c, which is compiled for several levels of a processor: a build for
- * each. The crate has the contracts. Its structures are rigzumal_argon2 (Argon2Numbers),
- * rigzumal_scrypt (ScryptNumbers), rigzumal_parts (Parts), those of tag_parts.h, and those below.
- */
+/* The exports of the crate cred_c, which the toolchain compiles for several levels of a processor,
+ * a build for each. The crate has the contracts. Its structures are rigzumal_argon2
+ * (Argon2Numbers), rigzumal_scrypt (ScryptNumbers), rigzumal_parts (Parts), those of tag_parts.h,
+ * and those below. */
 #pragma once
 
 #include "tag_parts.h"
@@ -94,7 +94,7 @@ struct build {
     EXPORTS(POINTER)
 };
 
-/* The best build that this processor runs. */
+/* Returns the best build that this processor runs. */
 const struct build *processor_build(void);
 
 /* Calls an export in that build. */
@@ -105,5 +105,6 @@ const struct build *processor_build(void);
 #define BYTES(start, size) ((size) == 0 ? NOTHING : (bytes)(start)), (size)
 #define TEXT(text) (bytes)(text), strlen(text)
 
-/* The room for a text without its zero byte. A text is never empty, so none fits into none. */
+/* The room for a text without its zero byte. A text is never empty, so no text fits into no room.
+ * */
 #define ROOM(text, size) ((size) == 0 ? NOTHING : (uint8_t *)(text)), (size) == 0 ? 0 : (size)-1

@@ -11,8 +11,8 @@
 
 enum { MOST_LANES = 255, MOST_MEMORY = 2097152, MOST_ROWS = 16777216 };
 
-/* The number behind a label, such as "m=", at the front of a field: 0 if no field has the label.
- * Digits that don't fit count as the largest number. */
+/* Returns the number behind a label, such as "m=", at the front of a field, or 0 if no field has
+ * the label. Digits that don't fit count as the largest number. */
 static uint64_t number_of(const char *text, const char *label) {
     size_t size = strlen(label);
     while ((text = strpbrk(text, "$,")) != NULL) {
@@ -22,7 +22,7 @@ static uint64_t number_of(const char *text, const char *label) {
     return 0;
 }
 
-/* Whether a number that begins at 1 is out of its range; if so, writes the range. */
+/* Returns whether a number is out of its range, which begins at 1, and writes the range if so. */
 static bool is_out(char *text, size_t text_size, char name, uint64_t number, uint64_t most) {
     if (number >= 1 && number <= most)
         return false;

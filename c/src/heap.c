@@ -1,15 +1,15 @@
 /* The memory of the proved code, which calls the three functions named rattle_ and no others, and
  * that of lanes.c.
  *
- * The heap clears every block that a call frees. Small blocks come from the C library. Large ones
- * are cut one behind another from areas of huge pages, so that many lanes get huge pages too; a
- * block larger than such an area gets an area of its own. The heap keeps cleared areas, of 64 MiB
+ * The heap clears every block that a call frees. Small blocks come from the C library. The heap
+ * cuts large ones, one after another, from areas of huge pages, so that many lanes get huge pages
+ * too; a block larger than such an area gets its own area. The heap keeps cleared areas, of 64 MiB
  * in all or the program's bound, for the next call of any thread: that call maps nothing, and the
- * system clears no page for it.
+ * system clears no page for the call.
  *
- * A block is freed on the thread that allocated it, in the same call: the table of blocks is the
- * thread's own, and ends with the call. That table has the sizes: in front of the blocks they would
- * touch pages that may never be used. */
+ * The thread that allocated a block frees it, in the same call: the table of blocks is the thread's
+ * own, and ends with the call. That table has the sizes: in front of the blocks, the sizes would
+ * touch pages that the call may never use. */
 #define _GNU_SOURCE
 #include "heap.h"
 
@@ -72,15 +72,15 @@ static void unmap_area(area it) {
     munmap(start_of(it), size_of(it));
 }
 
-/* The areas that are kept, and the number of their bytes: never more than the most, except for a
- * moment after a call lowers that. The sum counts an area's bytes before the area gets its place,
- * and until it has left. */
+/* The kept areas, and the number of their bytes: never more than the bound, except for a moment
+ * after a call lowers the bound. The sum counts an area's bytes before the area gets its place, and
+ * until the area has left it. */
 
-enum { PLACES = 128 }; /* for 2 GiB in areas that blocks are cut from */
+enum { PLACES = 128 }; /* for 2 GiB in areas from which the heap cuts blocks */
 static _Atomic(area) kept_areas[PLACES];
 static atomic_size_t kept, most_kept = 64 * MIB;
 
-/* Removes the smallest of the kept areas that have this many bytes; 0 if there is none. */
+/* Removes the smallest of the kept areas that have this many bytes, or returns 0. */
 static area take_kept(size_t size) {
     for (;;) {
         area least = 0;
@@ -134,9 +134,9 @@ size_t heap_trim(void) {
     return unmapped;
 }
 
-/* Keeps a cleared area, or as much of it as the bound allows, in the place of smaller ones if
- * necessary. The system may take back the pages that were used: they read as zero either way. It
- * may take the others since an earlier call, and each page that it is told of costs time. */
+/* Keeps a cleared area, or as much of it as the bound allows, instead of smaller ones if necessary.
+ * The system may take back the used pages, which read as zero either way. An earlier call already
+ * let the system take the others, and each page in such a call costs time. */
 static void give_area(area it, size_t used) {
     size_t most = atomic_load(&most_kept);
     if (size_of(it) > most) {
@@ -145,7 +145,7 @@ static void give_area(area it, size_t used) {
     }
     if (most == 0)
         return;
-    size_t told = rounded_up(used, HUGE_PAGE); /* or the system would split one */
+    size_t told = rounded_up(used, HUGE_PAGE); /* otherwise the system would split a huge page */
     madvise(start_of(it), told < size_of(it) ? told : size_of(it), MADV_FREE);
     while (!put_kept(it)) {
         area other = take_kept(0);
@@ -153,13 +153,13 @@ static void give_area(area it, size_t used) {
         if (other == 0)
             return;
     }
-    if (atomic_load(&kept) > atomic_load(&most_kept)) /* it was lowered meanwhile */
+    if (atomic_load(&kept) > atomic_load(&most_kept)) /* another call lowered the bound meanwhile */
         heap_trim();
 }
 
-/* Moves the pages of a kept area to the beginning of a new, larger one. If that fails, the
- * system may have unmapped the pages that they were to replace, and another thread may have mapped
- * there since: the heap leaves that range as it is, and maps another area. */
+/* Moves the pages of a kept area to the beginning of a new, larger one. If that fails, the system
+ * may have unmapped the pages to be replaced, and another thread may have mapped others there
+ * since: the heap leaves that range as it is, and maps another area. */
 static area grown_area(area it, area kept_one) {
     unsigned char *start = start_of(it);
     size_t size = size_of(it), moved = size_of(kept_one);
@@ -179,11 +179,11 @@ static area new_area(size_t size) {
         return it;
     if (size_of(kept_one) < size)
         return grown_area(it, kept_one);
-    unmap_area(it); /* one that was kept until the bound was lowered is enough */
+    unmap_area(it); /* one that the heap kept until a call lowered the bound is enough */
     return kept_one;
 }
 
-/* A kept area, or a new one; if necessary, one in the place of all kept ones. */
+/* Returns a kept area, or a new one; if necessary, a new one that replaces all kept ones. */
 static area take_area(size_t size) {
     area it = take_kept(size);
     if (it == 0)
@@ -199,7 +199,7 @@ size_t heap_keep(size_t size) {
     return before;
 }
 
-/* The environment's bound, in bytes; a text that is no number of 64 bits is ignored. */
+/* Reads the environment's bound, in bytes, and ignores a text that isn't a number of 64 bits. */
 __attribute__((constructor)) static void read_bound(void) {
     const char *text = secure_getenv("RIGZUMAL_KEEP");
     if (text == NULL || *text < '0' || *text > '9')
@@ -220,16 +220,16 @@ __attribute__((destructor)) static void leave_nothing(void) {
 struct block {
     unsigned char *start;
     size_t size;
-    area area; /* 0: it is the C library's */
+    area area; /* 0 for a block of the C library */
 };
 
 static _Thread_local struct {
     struct block *blocks;
     size_t count, room;
-    uint64_t process; /* that took the first of them */
-    area area;        /* the one that blocks are cut from, or 0 */
-    size_t used;      /* the bytes that are cut off from it */
-    size_t most_used; /* of it since it was taken */
+    uint64_t process; /* that took the first block */
+    area area;        /* the area from which the heap cuts blocks, or 0 */
+    size_t used;      /* the bytes of that area in use */
+    size_t most_used; /* the most since the call took it */
 } taken;
 
 static bool has_room_for_block(void) {
@@ -258,7 +258,7 @@ static bool is_area_in_use(area it) {
     return false;
 }
 
-/* Gives the area that blocks were cut from, if it has none. */
+/* Keeps the area from which the heap cut blocks, if no block is left in it. */
 static void give_empty_area(void) {
     if (taken.area == 0 || is_area_in_use(taken.area))
         return;
@@ -266,7 +266,7 @@ static void give_empty_area(void) {
     taken.area = 0;
 }
 
-/* Keeps nothing for a thread whose call has freed all. */
+/* Ends the table of a thread whose call has freed all blocks. */
 static void end_call(void) {
     if (taken.count > 0)
         return;
@@ -276,8 +276,8 @@ static void end_call(void) {
     taken.room = 0;
 }
 
-/* A block of an area that others are cut from too. If there is no memory for such an area, it is as
- * small as possible. */
+/* Cuts a block from an area for several blocks. If the memory is too small for such an area, the
+ * area is as small as possible. */
 static struct block cut_block(size_t size) {
     if (taken.area == 0 || size > size_of(taken.area) - taken.used) {
         give_empty_area();
@@ -306,8 +306,9 @@ static struct block new_block(size_t size) {
     return (struct block){start_of(it), size, it};
 }
 
-/* Frees a block of an area, which is no longer in the table. The area that blocks are cut from
- * stays the thread's until its call has freed all: scrypt takes a table for each of its pieces. */
+/* Frees a block of an area, which is no longer in the table. The area from which the heap cuts
+ * blocks stays the thread's until its call has freed all blocks: scrypt takes a table for each of
+ * its pieces. */
 static void give_area_block(struct block block) {
     size_t at = (size_t)(block.start - start_of(block.area));
     if (block.area == taken.area && at + rounded_up(block.size, LEAST_ALIGN) == taken.used)
@@ -318,7 +319,7 @@ static void give_area_block(struct block block) {
         taken.used = 0;
         return;
     }
-    give_empty_area(); /* first: without room for both, the area given last stays */
+    give_empty_area(); /* first: if the bound has no room for both, the later area stays */
     give_area(block.area, block.size > AREA ? block.size : size_of(block.area));
 }
 
@@ -348,8 +349,8 @@ static struct block struck_out(const void *start) {
     return block;
 }
 
-/* Frees a cleared block, which is no longer in the table. In a child a block of an area was zero
- * all along, and the child's call would return a wrong answer. */
+/* Frees a cleared block, which is no longer in the table. In a child, a block of an area has always
+ * been zero, and the child's call would return a wrong answer. */
 static void give_back(struct block block) {
     if (block.area == 0) {
         free(block.start);
@@ -379,7 +380,7 @@ void *heap_take_zeros(size_t size) {
     struct tried tried = rattle_alloc(size, LEAST_ALIGN);
     if (!tried.ok)
         return NULL;
-    if (taken.blocks[taken.count - 1].area == 0) /* the others are zero */
+    if (taken.blocks[taken.count - 1].area == 0) /* other blocks are zero already */
         memset(tried.start, 0, size);
     return tried.start;
 }

@@ -1,5 +1,5 @@
-/* Memory for the proved code and for callers that clear it themselves, and the memory that is kept
- * between calls. */
+/* Memory for the proved code and for callers that clear it themselves, and the memory that the heap
+ * keeps between calls. */
 #pragma once
 
 #include <stdbool.h>
@@ -16,7 +16,7 @@ struct tried rattle_alloc(size_t size, size_t align);
 struct tried rattle_realloc(void *old, size_t kept, size_t size, size_t align);
 void rattle_dealloc(void *start);
 
-/* This many bytes that are zero, or null if there is too little memory: large ones in huge pages,
+/* Allocates this many bytes of zeros, or returns null if memory is short: large ones in huge pages,
  * in no core dump, and zero in a forked child. */
 void *heap_take_zeros(size_t size);
 
@@ -26,6 +26,6 @@ void heap_give_zeros(void *start);
 /* Releases the kept areas to the system, and returns the number of their bytes. */
 size_t heap_trim(void);
 
-/* Bounds the bytes that are kept from now on, releases all kept areas to the system, and returns
- * the old bound. */
+/* Bounds the bytes that the heap keeps from now on, releases all kept areas to the system, and
+ * returns the old bound. */
 size_t heap_keep(size_t size);

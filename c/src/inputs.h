@@ -1,9 +1,9 @@
-/* The checks of a call's inputs before any of them is read. */
+/* The checks of a call's inputs before the call reads any of them. */
 #pragma once
 
 #include "rigzumal.h"
 
-/* The fault of the first input of a tag that is null though its size isn't 0. */
+/* Returns the fault of a tag's first input that is null though its size isn't 0. */
 static inline int null_fault(const struct rigzumal_inputs *inputs) {
     const struct {
         const void *start;
@@ -19,14 +19,15 @@ static inline int null_fault(const struct rigzumal_inputs *inputs) {
     return RIGZUMAL_OK;
 }
 
-/* The fault of a record's inputs: the salt of a new record may be null, and a check reads none. */
+/* Returns the fault of a record's inputs: the salt of a new record may be null, and a check reads
+ * none. */
 static inline int null_fault_of_record(const struct rigzumal_inputs *inputs) {
     struct rigzumal_inputs others = *inputs;
     others.salt_size = 0;
     return null_fault(&others);
 }
 
-/* The fault of the input of a call that has the password alone. */
+/* Returns the fault of the input of a call that has only a password. */
 static inline int null_password_fault(const void *password, size_t size) {
     return null_fault(&(struct rigzumal_inputs){.password = password, .password_size = size});
 }

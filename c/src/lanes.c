@@ -1,10 +1,10 @@
 /* Calls the parts in the order that tag_parts.h requires, on several threads.
  *
- * The segments of a slice are worked in groups: each alone, or by twos of neighbouring lanes if
- * there are fewer threads than lanes, since two at once take less time than one after the other.
+ * Threads work the segments of a slice in groups: each segment alone, or two of neighbouring lanes
+ * if there are fewer threads than lanes, since two at once take less time than one after the other.
  * Groups have numbers, slice by slice and pass by pass. A thread draws the next number, waits until
- * all groups of the slices before are worked, works its own, and draws again. So each group is
- * worked once, by any free thread. The caller's thread computes the tag, and then all threads clear
+ * all groups of the slices before are done, works its own group, and draws again. So some free
+ * thread works each group, once. The caller's thread computes the tag, and then all threads clear
  * the memory in the same way, segment by segment. */
 #define _GNU_SOURCE
 #include "lanes.h"
@@ -23,11 +23,12 @@
 
 enum { SLICES = 4, MOST_HELPERS = 254, LEAST_STACK = 1024 * 1024 };
 
-/* The largest page that a system has, as some for ARM64: smaller ones divide it. */
+/* The largest page of any system, such as some for ARM64; the size of any smaller page divides it.
+ * */
 enum { PAGE = 64 * 1024 };
 
-/* The part of a helper's stack that a child doesn't get: the pages that are cleared, and one for
- * the gap above them. */
+/* The part of a helper's stack that a child doesn't get: the pages to clear, and one for the gap
+ * above them. */
 enum { HIDDEN_STACK = (CLEARED_STACK + PAGE - 1) / PAGE * PAGE + PAGE };
 
 /* In KiB: from here on four lanes gain by threads on an idle machine. */
@@ -37,7 +38,7 @@ enum { HIDDEN_STACK = (CLEARED_STACK + PAGE - 1) / PAGE * PAGE + PAGE };
 
 struct run {
     const struct task *task;
-    uint64_t process; /* that began it */
+    uint64_t process; /* that began the run */
     struct argon2_block *slices[SLICES];
     size_t segment_size, slice_size; /* in blocks */
     uint32_t lanes_of_group;         /* one or two, but one for the last of an odd number */
@@ -50,9 +51,9 @@ struct run {
     pthread_cond_t more_done;
 };
 
-/* Blocks all signals, and returns the set of those that were blocked before. A thread that waits
- * for others handles no signal: a handler may fork, and in the child no thread would end the wait.
- * A child of before ends here. */
+/* Blocks all signals, and returns the set of the signals blocked before. A thread that waits for
+ * others handles no signal: a handler may fork, and in the child no thread would end the wait. A
+ * child that a handler forked earlier ends here. */
 static sigset_t block_signals(const struct run *run) {
     sigset_t all, before;
     sigfillset(&all);
@@ -106,7 +107,7 @@ static uint8_t work_group(const struct run *run, uint64_t number) {
                 run->slice_size, newest, run->slice_size, own, run->segment_size);
 }
 
-/* Works groups until all are drawn. After a fault it only counts the groups. */
+/* Works groups until threads have drawn all. After a fault the function only counts the groups. */
 static void work_groups(struct run *run) {
     for (;;) {
         uint64_t number = atomic_fetch_add(&run->next_group, 1);
@@ -152,17 +153,17 @@ static void *help(void *run) {
     return NULL;
 }
 
-/* The helpers' stacks, one above another in a mapping of their own, each over a page without
- * access. The C library would keep its own for later threads, and a child would run on what it may
- * not see. */
+/* The helpers' stacks, one above another in a separate mapping, each over a page without access.
+ * The C library would keep its own stacks for later threads, and a child would run on a stack that
+ * it must not see. */
 struct stacks {
     unsigned char *start;
     size_t size; /* of each, with its page below */
     uint32_t count;
 };
 
-/* Each is as large as other threads' stacks, which may have to hold much that is thread-local, and
- * larger where those are small. */
+/* Maps stacks as large as other threads' stacks, which may hold much thread-local data, or larger
+ * if those are small. */
 static bool map_stacks(struct stacks *stacks, pthread_attr_t *attributes) {
     size_t size;
     if (pthread_attr_getstacksize(attributes, &size) != 0 || size < LEAST_STACK)
@@ -173,7 +174,8 @@ static bool map_stacks(struct stacks *stacks, pthread_attr_t *attributes) {
     return stacks->start != MAP_FAILED;
 }
 
-/* The stack is in no core dump but for its highest page, in which debuggers find the thread. */
+/* Starts a helper. Of its stack, a core dump has only the highest page, in which debuggers find the
+ * thread. */
 static bool start_helper(struct run *run, pthread_t *helper, pthread_attr_t *attributes,
                          unsigned char *stack, size_t size) {
     madvise(stack, size - (size_t)sysconf(_SC_PAGESIZE), MADV_DONTDUMP);
@@ -223,7 +225,8 @@ static void give_slices(struct run *run, int count) {
         heap_give_zeros(run->slices[--count]);
 }
 
-/* They lie one behind another in the caller's memory, or where the heap has them. */
+/* Takes the slices, which lie one after another in the caller's memory, or where the heap has them.
+ * */
 static bool take_slices(struct run *run) {
     struct argon2_block *memory = run->task->memory;
     size_t size = run->slice_size;
@@ -242,7 +245,7 @@ static uint8_t work(struct run *run, uint32_t threads) {
     if (!take_slices(run))
         return RIGZUMAL_MEMORY;
     uint8_t fault = run->task->begin(run->task->inputs, run->slices[0], run->slice_size);
-    secrets_clear_traces(); /* of the inputs' hash too, H0 of RFC 9106, section 3.2 */
+    secrets_clear_traces(); /* of the inputs' hash too: H0 of RFC 9106, section 3.2 */
     if (fault == RIGZUMAL_OK) {
         work_with_helpers(run, threads - 1);
         fault = atomic_load(&run->fault);
@@ -285,12 +288,12 @@ uint8_t lanes_work(const struct task *task, uint32_t threads) {
     return fault;
 }
 
-/* The number of processors that this thread may run on. */
+/* Returns the number of processors that this thread may run on. */
 static uint32_t allowed_processors(void) {
     cpu_set_t set;
     if (sched_getaffinity(0, sizeof set, &set) == 0)
         return (uint32_t)CPU_COUNT(&set);
-    long online = sysconf(_SC_NPROCESSORS_ONLN); /* over 1024, say */
+    long online = sysconf(_SC_NPROCESSORS_ONLN); /* for example, over 1024 */
     return online < 1 ? 1 : (uint32_t)online;
 }
 

@@ -1,15 +1,15 @@
 /* The calls of argon2.h, as Debian's libargon2.so.1 has them, over those of rigzumal.h.
  *
- * Inputs are tried in the original's order and refused with its numbers and messages. Inputs that
- * only the original accepts are refused after that, by its nearest number: over 255 lanes, over 2
- * GiB of memory, and a version that isn't 0x10 or 0x13. Strings that are no records here, for a
- * salt of over 48 bytes or a tag of over 64, are read and written in libargon2_strings.c; their
- * tags are proved all the same. Lanes are worked by as many threads as the context has, as the
- * original does, or as are of use; one that can't be started is no fault. A context's callbacks
- * allocate the memory and free it cleared; without callbacks up to 64 MiB, cleared, are kept for
- * the next call, as rigzumal.h says. What flags have cleared is cleared before the memory is
- * filled, as in the original, and what was hashed of it too. The inputs may overlap what is
- * written, but not one another where flags have one of them cleared. */
+ * The calls check inputs in the original's order, and refuse them with its numbers and messages.
+ * After that they refuse inputs that only the original accepts, with its nearest number: over 255
+ * lanes, over 2 GiB of memory, and a version that isn't 0x10 or 0x13. Strings that are no records
+ * here, because the salt has over 48 bytes or the tag over 64, are the work of libargon2_strings.c;
+ * the proved code computes their tags all the same. As many threads work the lanes as the context
+ * has, as in the original, or as are of use; a thread that the system refuses is no fault. A
+ * context's callbacks allocate the memory, and free it cleared. Without callbacks the library keeps
+ * up to 64 MiB, cleared, for the next call, as rigzumal.h says. A call clears the inputs that the
+ * flags name, and their hash, before it fills the memory, as the original does. The inputs may
+ * overlap the output, but not one another if a flag has one of them cleared. */
 #define _GNU_SOURCE
 #include "libargon2.h"
 
@@ -23,7 +23,7 @@
 /* argon2_verify uses a thread for each lane. */
 enum { MOST_LANES = 255 };
 
-/* The number in the original that is nearest to a refusal of the proved code. */
+/* Returns the original's number that is nearest to a refusal of the proved code. */
 static int number_of(int fault) {
     switch (fault) {
     case RIGZUMAL_OK:
@@ -39,7 +39,7 @@ static int number_of(int fault) {
     case RIGZUMAL_TAG_SIZE_FAULT:
         return ARGON2_OUTPUT_TOO_LONG;
     default:
-        return ARGON2_INCORRECT_TYPE; /* whose message is of the version */
+        return ARGON2_INCORRECT_TYPE; /* its message names the version */
     }
 }
 
@@ -51,8 +51,8 @@ static void clear_inputs(const argon2_context *context) {
         explicit_bzero(context->secret, context->secretlen);
 }
 
-/* A cleared input has the size 0. After a refusal it has no place: so a second try is refused
- * too, and isn't of an empty password. */
+/* Gives a cleared input the size 0, or, after a refusal, a null pointer, so that a second call is
+ * refused too, and doesn't use an empty password. */
 static void forget_inputs(argon2_context *context, bool is_done) {
     if (context->flags & FLAG_CLEAR_PASSWORD) {
         context->pwdlen = is_done ? 0 : context->pwdlen;
@@ -64,7 +64,7 @@ static void forget_inputs(argon2_context *context, bool is_done) {
     }
 }
 
-/* A context's tag in parts: by its own numbers, and where to. */
+/* The parts of a context's tag: its own numbers, and the place for the tag. */
 struct tag_in_parts {
     argon2_context *context;
     struct tag_numbers numbers;
@@ -72,7 +72,7 @@ struct tag_in_parts {
     bool *is_begun;
 };
 
-/* After it nobody reads the inputs. */
+/* Begins the tag; after this call nobody reads the inputs. */
 static uint8_t begin_tag(const void *inputs, struct argon2_block *first, size_t count) {
     const struct tag_in_parts *it = inputs;
     const argon2_context *from = it->context;
@@ -95,7 +95,7 @@ static struct rigzumal_argon2 numbers_of(const argon2_context *context, argon2_t
                                     context->t_cost, context->lanes};
 }
 
-/* As the original does: the answer of allocate is ignored, and a null pointer is a refusal. */
+/* Ignores the answer of allocate, and takes a null pointer as a refusal, as the original does. */
 static uint8_t *memory_of(const argon2_context *context, size_t size) {
     uint8_t *memory = NULL;
     context->allocate_cbk(&memory, size);
@@ -135,7 +135,8 @@ static int make_tag_in_parts(uint8_t *tag, argon2_context *context, argon2_type 
     return fault;
 }
 
-/* With a flag in parts, whose later ones need no input; without, one export does all of it. */
+/* Computes the tag: with a flag in parts, of which the later ones need no input, otherwise in one
+ * export. */
 static int make_tag(uint8_t *tag, argon2_context *context, argon2_type type) {
     if (context->allocate_cbk != NULL || context->flags & (FLAG_CLEAR_PASSWORD | FLAG_CLEAR_SECRET))
         return cleared(make_tag_in_parts(tag, context, type));
@@ -152,7 +153,7 @@ PUBLIC int argon2_ctx(argon2_context *context, argon2_type type) {
         return number;
     if (argon2_type2string(type, 0) == NULL)
         return ARGON2_INCORRECT_TYPE;
-    uint8_t *tag = malloc(context->outlen); /* as the caller's may overlap the inputs */
+    uint8_t *tag = malloc(context->outlen); /* the caller's room may overlap the inputs */
     if (tag == NULL)
         return ARGON2_MEMORY_ALLOCATION_ERROR;
     number = number_of(make_tag(tag, context, type));
@@ -233,8 +234,8 @@ static int verify_read(argon2_context *read, argon2_type type) {
     return number;
 }
 
-/* Verifies a string that is no record here, or finds the number by which the original refuses it.
- * The text begins behind its type's name. */
+/* Verifies a string that is no record here, or finds the number with which the original refuses it.
+ * The text begins after its type's name. */
 static int verify_string(const char *text, const void *pwd, size_t pwdlen, argon2_type type) {
     size_t room = strlen(text) + 1;
     if (room > UINT32_MAX)

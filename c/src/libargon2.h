@@ -67,12 +67,12 @@ int argon2_hash(uint32_t t_cost, uint32_t m_cost, uint32_t parallelism, const vo
                 char *encoded, size_t encodedlen, argon2_type type, uint32_t version);
 int argon2_verify(const char *encoded, const void *pwd, size_t pwdlen, argon2_type type);
 
-/* The original's fault of the inputs: the first in its order. */
+/* Returns the original's fault of the inputs: the first in its order. */
 int fault_of_context(const argon2_context *context);
 
-/* Reads a string behind its type's name, by the original's rules: the numbers, and salt and tag
- * into the room that the context has for them, of as many bytes as the string. Its version is 0x10
- * where none stands there. Answers where the reading ended, or null if a field isn't there. */
+/* Reads a string after its type's name, by the original's rules: the numbers, and the salt and tag
+ * into the context's room for them, of as many bytes as the string. A string without a version has
+ * 0x10. Returns the place where the reading ended, or null if a field is missing. */
 const char *read_string(argon2_context *read, const char *text);
 
 /* Writes the string of a context and its tag, or returns false if it doesn't fit. */

@@ -9,7 +9,7 @@
 #include <stdlib.h>
 #include <string.h>
 
-/* Each of these reads from *text on, and advances *text, or returns false. */
+/* Each of these functions reads from *text on, and advances *text, or returns false. */
 
 static bool read_word(const char **text, const char *word) {
     size_t size = strlen(word);
@@ -29,14 +29,14 @@ static bool read_number(const char **text, uint32_t *number) {
     return read <= UINT32_MAX;
 }
 
-/* A char below zero reads as '/', as in the original: there is none where chars have no sign, as on
- * ARM64. Which letters there are decides nothing but the end. */
+/* A char below zero reads as '/', as in the original; on ARM64, chars have no sign, and none is
+ * below zero. The letters decide only where the reading ends. */
 static int value_of(char letter) {
     uint8_t is_negative = (uint8_t)(0u - ((uint32_t)letter >> 31));
     return base64_value((uint8_t)(((uint8_t)letter & ~is_negative) | ('/' & is_negative)));
 }
 
-/* Base64, whose bits that stand for no byte are zero, into as many bytes as there is room for. */
+/* Reads base64 into as many bytes as the room has; the bits that stand for no byte must be zero. */
 static bool read_bytes(const char **text, uint8_t *to, uint32_t *size) {
     uint32_t waiting = 0, count = 0;
     int bits = 0, value;

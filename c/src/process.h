@@ -3,10 +3,10 @@
 
 #include <stdint.h>
 
-/* The number of this process, which no child of it has, nor a child of a child. */
+/* Returns the number of this process, which no child of the process has, nor a child's child. */
 uint64_t process_number(void);
 
 /* Ends this process, with a message on standard error, if it had another number when the call
- * began. Then it is a child, forked in a signal handler, that went on with its parent's call, and
- * has neither the call's memory nor its threads. */
+ * began. The process is then a child, forked in a signal handler, that went on with its parent's
+ * call, and has neither the call's memory nor its threads. */
 void process_end_child_of(uint64_t number);

@@ -1,10 +1,10 @@
-/* The part that each processor has in a file of its own, such as x86_64.c, which has
- * processor_build of builds.h too. */
+/* The part that each processor has in its own file, such as x86_64.c, which has processor_build of
+ * builds.h too. */
 #pragma once
 
 #include <stddef.h>
 
-/* Clears a multiple of 16 bytes with no further call, which could reach below a stack. */
+/* Clears a multiple of 16 bytes without a further call, which could reach below a stack. */
 void processor_clear_bytes(void *start, size_t size);
 
 /* Clears the general registers that a call need not preserve, and every vector and mask register

@@ -63,7 +63,7 @@ int rigzumal_step(char *text, size_t text_size, uint32_t *reply, uint32_t operat
     if (fault != RIGZUMAL_OK)
         return fault;
     size_t written = 0;
-    /* The export takes an empty copy for none; here it is a text that is no record. */
+    /* To the export an empty copy is no copy; here an empty text is no record. */
     if (copy != NULL && copy[0] == '\0')
         copy = "$";
     struct step_inputs inputs = {operation, TEXT_OR_NONE(copy), BYTES(password, password_size),

@@ -5,7 +5,7 @@
 #include <stddef.h>
 
 /* The bytes of the stack that a call clears: a fifth more than the deepest call uses, with lazy
- * binding too, which tests/stacks.c measures. It fits into RIGZUMAL_STACK_SIZE. */
+ * binding too, which tests/stacks.c measures. The number fits into RIGZUMAL_STACK_SIZE. */
 enum { CLEARED_STACK = 22 * 1024 };
 
 /* Clears the stack below the caller's frame, and the registers: call it after all work on secrets.

@@ -14,11 +14,12 @@ struct setting {
     size_t size;                    /* without it */
 };
 
-/* Puts the salt behind the costs, if its size isn't 0; generates the salt if it is null.
+/* Appends the salt to the costs, if its size isn't 0, and generates the salt if it is null.
  * Faults: TOO_LONG, NO_RANDOM. */
 int setting_make(struct setting *setting, const char *costs, const void *salt, size_t salt_size);
 
-/* The size of a tag for the proved code, which refuses one that doesn't fit as it refuses 0. */
+/* Returns the size of a tag for the proved code: 0, which that code refuses, if the size doesn't
+ * fit. */
 static inline uint32_t narrow_tag_size(size_t size) {
     return size > UINT32_MAX ? 0 : (uint32_t)size;
 }

@@ -1,5 +1,5 @@
-/* A step with a secret or with threads: the replies of the proved step, by the calls that check a
- * record and write one. A wrong password makes no record here. */
+/* A step with a secret or with threads: the replies of the proved step, with the calls that check a
+ * record and write one. After a wrong password this file writes no record. */
 #include "builds.h"
 #include "inputs.h"
 #include "secrets.h"
@@ -26,7 +26,7 @@ static struct rigzumal_inputs inputs_of(const struct rigzumal_step_inputs *step,
                                     .threads = step->threads};
 }
 
-/* The fault of a step before any hash. */
+/* Returns the fault of a step before any hash. */
 static int fault_of_step(const struct rigzumal_step_inputs *inputs) {
     uint32_t operation = inputs->operation;
     struct rigzumal_inputs judged = inputs_of(inputs, false), made = inputs_of(inputs, true);

@@ -1,19 +1,19 @@
-/* Argon2 in parts, for lanes that are worked by several threads. Each part is proved in the crate.
- * No proof says that the parts are called in this order:
+/* Argon2 in parts, for lanes on several threads. Each part is proved in the crate. No proof says
+ * that C calls the parts in this order:
  *
- * - All calls for a tag have the same numbers. All calls for a record have what the text's reading
- *   wrote, unchanged, and its numbers.
- * - The memory is four slices, apart from one another and from all else, whose bytes were written
- *   before. Each has a segment for each lane, one behind another. Nobody else writes there.
- * - begin is called once, with the first slice, before all others.
- * - Then for g = 0, 1, .. 4 * passes - 1, segment is called once for each lane, with pass g / 4 and
+ * - All calls for a tag have the same numbers. All calls for a record have the result of the text's
+ *   reading, unchanged, and the numbers in it.
+ * - The memory is four slices, apart from one another and from all else, whose bytes C wrote
+ *   before. Each slice has a segment for each lane, one after another. Nobody else writes there.
+ * - C calls begin once, with the first slice, before all other parts.
+ * - Then for g = 0, 1, .. 4 * passes - 1, C calls segment once for each lane, with pass g / 4 and
  *   slice g % 4. Its own blocks are the lane's in slice g % 4; oldest, middle and newest are the
- *   slices (g + 1) % 4, (g + 2) % 4 and (g + 3) % 4.
- *   Or two_segments is called for a lane and the next one, in place of their two calls. Its own
- *   blocks are those of both.
- * - A segment's call begins when all calls for a smaller g are over, and what they wrote is seen.
- * - end is called once, with the last slice, when all segments are worked.
- * - Only then are the slices cleared; all four are, whatever was answered.
+ *   slices (g + 1) % 4, (g + 2) % 4 and (g + 3) % 4. Or C calls two_segments for a lane and the
+ *   next one, instead of their two calls. Its own blocks are those of both lanes.
+ * - A segment's call begins when all calls for a smaller g are over, and sees everything that they
+ *   wrote.
+ * - C calls end once, with the last slice, after the work on all segments.
+ * - Only then does C clear the slices, all four of them, whatever the answer was.
  * - After an answer that isn't 0 there is no further call. */
 #pragma once
 
@@ -32,7 +32,7 @@ struct tag_numbers {
     uint32_t tag_size;
 };
 
-/* The place of a segment; all numbers are counted from 0. */
+/* The place of a segment; all numbers begin at 0. */
 struct segment_index {
     uint32_t pass, slice, lane;
 };

@@ -11,7 +11,7 @@ int rigzumal_setting_fault(const char *setting) {
     return cleared(CALL(cred_setting_fault, TEXT(setting)));
 }
 
-/* A salt of 8 bytes and a tag of 4, to make a record of costs and of a setting. */
+/* A salt of 8 bytes and a tag of 4, which make costs and a setting into a record. */
 static const char any_salt[] = "$AAAAAAAAAAA", any_tag[] = "$AAAAAA";
 
 /* Reads a text, with these texts after it, as a record, if all but the tag is a setting. */
@@ -30,7 +30,7 @@ static uint8_t read_longer(struct rigzumal_parts *parts, const char *text, const
     return CALL(cred_record_parts, longer, size + strlen(any_tag), parts);
 }
 
-/* A setting that is read as a record lacks a field, and so do costs that are read as a setting. */
+/* A setting lacks a field of a record, and costs lack a field of a setting. */
 int rigzumal_parts(struct rigzumal_parts *parts, const char *text) {
     struct rigzumal_parts read;
     uint8_t fault = CALL(cred_record_parts, TEXT(text), &read);

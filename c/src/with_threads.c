@@ -1,13 +1,13 @@
-/* The calls of rigzumal.h with threads. A task's begin and end are the crate's, and its lanes are
- * worked by lanes.c. If one thread is enough, or if a text has a fault or is scrypt's, one export
- * does all of the work. */
+/* The calls of rigzumal.h with threads. A task's begin and end are the crate's, and lanes.c works
+ * its lanes. If one thread is enough, or if a text has a fault or is scrypt's, one export does all
+ * of the work. */
 #define _GNU_SOURCE
 #include "inputs.h"
 #include "lanes.h"
 #include "secrets.h"
 #include "setting.h"
 
-/* The inputs of a tag, and the place where it is written. */
+/* The inputs of a tag, and the place for the tag. */
 struct tag_inputs {
     const struct tag_numbers *numbers;
     const struct rigzumal_inputs *inputs;

@@ -18,8 +18,8 @@ struct features {
 };
 
 /* The levels that a processor may have, each with the features that the one before lacks. The code
- * asks for each feature, as compilers know the levels' names only since gcc 12 and clang 16. A
- * level that lacks one is not chosen: a compiled build may use any of its features. */
+ * asks for each feature, as compilers know the levels' names only since gcc 12 and clang 16. The
+ * code doesn't choose a level without one of its features: a compiled build may use any of them. */
 static const struct level {
     struct features added;
     const struct build *build;
@@ -35,7 +35,7 @@ static const struct level {
      &build_v4},
 };
 
-/* With AVX512VL instructions on the upper registers may be narrow: wide ones slow some processors
+/* With AVX512VL, instructions on the upper registers may be narrow: wide ones slow some processors
  * down for a while. */
 static const struct features of_avx = {bit_OSXSAVE, 0, 0, WIDE_STATES};
 static const struct features of_avx512 = {bit_OSXSAVE, bit_AVX512F, 0, WIDEST_STATES};
@@ -74,8 +74,8 @@ static bool has(const struct features *found, const struct features *wanted) {
            (found->kept & wanted->kept) == wanted->kept;
 }
 
-/* The answer to a question, never 0; the code asks once, since a virtual machine answers slowly,
- * and threads that ask at once get the same answer. */
+/* Returns the answer to a question, never 0. The code asks once, since a virtual machine answers
+ * slowly, and threads that ask at once get the same answer. */
 static int asked_once(_Atomic(int) *known, int (*ask)(const struct features *found)) {
     int answer = atomic_load_explicit(known, memory_order_relaxed);
     if (answer == 0) {
@@ -86,7 +86,7 @@ static int asked_once(_Atomic(int) *known, int (*ask)(const struct features *fou
     return answer;
 }
 
-/* Levels whose build the toolchain couldn't make are left out. */
+/* Returns the best level, without those that the toolchain couldn't build. */
 static int level_of(const struct features *found) {
     int level = 1, count = sizeof levels / sizeof levels[0];
     while (level < count && has(found, &levels[level].added) &&
@@ -104,8 +104,8 @@ void processor_clear_bytes(void *start, size_t size) {
     __asm__ volatile("rep stosb" : "+D"(start), "+c"(size) : "a"(0) : "memory");
 }
 
-/* All vector registers that there are, whatever build the proved code has: the C library copies and
- * clears in zmm16 to zmm31 where it finds AVX-512. */
+/* All vector registers of the processor, whatever build the proved code has: the C library copies
+ * and clears in zmm16 to zmm31 if it finds AVX-512. */
 enum vectors { SSE_ONLY = 1, WITH_AVX, WITH_AVX512, WITH_NARROW_FORMS };
 
 static int vectors_of(const struct features *found) {
@@ -117,13 +117,13 @@ static int vectors_of(const struct features *found) {
 }
 
 #define CLEAR(n) "pxor %%xmm" #n ", %%xmm" #n "\n\t"
-#ifndef CLEAR_NARROW /* a test sees that they aren't run where they don't exist */
+#ifndef CLEAR_NARROW /* a test sees that processors without them don't run them */
 #define CLEAR_NARROW(n) "vpxord %%xmm" #n ", %%xmm" #n ", %%xmm" #n "\n\t"
 #endif
 #define CLEAR_WIDEST(n) "vpxord %%zmm" #n ", %%zmm" #n ", %%zmm" #n "\n\t"
 #define CLEAR_MASK(n) "kxorw %%k" #n ", %%k" #n ", %%k" #n "\n\t"
 
-/* The others hold no value of a compiler's: the library is built for any x86-64 processor. */
+/* A compiler puts no value into the others: the library is built for any x86-64 processor. */
 #define CHANGED                                                                                    \
     "xmm0", "xmm1", "xmm2", "xmm3", "xmm4", "xmm5", "xmm6", "xmm7", "xmm8", "xmm9", "xmm10",       \
         "xmm11", "xmm12", "xmm13", "xmm14", "xmm15"

@@ -18,7 +18,7 @@ class CompareAndSetUserProvider extends EloquentUserProvider
         for ($turn = 0; $turn < 8; $turn++) {
             $record = (string) $user->getAuthPassword();
             if (!$user->exists || password_get_info($record)['algo'] === null) {
-                $this->hasher->make($credentials['password']); // so that the answer needs as long
+                $this->hasher->make($credentials['password']); // so that the answer takes as long
                 return false;
             }
             if (!$this->hasher->check($credentials['password'], $record)) {
@@ -39,7 +39,7 @@ class CompareAndSetUserProvider extends EloquentUserProvider
         return false;
     }
 
-    /** Puts a record of the password over the one that was judged; false if another one is there. */
+    /** Replaces the checked record by one of the password; returns false if the row has another. */
     public function put(Authenticatable $user, string $record, string $password): bool
     {
         $new = $this->hasher->make($password);
@@ -52,7 +52,7 @@ class CompareAndSetUserProvider extends EloquentUserProvider
         return true;
     }
 
-    /** Puts the new password if the old one is right. */
+    /** Writes the new password if the old one is right. */
     public function change(Authenticatable $user, string $old, string $new): bool
     {
         for ($turn = 0; $turn < 8; $turn++) {
@@ -68,6 +68,6 @@ class CompareAndSetUserProvider extends EloquentUserProvider
 
     public function rehashPasswordIfRequired(Authenticatable $user, array $credentials, bool $force = false)
     {
-        // done, with a comparison, by validateCredentials
+        // validateCredentials does this, with a comparison
     }
 }

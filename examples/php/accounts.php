@@ -1,8 +1,8 @@
-<?php // Accounts over PDO, to copy: docs/PHP.md says what to do with them.
+<?php // Accounts over PDO, to copy: docs/PHP.md says how to use them.
 const COSTS = ['memory_cost' => 65536, 'time_cost' => 3, 'threads' => 4];
-const TURNS = 8; // how often another record may be found in the place of the one that was judged
+const TURNS = 8; // how often the row may have another record than the checked one
 
-/** The id and the record of a name, or null; of an id with 'id' in the place of 'name'. */
+/** Returns the id and the record of a name, or, with 'id' instead of 'name', of an id; or null. */
 function read(PDO $db, string|int $whose, string $column = 'name'): ?array
 {
     $select = $db->prepare("SELECT id, record FROM users WHERE $column = ? AND record IS NOT NULL");
@@ -10,7 +10,7 @@ function read(PDO $db, string|int $whose, string $column = 'name'): ?array
     return $select->fetchAll(PDO::FETCH_NUM)[0] ?? null;
 }
 
-/** Whether the record is one of the password; without a record the answer needs as long. */
+/** Whether the record is one of the password; without a record the answer takes as long. */
 function judge(#[SensitiveParameter] string $password, ?string $record): bool
 {
     if (password_get_info((string) $record)['algo'] === null) {
@@ -20,7 +20,7 @@ function judge(#[SensitiveParameter] string $password, ?string $record): bool
     return password_verify($password, $record);
 }
 
-/** The user with a record of the password in the place of the one given; null if the row has another one. */
+/** Replaces the user's record by one of the password, and returns the user; null if the row has another record. */
 function put(PDO $db, array $user, #[SensitiveParameter] string $password): ?array
 {
     $record = password_hash($password, PASSWORD_ARGON2ID, COSTS);
@@ -29,7 +29,7 @@ function put(PDO $db, array $user, #[SensitiveParameter] string $password): ?arr
     return $update->rowCount() === 1 ? [$user[0], $record] : null;
 }
 
-/** The user, if the password is right; a record of old costs is rehashed. */
+/** Returns the user if the password is right, and rehashes a record with old costs. */
 function login(PDO $db, string $name, #[SensitiveParameter] string $password): ?array
 {
     $user = read($db, $name);
@@ -47,7 +47,7 @@ function login(PDO $db, string $name, #[SensitiveParameter] string $password): ?
     return null;
 }
 
-/** The user with the new password, if the old one is right. */
+/** Changes the password if the old one is right, and returns the user. */
 function change(PDO $db, int $id, #[SensitiveParameter] string $old, #[SensitiveParameter] string $new): ?array
 {
     for ($turn = 0; $turn < TURNS; $turn++) {
@@ -62,26 +62,26 @@ function change(PDO $db, int $id, #[SensitiveParameter] string $old, #[Sensitive
     return null;
 }
 
-/** The value that a session keeps of a user: put it into $_SESSION after session_regenerate_id(true). */
+/** Returns a session's value for a user: put it into $_SESSION after session_regenerate_id(true). */
 function session(array $user): array
 {
     return ['id' => $user[0], 'of' => hash('sha256', $user[1])];
 }
 
-/** The id whose session this is; null once the record it began with is replaced. */
+/** Returns the id whose session this is, or null once another record has replaced the session's. */
 function who(PDO $db, ?array $session): ?int
 {
     $user = $session ? read($db, $session['id'], 'id') : null;
     return $user && hash_equals($session['of'], hash('sha256', $user[1])) ? $user[0] : null;
 }
 
-/** A link's token for a reset. It ends at a time, and with the record; the key is the service's own. */
+/** Returns a link's token for a reset, which ends at a time, and with the record; the key is the service's own. */
 function reset_token(array $user, #[SensitiveParameter] string $key, int $until): string
 {
     return $until . '.' . hash_hmac('sha256', "reset $until $user[0] $user[1]", $key);
 }
 
-/** The user with the new password, if the token is the one of this user's record, and in time. */
+/** Sets the new password if the token is in time and of this user's record, and returns the user. */
 function reset_password(
     PDO $db, int $id, #[SensitiveParameter] string $key, string $token, #[SensitiveParameter] string $new
 ): ?array {

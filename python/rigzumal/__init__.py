@@ -12,7 +12,7 @@ password.
 
 import sys
 
-if sys.version_info < (3, 9):  # before what older ones can't even read
+if sys.version_info < (3, 9):  # before the modules that older versions can't even parse
     raise ImportError("rigzumal needs Python 3.9 or later; this is " + sys.version.split()[0])
 
 from rigzumal._hashers import LowMemoryWarning, PasswordHasher, ScryptHasher, Type, argon2, scrypt

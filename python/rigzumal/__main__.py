@@ -26,7 +26,7 @@ _LEAST_TARGET, _MOST_TARGET = 10, 60_000
 
 
 def _target(text: str) -> float:
-    """The argument of --target-ms: the milliseconds of a login."""
+    """Reads the argument of --target-ms, the milliseconds of a login."""
     try:
         target = float(text)
     except ValueError:
@@ -114,7 +114,7 @@ def _calibrate(given: argparse.Namespace) -> int:
 
 
 def _hint_at(record: str) -> str:
-    """A hint about a record of another program, in words for people."""
+    """Returns a hint about a record of another program, in words for people."""
     quote = "put the record in single quotes, so that the shell keeps its $"
     return none_of_ours(record) or ("" if record.startswith("$") else quote)
 

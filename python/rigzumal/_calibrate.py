@@ -23,7 +23,7 @@ class Measured(NamedTuple):
 
 
 def measured(hasher: PasswordHasher, turns: int = 5) -> Measured:
-    """The best time of several hashes, after a first one that doesn't count."""
+    """Measures the best time of several hashes, after a first one that doesn't count."""
     times = []
     for _ in range(turns + 1):
         begun = time.perf_counter()
@@ -41,7 +41,7 @@ def is_safe(hasher: PasswordHasher) -> bool:
 def trials(
     target: float, memory: int, lanes: int, threads: int = 1, below: bool = False
 ) -> Iterator[Measured]:
-    """The costs to try, in order; the last ones are the result.
+    """Yields the costs to try, in order; the last ones are the result.
 
     As RFC 9106, section 4, advises, the trials use all of the memory (KiB), and then as many passes
     as the target (milliseconds) allows. If a single pass takes too long, the trials use less
@@ -70,7 +70,7 @@ def trials(
 
 
 def why_busy() -> Optional[str]:
-    """A warning if other processes may be using the processors, otherwise None."""
+    """Returns a warning if other processes may be using the processors, otherwise None."""
     load, processors = os.getloadavg()[0], os.cpu_count() or 1
     if load <= processors / 2:
         return None

@@ -21,13 +21,13 @@ _UNITS = {"K": 1, "M": 1024, "G": 1024 * 1024}
 class Status(enum.IntEnum):
     """An exit status."""
 
-    DONE = 0  # the command is done, or the answer is yes
-    WORDS = 1  # a word of the command line was refused
+    DONE = 0  # the command succeeded, or the answer is yes
+    WORDS = 1  # the command refused a word of the command line
     STREAM = 2  # reading or writing failed, or the system had no random bytes
-    MEMORY = 3  # there was too little memory
+    MEMORY = 3  # the free memory was too small
     NO = 4  # the answer is no
     DATABASE = 5  # the database failed, is missing, or has a fault
-    INPUT = 6  # the input was refused: a password, or a line of an import
+    INPUT = 6  # the command refused its input: a password, or a line of an import
 
 
 class Refusal(Exception):
@@ -89,7 +89,7 @@ class Words(argparse.ArgumentParser):
 
 
 def _options_of(words: argparse.ArgumentParser, command: str) -> Iterator[str]:
-    """The options of a parser, and of one of its commands."""
+    """Yields the options of a parser, and of one of its commands."""
     yield from words._option_string_actions
     for action in words._actions:
         if isinstance(action, argparse._SubParsersAction) and command in action.choices:
@@ -97,8 +97,7 @@ def _options_of(words: argparse.ArgumentParser, command: str) -> Iterator[str]:
 
 
 def _unknown(word: str, options: Sequence[str]) -> str:
-    """The fault of an argument at a command with these options; the text doesn't show the
-    argument."""
+    """Describes the fault of an argument at a command with these options, without the argument."""
     if not word.startswith("-"):
         return "one argument too many; a password is never an argument: pipe or type it"
     said, meant = "an unknown option, which isn't shown", _meant(word, options)
@@ -106,7 +105,7 @@ def _unknown(word: str, options: Sequence[str]) -> str:
 
 
 def _meant(word: str, options: Sequence[str]) -> str:
-    """The options that an unknown option may mean; empty if none."""
+    """Returns the options that an unknown option may mean, or an empty text."""
     synonym = _SYNONYMS.get(word)
     if synonym is None:
         return "".join(difflib.get_close_matches(word, options, 1, 0.7))
@@ -114,14 +113,15 @@ def _meant(word: str, options: Sequence[str]) -> str:
 
 
 def status_of(fault: Exception) -> Status:
-    """The exit status for a fault of the library, or of an argument."""
+    """Returns the exit status for a fault of the library, or of an argument."""
     if isinstance(fault, OutOfMemoryError):
         return Status.MEMORY
     return Status.STREAM if isinstance(fault, NoRandomError) else Status.WORDS
 
 
 def ended(command: Callable[[], int]) -> int:
-    """The exit status of a command, even if it is refused or interrupted, or loses its streams."""
+    """Runs a command, and returns its exit status even after a refusal, an interrupt or a broken
+    stream."""
     try:
         with warnings.catch_warnings():
             warnings.simplefilter("ignore", LowMemoryWarning)  # `memory` has a line of its own
@@ -139,14 +139,14 @@ def ended(command: Callable[[], int]) -> int:
 
 
 def positive(text: str) -> int:
-    """A number of 1 or more."""
+    """Reads a number of 1 or more."""
     if not (text.isascii() and text.isdigit() and int(text) > 0):
         raise argparse.ArgumentTypeError(f"{text!r} is not 1 or more")
     return int(text)
 
 
 def memory(text: str) -> int:
-    """The KiB of a number with its unit: 64M, 1G, 65536K or 65536."""
+    """Returns the KiB of a number with its unit: 64M, 1G, 65536K or 65536."""
     unit = text[-1:].upper()
     number = text[:-1] if unit in _UNITS else text
     if not (number.isascii() and number.isdigit()):
@@ -170,7 +170,7 @@ def add_costs(words: argparse.ArgumentParser) -> None:
 
 
 def hasher_of(given: argparse.Namespace) -> Union[PasswordHasher, ScryptHasher]:
-    """The hasher of these costs; raises Refusal for a cost of the other scheme."""
+    """Builds the hasher of these costs, and raises Refusal for a cost of the other scheme."""
     asked = {name: it for name, it in vars(given).items() if it is not None}
     of, others = _OF_ARGON2, _OF_SCRYPT
     hint = "for scrypt: add --scrypt"
@@ -183,9 +183,9 @@ def hasher_of(given: argparse.Namespace) -> Union[PasswordHasher, ScryptHasher]:
 
 
 def read_password(prompt: str = "Password", *, is_new: bool = False) -> bytes:
-    """The password: all of standard input, or what the user types, twice for a new one.
+    """Reads the password: all of standard input, or the user's typing, twice for a new password.
 
-    Raises Refusal if the two differ, if no password was typed, or if reading fails.
+    Raises Refusal if the two differ, if the user types none, or if reading fails.
     """
     if sys.stdin is None:
         raise Refusal("standard input is closed", Status.STREAM)
@@ -206,7 +206,7 @@ def is_empty(password: bytes) -> bool:
 
 
 def hint(password: bytes, is_right: Callable[[bytes], bool]) -> Optional[str]:
-    """Advice, if the password would be right with a different line end; otherwise None."""
+    """Returns advice if the password would be right with a different line end, otherwise None."""
     newlines = "`printf %s` adds no newline, but `echo` does"
     bare = password[:-1] if password.endswith(b"\n") else password
     if bare != password:

@@ -1,4 +1,4 @@
-"""A base class for immutable values with names. Dataclasses would do the same, but importing their
+"""A base class for immutable values with names. Dataclasses would serve too, but importing their
 module takes longer than importing this package."""
 
 from __future__ import annotations
@@ -22,19 +22,19 @@ class Frozen:
         self._set(**given)
 
     def _set(self, **values: object) -> None:
-        """Sets the attributes, in the order in which they are shown."""
+        """Sets the attributes, in the order in which the repr shows them."""
         vars(self).update(values)
 
     def _shown(self) -> dict[str, object]:
-        """The attributes that the repr shows."""
+        """Returns the attributes that the repr shows."""
         return vars(self)
 
     def replace(self: Self, **changes: Any) -> Self:
-        """A copy in which some attributes have other values."""
+        """Returns a copy in which some attributes have other values."""
         return type(self)(**{**vars(self), **changes})
 
     def __replace__(self: Self, **changes: Any) -> Self:
-        """For copy.replace, of Python 3.13."""
+        """Serves copy.replace, of Python 3.13."""
         return self.replace(**changes)
 
     def __setattr__(self, name: str, *value: object) -> NoReturn:

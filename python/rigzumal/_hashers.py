@@ -24,10 +24,10 @@ Bytes: TypeAlias = "Union[bytes, bytearray, memoryview]"
 _SCRYPT: Final = 3
 _MOST: Final = 2**32 - 1
 _MOST_MEMORY: Final = 2 * 1024 * 1024  # KiB
-LOW_MEMORY: Final = 8192  # KiB; a lower number is more often one of MiB
+LOW_MEMORY: Final = 8192  # KiB; a caller who passes less more often means MiB
 _has_warned = False
 
-# The numbers of rigzumal.h for what is out of range.
+# The faults in rigzumal.h for a number out of its range.
 _SALT: Final = 6
 _TAG: Final = 7
 _LANES: Final = 14
@@ -92,7 +92,7 @@ class _Hasher(Frozen):
 
     @hidden
     def hash(self, password: Secret, *, salt: Optional[Bytes] = None) -> str:
-        """A new record of the password.
+        """Returns a new record of the password.
 
         Args:
             password: the password, shorter than 2^32 bytes.
@@ -113,7 +113,7 @@ class _Hasher(Frozen):
 
     @hidden
     def verify(self, hash: Secret, password: Secret) -> Literal[True]:
-        """True if the password is right.
+        """Returns True if the password is right.
 
         Raises:
             VerifyMismatchError: the record belongs to another password.
@@ -124,7 +124,7 @@ class _Hasher(Frozen):
         return True
 
     def _verified(self, hash: Secret, password: Secret) -> int:
-        """The index of the secret that was used to hash the record."""
+        """Returns the index of the secret with which the record was hashed."""
         for place, secret in enumerate(self._secrets()):
             # A hasher without a secret verifies records of scrypt too; a hasher with a secret
             # doesn't.
@@ -141,7 +141,7 @@ class _Hasher(Frozen):
     def verify_and_rehash(self, hash: Secret, password: Secret) -> Optional[str]:
         """Checks the password, and returns a new record if the record is outdated, otherwise None.
 
-        The call raises the exceptions of `verify` and `hash`.
+        The method raises the exceptions of `verify` and `hash`.
         """
         place = self._verified(hash, password)
         is_old = place > 0 or self.check_needs_rehash(hash)
@@ -160,7 +160,7 @@ class _Hasher(Frozen):
 
 
 def _is_record(password: Secret) -> bool:
-    """Whether a password is a record: other libraries expect the two arguments in the other
+    """Whether a password is a record: other libraries take these two arguments in the other
     order."""
     return isinstance(password, (str, bytes)) and _library.is_record(password)
 
@@ -177,12 +177,12 @@ class PasswordHasher(_Hasher):
         type: the kind of Argon2.
         secret: a pepper, which you keep apart from the records: RFC 9106's K. A hasher with a
             secret verifies only records with that secret, and none of scrypt. The secret must not
-            be empty, so that an unset variable causes an error. No repr shows it.
+            be empty, so that an unset variable causes an error. No repr shows the secret.
         threads: the number of threads that may compute the lanes of one record, including the
-            caller's; records don't show it. Use 1 in a service, where other logins use the other
-            processors. Use `parallelism` in a program that hashes one password at a time: 64 MiB
-            and four lanes take a third of the time on four idle processors. The library starts at
-            most one thread for each processor, and none below 4 MiB.
+            caller's; records don't show this number. Use 1 in a service, where other logins use the
+            other processors. Use `parallelism` in a program that hashes one password at a time: 64
+            MiB and four lanes take a third of the time on four idle processors. The library starts
+            at most one thread for each processor, and none below 4 MiB.
         secrets: the new pepper and older ones, instead of `secret`, to rotate peppers. A new
             record uses the first, which is then `secret`. `verify` tries all of them, so a wrong
             password costs a hash for each. `verify_and_rehash` replaces records with older peppers.
@@ -245,7 +245,7 @@ class PasswordHasher(_Hasher):
 
     @hidden
     def replace(self, **changes: Any) -> PasswordHasher:
-        """A copy in which some attributes have other values."""
+        """Returns a copy in which some attributes have other values."""
         if "secrets" in changes:
             changes = {"secret": None, **changes}
         return super().replace(**{"secrets": self.secrets or None, **changes})

@@ -33,7 +33,7 @@ def hidden_below(function: Function) -> Function:
 def _hiding(function: Function, hides: Callable[..., None]) -> Function:
     @functools.wraps(function)
     def call(*args: Any, **kwargs: Any) -> Any:
-        handled = sys.exc_info()[1]  # by the caller, whose own it is
+        handled = sys.exc_info()[1]  # by the caller, who owns the exception
         try:
             return function(*args, **kwargs)
         except BaseException as raised:

@@ -82,14 +82,14 @@ def raise_fault(number: int, text: Secret = b"") -> None:
 
 
 def _range_of(text: Secret) -> str:
-    """The field of a record whose number is out of range, and that range."""
+    """Returns the field of a record whose number is out of range, and that range."""
     words = ctypes.create_string_buffer(TEXT_SIZE)
     is_range = _library.rigzumal_explain(words, TEXT_SIZE, text_bytes(text)) == RANGE
     return words.value.decode() if is_range else ""
 
 
 def bytes_of(secret: Secret) -> bytes:
-    """The bytes of a secret, or of another input that may be text.
+    """Returns the bytes of a secret, or of another input that may be text.
 
     Raises TypeError for any type except bytes and text, and ValueError for a text that UTF-8 can't
     encode. No exception shows the secret.
@@ -106,7 +106,7 @@ def bytes_of(secret: Secret) -> bytes:
 
 
 def data_of(data: object, wanted: str = "bytes") -> bytes:
-    """The bytes of a salt, for example; raises TypeError for text, and for objects without
+    """Returns the bytes of a salt, for example. Raises TypeError for text and for objects without
     bytes."""
     if isinstance(data, bytes):
         return data
@@ -118,7 +118,7 @@ def data_of(data: object, wanted: str = "bytes") -> bytes:
 
 
 def text_bytes(text: Secret) -> bytes:
-    """The bytes of a record or a setting, as a C string: no record has a zero byte."""
+    """Returns the bytes of a record or a setting, as a C string: no record has a zero byte."""
     found = bytes_of(text)
     if b"\0" in found:
         raise InvalidRecordError(1)
@@ -126,12 +126,12 @@ def text_bytes(text: Secret) -> bytes:
 
 
 def _numbers(*names: str) -> list[tuple[str, Any]]:
-    """The numeric fields of a structure."""
+    """Returns the numeric fields of a structure."""
     return [(name, ctypes.c_uint32) for name in names]
 
 
 def _data(*names: str) -> list[tuple[str, Any]]:
-    """The data fields of a structure: a pointer and a size for each."""
+    """Returns the data fields of a structure: a pointer and a size for each."""
     kinds = (("", ctypes.c_char_p), ("_size", ctypes.c_size_t))
     return [(name + end, kind) for name in names for end, kind in kinds]
 
@@ -179,7 +179,7 @@ NAME: Final = "librigzumal.so.1"
 
 
 def _path() -> str:
-    """The file that RIGZUMAL_LIBRARY names.
+    """Returns the library's path: the file that RIGZUMAL_LIBRARY names.
 
     If the variable is unset, the library is that of the package, of make, of the folder lib in the
     package's prefix, or of the system.
@@ -224,11 +224,11 @@ def _load() -> Any:
 _library = _load()
 
 record_fault: Callable[[bytes], int] = _library.rigzumal_record_fault
-"""rigzumal_record_fault by itself, of bytes without a zero byte."""
+"""The call rigzumal_record_fault itself, for bytes without a zero byte."""
 
 
 def version() -> str:
-    """rigzumal_version."""
+    """Calls rigzumal_version."""
     found: bytes = _library.rigzumal_version()
     return found.decode()
 
@@ -256,7 +256,7 @@ def keep(most: int) -> int:
 
 
 def pair(data: Optional[bytes]) -> tuple[Optional[bytes], int]:
-    """A pointer and its size, for the calls; None is a null pointer."""
+    """Returns a pointer and its size, for the calls; None becomes a null pointer."""
     return data, len(data or b"")
 
 
@@ -284,7 +284,7 @@ def check(
     secret: Optional[bytes] = None,
     threads: int = 1,
 ) -> int:
-    """rigzumal_check_from."""
+    """Calls rigzumal_check_from."""
     known = bytes_of(password)
     inputs = Inputs(known, len(known), threads=checked(threads))
     if secret is not None:
@@ -293,7 +293,7 @@ def check(
 
 
 def parts(text: Secret) -> RecordNumbers:
-    """Calls rigzumal_parts on a record; refuses costs, which have no tag."""
+    """Calls rigzumal_parts on a record, and refuses costs, which have no tag."""
     found = RecordNumbers()
     raise_fault(_library.rigzumal_parts(found, text_bytes(text)), text)
     if found.tag_size == 0:
@@ -313,7 +313,7 @@ def check_text(text: Secret) -> None:
 
 
 def in_range(name: str, number: int, least: int, most: int, fault: int) -> int:
-    """The number; raises InvalidNumbersError with this fault if it is out of range."""
+    """Returns the number, and raises InvalidNumbersError with this fault if it is out of range."""
     whole_number(name, number)
     if not least <= number <= most:
         said = f"{name} must be {least} to {most}, not {number}"
@@ -328,8 +328,8 @@ def whole_number(name: str, number: object) -> None:
 
 
 def checked(number: int) -> int:
-    """A number that ctypes doesn't truncate; raises TypeError or OverflowError for any other
-    value."""
+    """Returns a number that ctypes doesn't truncate. Raises TypeError or OverflowError for any
+    other value."""
     whole_number("the number", number)
     if not 0 <= number < 2**32:
         raise OverflowError("the number must be 0 to 2^32 - 1")
@@ -337,7 +337,7 @@ def checked(number: int) -> int:
 
 
 def made_bytes(size: int, call: Any, *given: Any) -> bytes:
-    """The bytes that a call writes into a buffer of this size."""
+    """Returns the bytes that a call writes into a buffer of this size."""
     room = ctypes.create_string_buffer(checked(size))
     raise_fault(call(room, size, *given))
     return room.raw

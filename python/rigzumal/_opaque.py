@@ -20,7 +20,7 @@ _JOINERS = "\u200c\u200d"
 
 @hidden
 def opaque_string(text: str) -> str:
-    """The text as RFC 8265's OpaqueString (section 4.2): in NFC, with each space as U+0020.
+    """Returns the text as RFC 8265's OpaqueString (section 4.2): in NFC, with each space as U+0020.
 
     A password is therefore the same from each keyboard: macOS may send a letter and its accent
     separately, and Windows sends both as one character. The function doesn't change case and width.

@@ -50,25 +50,25 @@ def parts(record: Secret) -> Parts:
 
 
 def encoded(data: bytes) -> str:
-    """The base64 of some bytes."""
+    """Returns the base64 of some bytes."""
     return b2a_base64(data, newline=False).rstrip(b"=").decode()
 
 
 def decoded(letters: str) -> bytes:
-    """The bytes of a base64 text; raises ValueError if the text isn't base64 of bytes."""
+    """Returns the bytes of a base64 text, and raises ValueError for any other text."""
     data = a2b_base64(letters + "=" * (-len(letters) % 4))
     if encoded(data) != letters:
         raise ValueError("a salt or a tag is not base64")
     return data
 
 
-# The beginnings of records of other programs: $2b$.., or Django's pbkdf2_sha256$... Nothing else is
-# shown, since the text may be a password.
+# The beginnings of records of other programs: $2b$.., or Django's pbkdf2_sha256$... The package
+# shows nothing else of the text, which may be a password.
 _OTHERS = r"\$([A-Za-z0-9-]{1,20})\$" r"|((?:pbkdf2|bcrypt|argon2|scrypt|md5|sha1)[a-z0-9_]{0,9})\$"
 
 
 def scheme_of_another(record: str) -> str:
-    """The scheme that another program's record shows; empty if it shows none."""
+    """Returns the scheme that another program's record shows, or "" if it shows none."""
     import re
 
     found = re.match(_OTHERS, record)
@@ -79,6 +79,6 @@ def scheme_of_another(record: str) -> str:
 
 
 def none_of_ours(record: str) -> str:
-    """The scheme of another program's record, in words for people."""
+    """Returns the scheme of another program's record, in words for people."""
     scheme = scheme_of_another(record)
     return f"the record's scheme is {scheme}" if scheme else ""

@@ -37,7 +37,7 @@ class _OneBackend:
 
     @classmethod
     def get_backend(cls) -> str:
-        """The name of the single backend."""
+        """Returns the name of the single backend."""
         return _BACKEND
 
     @classmethod
@@ -71,10 +71,10 @@ class argon2(_OneBackend, _argon2._Argon2Common):
 
     @classmethod
     def from_string(cls, hash: Union[str, bytes]) -> Any:
-        """The parts of a record.
+        """Returns the parts of a record.
 
         Raises:
-            ValueError: the text isn't a record; also for invalid base64, for which passlib raises a
+            ValueError: the text isn't a record, or isn't valid base64, for which passlib raises a
                 TypeError.
         """
         try:

@@ -5,12 +5,13 @@ use core::fmt;
 
 macro_rules! errors {
     ($($(#[$doc:meta])* $name:ident = $number:literal,)*) => {
-        /// A refusal: nothing was written. The numbers are those of `rigzumal.h`.
+        /// A refusal, after which the library has written nothing. The numbers are those of
+        /// `rigzumal.h`.
         #[derive(Clone, Copy, Debug, PartialEq, Eq, Hash)]
         #[non_exhaustive]
         pub enum Error {
             $($(#[$doc])* $name,)*
-            /// A fault that a newer library knows.
+            /// A fault of a newer library.
             Other(i32),
         }
 
@@ -35,7 +36,7 @@ macro_rules! errors {
 }
 
 errors! {
-    /// A text doesn't begin with `$`, or a field is missing or too many.
+    /// A text doesn't begin with `$`, lacks a field, or has one too many.
     Shape = 1,
     /// A text's scheme is none of argon2d, argon2i, argon2id and scrypt.
     Scheme = 2,
@@ -71,7 +72,7 @@ errors! {
     TagSize = 17,
     /// An input has 2^32 bytes or more.
     InputSize = 18,
-    /// N isn't 2 to the power of 1 to 23 and below that of 16 r, or the table is over 2 GiB.
+    /// log2 of N isn't 1 to 23 and below 16 r, or the table is over 2 GiB.
     ScryptCost = 19,
     /// r isn't 1 to 255.
     BlockSize = 20,
@@ -79,7 +80,7 @@ errors! {
     Blocks = 21,
     /// The size of a raw key isn't 1 to 2^32 - 1.
     KeySize = 22,
-    /// The system gave no random bytes for a salt.
+    /// The system returned no random bytes for a salt.
     NoRandom = 26,
 }
 

@@ -1,13 +1,13 @@
-//! The calls of librigzumal, and all that is unsafe. rigzumal.h says what a caller owes: a pointer
-//! that comes with a size reaches that many bytes, texts end with a zero byte, and what is written
-//! overlaps nothing that is read. Slices, `CStr` and borrows are just that.
+//! The calls of librigzumal, and all unsafe code. rigzumal.h has the caller's conditions: a pointer
+//! with a size reaches that many bytes, texts end with a zero byte, and outputs don't overlap
+//! inputs. Slices, `CStr` and borrows meet these conditions.
 
 use crate::{Argon2, Error, Hasher, Parts, Scrypt};
 use alloc::{ffi::CString, vec};
 use core::ffi::{c_char, c_int, CStr};
 use core::{ptr, sync::atomic};
 
-/// Into so many bytes every record fits, with its zero byte.
+/// The bytes that hold any record with its zero byte.
 const TEXT_SIZE: usize = 513;
 
 #[rustfmt::skip]
@@ -40,41 +40,41 @@ extern "C" {
         password: *const u8, password_size: usize, salt: *const u8, salt_size: usize) -> c_int;
 }
 
-/// A pointer with its size.
+/// Returns a pointer with its size.
 fn pair(data: &[u8]) -> (*const u8, usize) {
     (data.as_ptr(), data.len())
 }
 
-/// A text of the library's.
+/// Returns a text of the library.
 fn text_of(text: *const c_char) -> &'static str {
-    // SAFETY: both calls that are read here answer a constant text, and never null.
+    // SAFETY: both calls whose text this reads return a constant text, and never null.
     unsafe { CStr::from_ptr(text) }.to_str().unwrap_or_default()
 }
 
 pub(crate) fn version() -> &'static str {
-    // SAFETY: it may be called at any time, as the next two.
+    // SAFETY: a program may call it at any time.
     text_of(unsafe { rigzumal_version() })
 }
 
 pub(crate) fn meaning(fault: c_int) -> &'static str {
-    // SAFETY: it takes any number.
+    // SAFETY: the call accepts any number.
     text_of(unsafe { rigzumal_strerror(fault) })
 }
 
 pub(crate) fn trim() -> usize {
-    // SAFETY: memory that is in use is not given back.
+    // SAFETY: the call doesn't release memory in use.
     unsafe { rigzumal_trim() }
 }
 
 pub(crate) fn keep(most: usize) -> usize {
-    // SAFETY: it takes any number.
+    // SAFETY: the call accepts any number.
     unsafe { rigzumal_keep(most) }
 }
 
-/// Writes zeros that no optimisation leaves out.
+/// Writes zeros that no optimisation omits.
 pub(crate) fn clear(secret: &mut [u8]) {
     for byte in secret {
-        // SAFETY: the byte is borrowed alone.
+        // SAFETY: the borrow of the byte is exclusive.
         unsafe { ptr::write_volatile(byte, 0) };
     }
     atomic::compiler_fence(atomic::Ordering::SeqCst);
@@ -106,7 +106,7 @@ pub(crate) fn record(it: &Hasher, costs: &CStr, password: &[u8], salt: Option<&[
     let mut text = vec![0; TEXT_SIZE];
     let (out, size, costs) = (text.as_mut_ptr(), it.tag_size(), costs.as_ptr());
     let ((salt, n), (pw, len)) = (salt.map_or((ptr::null(), it.salt_size()), pair), pair(password));
-    // SAFETY: each pointer reaches its size, but for a salt that is null, which is drawn.
+    // SAFETY: each pointer reaches its size, except a null salt, which the call generates.
     Error::check(unsafe { match it.secret_bytes().map(pair) {
         None => rigzumal_record_threads(out, TEXT_SIZE, size, costs, salt, n, pw, len, it.threads),
         Some((key, key_len)) => rigzumal_record_with_secret_threads(
@@ -132,7 +132,7 @@ pub(crate) fn check(record: &CStr, password: &[u8], secret: Option<&[u8]>, threa
 pub(crate) fn argon2(it: &Argon2<'_>, pw: &[u8], salt: &[u8], tag: &mut [u8]) -> Result<(), Error> {
     let ((pw, len), (salt, n), (key, key_len), (data, data_len)) =
         (pair(pw), pair(salt), pair(it.secret), pair(it.associated));
-    // SAFETY: each pointer reaches its size, and the tag is borrowed alone.
+    // SAFETY: each pointer reaches its size, and the borrow of the tag is exclusive.
     Error::check(unsafe { rigzumal_argon2_threads(tag.as_mut_ptr(), tag.len(), &it.numbers(),
         pw, len, salt, n, key, key_len, data, data_len, it.threads) })
 }
@@ -140,7 +140,7 @@ pub(crate) fn argon2(it: &Argon2<'_>, pw: &[u8], salt: &[u8], tag: &mut [u8]) ->
 #[rustfmt::skip]
 pub(crate) fn scrypt(it: Scrypt, pw: &[u8], salt: &[u8], key: &mut [u8]) -> Result<(), Error> {
     let ((pw, len), (salt, n)) = (pair(pw), pair(salt));
-    // SAFETY: each pointer reaches its size, and the key is borrowed alone.
+    // SAFETY: each pointer reaches its size, and the borrow of the key is exclusive.
     Error::check(unsafe {
         rigzumal_scrypt(key.as_mut_ptr(), key.len(), &it.numbers(), pw, len, salt, n) })
 }

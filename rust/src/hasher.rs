@@ -4,9 +4,9 @@ use crate::{ffi, Algorithm, Error, Record};
 use alloc::{boxed::Box, ffi::CString, format, string::ToString};
 use core::fmt;
 
-/// By which function a new record is made, and its costs.
+/// The function for new records, with its costs.
 ///
-/// Its `Display` is the front of a record: `$argon2id$v=19$m=65536,t=3,p=4`.
+/// The `Display` of costs is the front of a record: `$argon2id$v=19$m=65536,t=3,p=4`.
 #[derive(Clone, Copy, Debug, PartialEq, Eq, Hash)]
 pub enum Costs {
     /// Argon2, version 0x13.
@@ -32,7 +32,7 @@ pub enum Costs {
 }
 
 impl Costs {
-    /// Argon2id with so many KiB, passes and lanes.
+    /// Returns the costs of Argon2id with this many KiB, passes and lanes.
     #[must_use]
     pub fn argon2id(memory: u32, passes: u32, lanes: u32) -> Costs {
         Costs::Argon2 { algorithm: Algorithm::Argon2id, memory, passes, lanes }
@@ -45,7 +45,7 @@ impl Costs {
 }
 
 impl Default for Costs {
-    /// RFC 9106's second recommendation: Argon2id with 64 MiB, three passes and four lanes.
+    /// Returns RFC 9106's second recommendation: Argon2id with 64 MiB, three passes and four lanes.
     fn default() -> Self {
         Costs::argon2id(65536, 3, 4)
     }
@@ -62,7 +62,7 @@ impl fmt::Display for Costs {
     }
 }
 
-/// A secret's bytes, which are cleared when their hasher is dropped, as in each clone of it.
+/// A secret's bytes, which a drop of their hasher clears, as does a drop of each clone.
 #[derive(Clone)]
 struct Secret(Box<[u8]>);
 
@@ -74,8 +74,8 @@ impl Drop for Secret {
 
 /// Builds records and verifies them.
 ///
-/// It is `Send` and `Sync`: one is enough for all threads of a program. Costs and sizes that no
-/// record can have are refused as the hasher is made, and not at a user's login.
+/// A hasher is `Send` and `Sync`: one is enough for all threads of a program. The constructors
+/// refuse costs and sizes that no record can have, so a user's login never meets that refusal.
 #[derive(Clone, Default)]
 pub struct Hasher {
     costs: Costs,
@@ -86,7 +86,7 @@ pub struct Hasher {
 }
 
 impl Hasher {
-    /// A hasher with drawn salts of 16 bytes, tags of 32, no secret and one thread.
+    /// Builds a hasher with random salts of 16 bytes, tags of 32, no secret and one thread.
     ///
     /// # Errors
     /// [`Error::Range`] if a number is outside its range.
@@ -94,7 +94,7 @@ impl Hasher {
         Hasher { costs, ..Hasher::default() }.readable()
     }
 
-    /// The same with drawn salts of so many bytes: 8 to 48, of scrypt 1 to 48.
+    /// Returns the hasher with random salts of this many bytes: 8 to 48, or for scrypt 1 to 48.
     ///
     /// # Errors
     /// [`Error::Salt`] for fewer or more.
@@ -102,7 +102,7 @@ impl Hasher {
         Hasher { salt_len: Some(bytes), ..self }.readable()
     }
 
-    /// The same with tags of so many bytes: 4 to 64.
+    /// Returns the hasher with tags of this many bytes: 4 to 64.
     ///
     /// # Errors
     /// [`Error::Tag`] for fewer or more.
@@ -110,9 +110,9 @@ impl Hasher {
         Hasher { tag_len: Some(bytes), ..self }.readable()
     }
 
-    /// The same with a secret beside each password, which a program keeps apart from its records:
-    /// K of RFC 9106, section 3.1. Such a hasher verifies records of this secret alone, and none of
-    /// scrypt: [`Error::Scheme`]. It clears its copy when it is dropped.
+    /// Returns the hasher with a secret beside each password, which a program keeps apart from its
+    /// records: K of RFC 9106, section 3.1. Such a hasher verifies only records with this secret,
+    /// and refuses those of scrypt with [`Error::Scheme`]. A drop of the hasher clears its copy.
     ///
     /// # Errors
     /// [`Error::Scheme`] if the hasher's own costs are scrypt's; [`Error::InputSize`].
@@ -124,8 +124,8 @@ impl Hasher {
         Ok(Hasher { secret: Some(Secret(secret.into())), ..self })
     }
 
-    /// The same with up to so many threads for the lanes of each record. They make one login faster
-    /// on an idle machine; a service does more logins a second without.
+    /// Returns the hasher with up to this many threads for the lanes of each record. Threads make
+    /// one login faster on an idle machine; a service does more logins a second without them.
     #[must_use]
     pub fn threads(self, threads: u32) -> Hasher {
         Hasher { threads, ..self }
@@ -143,16 +143,16 @@ impl Hasher {
         self.salt_len.unwrap_or(16)
     }
 
-    /// Itself, if a record of its costs and sizes can be read.
+    /// Returns the hasher, if the library can read a record with its costs and sizes.
     fn readable(self) -> Result<Hasher, Error> {
-        const OVER: usize = 65; // no salt and no tag has so many bytes, nor more
+        const OVER: usize = 65; // no salt and no tag has as many bytes
         let zeros = |bytes: usize| "A".repeat((bytes.min(OVER) * 4 + 2) / 3);
         let (salt, tag) = (zeros(self.salt_size()), zeros(self.tag_size()));
         format!("{}${salt}${tag}", self.costs).parse::<Record>()?;
         Ok(self)
     }
 
-    /// A new record of the password, with a salt that the system's getrandom gives.
+    /// Returns a new record of the password, with a salt from the system's getrandom.
     ///
     /// # Errors
     /// [`Error::InputSize`]; [`Error::Memory`]; [`Error::NoRandom`].
@@ -160,24 +160,25 @@ impl Hasher {
         ffi::record(self, &self.costs.text(), password, None).map(Record::of_library)
     }
 
-    /// A new record of the password with this salt, which is to be fresh.
+    /// Returns a new record of the password with this salt, which must be fresh.
     ///
     /// # Errors
-    /// Those of [`hash_password`](Hasher::hash_password) but the last; [`Error::Salt`] for the
-    /// salt's size, and [`Error::Shape`] if it is empty.
+    /// Those of [`hash_password`](Hasher::hash_password) except the last; [`Error::Salt`] for the
+    /// salt's size, and [`Error::Shape`] for an empty salt.
     pub fn hash_password_with_salt(&self, password: &[u8], salt: &[u8]) -> Result<Record, Error> {
         ffi::record(self, &self.costs.text(), password, Some(salt)).map(Record::of_library)
     }
 
-    /// Whether the record is one of the password, whatever its costs.
+    /// Checks whether the record is one of the password, whatever its costs.
     ///
     /// # Errors
-    /// [`Error::Mismatch`] if it is one of another; [`Error::InputSize`]; [`Error::Memory`].
+    /// [`Error::Mismatch`] for a record of another password; [`Error::InputSize`];
+    /// [`Error::Memory`].
     pub fn verify_password(&self, password: &[u8], record: &Record) -> Result<(), Error> {
         ffi::check(record.as_c_str(), password, self.secret_bytes(), self.threads)
     }
 
-    /// Whether the record is of another scheme, other costs or other sizes than a new one.
+    /// Whether the record has another scheme, other costs or other sizes than a new one.
     #[must_use]
     pub fn needs_rehash(&self, record: &Record) -> bool {
         let costs = self.costs.text();
@@ -186,7 +187,7 @@ impl Hasher {
 }
 
 impl fmt::Debug for Hasher {
-    /// The costs and sizes, and whether there is a secret.
+    /// Shows the costs and sizes, and whether the hasher has a secret.
     fn fmt(&self, to: &mut fmt::Formatter<'_>) -> fmt::Result {
         to.debug_struct("Hasher")
             .field("costs", &self.costs)

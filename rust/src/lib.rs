@@ -1,7 +1,7 @@
 //! Argon2, scrypt and the strings of password records, over librigzumal.
 //!
-//! The hashing and the reading and writing of strings are proved; in front of them stand a thin
-//! layer of C and this crate, which are not. It has no dependency, and calls the library alone.
+//! The hashing and the reading and writing of strings are proved. The thin layer of C and this
+//! crate, in front of them, aren't. The crate has no dependencies, and calls only the library.
 //!
 //! ```
 //! use rigzumal::{verify, Costs, Error, Hasher, Record};
@@ -25,8 +25,8 @@
 //!
 //! # With the traits of `password-hash`
 //!
-//! The names and shapes are those of `RustCrypto`'s crate `password-hash` 0.5, so that its traits
-//! are put on in a few lines of a program that has it:
+//! The names and shapes are those of `RustCrypto`'s crate `password-hash` 0.5. A program that uses
+//! that crate can implement its traits in a few lines:
 //!
 //! ```
 //! # mod password_hash {
@@ -64,9 +64,9 @@
 //!
 //! # Features
 //!
-//! `std`, which is on by default, makes [`Error`] a `std::error::Error`. Without it the crate needs
-//! `core` and `alloc` alone; the library underneath needs Linux and its C library all the same.
-//! README.md says where the build looks for it.
+//! `std`, which is on by default, makes [`Error`] a `std::error::Error`. Without `std` the crate
+//! needs only `core` and `alloc`; the library below still needs Linux and its C library. README.md
+//! says where the build looks for the library.
 
 #![cfg_attr(not(feature = "std"), no_std)]
 #![deny(missing_docs, unsafe_code, unsafe_op_in_unsafe_fn)]
@@ -86,31 +86,32 @@ pub use hasher::{Costs, Hasher};
 pub use raw::{Algorithm, Argon2, Scrypt, Version};
 pub use record::{Parts, Record, Scheme};
 
-/// Whether the record is one of the password, with no secret and on this thread alone.
+/// Checks whether the record is one of the password, without a secret and only on this thread.
 ///
 /// # Errors
-/// [`Error::Mismatch`] if it is one of another; [`Error::InputSize`]; [`Error::Memory`].
+/// [`Error::Mismatch`] for a record of another password; [`Error::InputSize`]; [`Error::Memory`].
 pub fn verify(password: &[u8], record: &Record) -> Result<(), Error> {
     ffi::check(record.as_c_str(), password, None, 1)
 }
 
-/// Returns to the system the memory that is kept for the next hashes, and answers its size.
+/// Returns to the system the memory that the library keeps for the next hashes, and returns its
+/// size.
 ///
-/// It is as much as hashes took at one time, and at most what [`keep`] says; the system takes it by
-/// itself when it is short of memory.
+/// The library keeps as much as hashes took at one time, and at most the bound of [`keep`]. A
+/// system that is short of memory reclaims it without this call.
 #[allow(clippy::must_use_candidate)] // it is called for what it does
 pub fn trim() -> usize {
     ffi::trim()
 }
 
-/// Has at most so many bytes kept from now on, 0 for none, and answers the bound that there was:
-/// 64 MiB, or what `RIGZUMAL_KEEP` in the environment says.
+/// Bounds the bytes that the library keeps from now on, 0 for none, and returns the old bound. The
+/// first bound is 64 MiB, or `RIGZUMAL_KEEP` in the environment.
 #[allow(clippy::must_use_candidate)] // it is called for what it does
 pub fn keep(most: usize) -> usize {
     ffi::keep(most)
 }
 
-/// The version of the library in use.
+/// Returns the version of the library in use.
 #[must_use]
 pub fn library_version() -> &'static str {
     ffi::version()

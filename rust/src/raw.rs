@@ -15,7 +15,7 @@ pub enum Algorithm {
 }
 
 impl Algorithm {
-    /// Its name in a record.
+    /// Returns the kind's name in a record.
     pub(crate) fn name(self) -> &'static str {
         match self {
             Algorithm::Argon2d => "argon2d",
@@ -61,12 +61,12 @@ pub struct Argon2<'a> {
     pub secret: &'a [u8],
     /// X of RFC 9106, section 3.1.
     pub associated: &'a [u8],
-    /// The number of threads that may work the lanes; 0 is as 1.
+    /// The number of threads that may work the lanes; 0 means 1.
     pub threads: u32,
 }
 
 impl Default for Argon2<'_> {
-    /// RFC 9106's second recommendation: Argon2id with 64 MiB, three passes and four lanes.
+    /// Returns RFC 9106's second recommendation: Argon2id with 64 MiB, three passes and four lanes.
     fn default() -> Self {
         Argon2 {
             algorithm: Algorithm::Argon2id,
@@ -82,7 +82,7 @@ impl Default for Argon2<'_> {
 }
 
 impl Argon2<'_> {
-    /// In the order of `struct rigzumal_argon2`.
+    /// Returns the numbers in the order of `struct rigzumal_argon2`.
     pub(crate) fn numbers(&self) -> [u32; 5] {
         let version = match self.version {
             Version::V0x10 => 0x10,
@@ -91,7 +91,7 @@ impl Argon2<'_> {
         [self.algorithm as u32, version, self.memory, self.passes, self.lanes]
     }
 
-    /// Fills the room with the tag: 4 bytes or more.
+    /// Fills the room, of 4 bytes or more, with the tag.
     ///
     /// # Errors
     /// [`Error::Lanes`] to [`Error::InputSize`] for the numbers and sizes; [`Error::Memory`].
@@ -117,12 +117,12 @@ pub struct Scrypt {
 }
 
 impl Scrypt {
-    /// In the order of `struct rigzumal_scrypt`.
+    /// Returns the numbers in the order of `struct rigzumal_scrypt`.
     pub(crate) fn numbers(self) -> [u32; 3] {
         [self.log2_n, self.r, self.p]
     }
 
-    /// Fills the room with the key: 1 byte or more.
+    /// Fills the room, of 1 byte or more, with the key.
     ///
     /// # Errors
     /// [`Error::ScryptCost`] to [`Error::KeySize`] for the numbers and sizes;

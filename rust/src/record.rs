@@ -1,14 +1,14 @@
-//! Records of passwords, and what stands in them.
+//! Records of passwords, and their numbers.
 
 use crate::{ffi, Algorithm, Error};
 use alloc::ffi::CString;
 use core::{ffi::CStr, fmt, hint, str::FromStr};
 
-/// A record of a password: a string of Argon2 or scrypt that can be verified here, as
+/// A record of a password: a string of Argon2 or scrypt that this crate can verify, such as
 /// `$argon2id$v=19$m=65536,t=3,p=4$SALT$TAG`.
 ///
-/// It is made by a [`Hasher`](crate::Hasher), or read from a text. Its `Debug` shows the costs
-/// alone; `Display` and [`as_str`](Record::as_str) show all of it.
+/// A [`Hasher`](crate::Hasher) builds a record, and `parse` reads one from a text. `Debug` shows
+/// only the costs; `Display` and [`as_str`](Record::as_str) show the whole record.
 ///
 /// ```
 /// use rigzumal::{Error, Record};
@@ -22,7 +22,7 @@ use core::{ffi::CStr, fmt, hint, str::FromStr};
 pub struct Record(CString);
 
 impl PartialEq for Record {
-    /// In a time that doesn't depend on where two records differ, but for their lengths.
+    /// Compares two records in a time that depends on their lengths, but not on where they differ.
     fn eq(&self, other: &Record) -> bool {
         let (one, other) = (self.0.as_bytes(), other.0.as_bytes());
         let differences =
@@ -40,16 +40,16 @@ impl Record {
         &self.0
     }
 
-    /// The record's text, which is ASCII.
+    /// Returns the record's text, which is ASCII.
     #[must_use]
     pub fn as_str(&self) -> &str {
         self.0.to_str().unwrap_or_default()
     }
 
-    /// The numbers that stand in it.
+    /// Returns the record's numbers.
     ///
     /// # Errors
-    /// None that a record has: what isn't one is refused as it is read.
+    /// None for a record: reading a text refuses any text that isn't one.
     pub fn parts(&self) -> Result<Parts, Error> {
         ffi::parts(&self.0)
     }
@@ -94,7 +94,7 @@ impl fmt::Debug for Record {
     }
 }
 
-/// Which function a record is made by.
+/// The function of a record.
 #[derive(Clone, Copy, Debug, PartialEq, Eq, Hash)]
 pub enum Scheme {
     /// Argon2d.
@@ -122,13 +122,13 @@ impl From<Algorithm> for Scheme {
 pub struct Parts {
     /// The function.
     pub scheme: Scheme,
-    /// Of Argon2, 0x13 or 0x10; of scrypt 0.
+    /// 0x13 or 0x10 for Argon2, 0 for scrypt.
     pub version: u32,
-    /// Of Argon2 in KiB; of scrypt log2 of N.
+    /// KiB for Argon2, log2 of N for scrypt.
     pub memory: u32,
-    /// Of Argon2; of scrypt the block size r.
+    /// The passes of Argon2, or the block size r of scrypt.
     pub passes: u32,
-    /// Of Argon2; of scrypt the parallelization p.
+    /// The lanes of Argon2, or the parallelization p of scrypt.
     pub lanes: u32,
     /// Bytes of the salt.
     pub salt_len: u32,
@@ -137,7 +137,7 @@ pub struct Parts {
 }
 
 impl Parts {
-    /// In the order of `struct rigzumal_parts`.
+    /// Builds the parts from numbers in the order of `struct rigzumal_parts`.
     pub(crate) fn from_numbers(numbers: [u32; 7]) -> Parts {
         let [scheme, version, memory, passes, lanes, salt_len, tag_len] = numbers;
         let scheme = match scheme {

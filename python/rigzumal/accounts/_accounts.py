@@ -38,19 +38,19 @@ class Accounts(Operations[Pool]):
             bytes. Its `threads` has no effect. With a secret, a scrypt record counts as one of
             another scheme. With `secrets`, a login replaces a record with an older secret.
         replica: a pool of a replica, for the copies of records. The replica may lag, since each
-            answer depends on the primary's record. If it is down or refuses, operations read copies
-            from the primary too.
+            answer depends on the primary's record. If the replica is down or refuses, operations
+            read copies from the primary too.
         foreign: a function that checks passwords against records of other schemes, as (text,
             password) -> bool or None. Any other answer raises a TypeError, and nothing is stored.
         upgrade_from: costs such as "$argon2i$v=19$m=65536,t=3,p=4" that an upgrade replaces even if
             the new costs aren't higher.
         tries: how often to try an operation whose commit finds a different record; 1 or more.
         patience: the seconds to wait for a new connection, a busy server, or a lost answer; 0 or
-            more. It doesn't end a statement that hangs, or a pool's wait for a connection: set
-            separate limits of some seconds for both.
+            more. This limit doesn't end a statement that hangs, or a pool's wait for a connection:
+            set separate limits of some seconds for both.
         confirm: whether to confirm an answer without a change, such as a verify's, by writing the
-            record again. Use it with servers that show a change before it is safe (MariaDB
-            without a binary log). A login then costs as much as a change.
+            record again. Use this with servers that show a change before the change is safe
+            (MariaDB without a binary log). A login then costs as much as a change.
         least_length: the minimum length of a new password; logins have no such bound.
         prepare: a function, such as `rigzumal.opaque_string`, that turns a password that is text,
             new or present, into the text for the hash. Use it from the table's first record on: a
@@ -63,25 +63,26 @@ class Accounts(Operations[Pool]):
 
     Each operation accepts `also`, a function of the driver's connection and the reply. The library
     calls `also` in the operation's transaction, while it holds the lock of the account's row and
-    before it writes the record. Your own rows, such as a session, are therefore committed with the
-    reply or not at all. If the server undoes the transaction, the library calls `also` again in the
-    next one; it doesn't call `also` for CHANGED. An exception in `also` undoes everything and
-    reaches the caller, unless it is an error of the connection that calls for a retry. `also` must
-    leave the transaction open, must not write the record, and must not call an operation on the
-    same table.
+    before it writes the record. The server therefore commits your own rows, such as a session, with
+    the reply or not at all. If the server undoes the transaction, the library calls `also` again in
+    the next one; it doesn't call `also` for CHANGED. An exception in `also` undoes everything and
+    reaches the caller, unless the exception is an error of the connection that calls for a retry.
+    `also` must leave the transaction open, must not write the record, and must not call an
+    operation on the same table.
 
     Every operation may raise:
         TypeError: the key's type differs from its column's, or a password is neither
-            bytes nor text; no row was read. A hook returned a wrong answer,
-            or `also` has ended the transaction; no record was written.
+            bytes nor text; the operation read no row. A hook returned a wrong answer,
+            or `also` has ended the transaction; the operation wrote no record.
         ValueError: a new password is too short, isn't UTF-8 or has over 256 bytes, or `prepare`
-            refuses it; or the name of an enrolment is empty, or begins or ends with a blank. No row
-            was read. A present password of such a form counts as wrong, after one hash.
+            refuses it. An enrolment also raises this if the name is empty, or begins or ends with a
+            blank. The operation read no row. A present password of such a form counts as wrong,
+            after one hash.
         StoreFault: the table, the server or the connection has a fault.
         InvalidRecordError: the record has another scheme, and no hook accepts it.
         Unavailable: no server completed the operation in time, and nothing was stored.
         OutcomeUnknown: after a change, or with `also`, COMMIT had no answer, and the row doesn't
-            show whether the change was stored.
+            show whether the server stored the change.
         OutOfMemoryError: the free memory was too small for the costs.
         Exception: any exception of the pool or the hooks.
     """
@@ -89,12 +90,13 @@ class Accounts(Operations[Pool]):
     _kind = Runtime
 
     def _done(self, doing: Coroutine[Any, Any, T]) -> T:
-        """The operation's answer; in AsyncAccounts, a coroutine that returns it."""
+        """Returns the operation's answer, or, in AsyncAccounts, a coroutine that returns the
+        answer."""
         return run(doing)
 
     @hidden
     def enrol(self, key: Key, password: Secret, *, also: Hook = None) -> Reply:
-        """Gives an account its first record: ENROLLED; EXISTS if it has one; NO_ACCOUNT.
+        """Gives an account its first record. Returns ENROLLED, EXISTS if it has one, or NO_ACCOUNT.
 
         Use this operation only for rows whose owner is known; for a sign-up use `new_record`.
         """
@@ -102,16 +104,16 @@ class Accounts(Operations[Pool]):
 
     @hidden
     def verify(self, key: Key, password: Secret, *, also: Hook = None) -> Reply:
-        """Whether the password is right: YES or NO; ABSENT if the account has no record;
+        """Checks the password. Returns YES, NO, ABSENT if the account has no record, or
         NO_ACCOUNT."""
         return self._done(self._replied(Request(Kind.VERIFY, key, password), also))
 
     @hidden
     def login(self, key: Key, password: Secret, *, also: Hook = None) -> Reply:
-        """A verify that also replaces a record with lower costs; its replies are those of a verify.
+        """Verifies the password, and replaces a record whose costs are too low.
 
-        If the new record can't be written (a full disk, an unknown outcome), the answer is still
-        that of a verify.
+        The replies are those of `verify`, even if the server can't write the new record (a full
+        disk, an unknown outcome).
         """
         return self._done(self._login(key, password, also))
 
@@ -119,8 +121,8 @@ class Accounts(Operations[Pool]):
     def change(
         self, key: Key, password: Secret, new_password: Secret, *, also: Hook = None
     ) -> Reply:
-        """Replaces the password: REPLACED; WRONG if the old one is wrong; ABSENT; NO_ACCOUNT;
-        CHANGED.
+        """Replaces the password. Returns REPLACED, WRONG if the old one is wrong, ABSENT,
+        NO_ACCOUNT or CHANGED.
 
         CHANGED, a reply of every operation, means that the commit found a different record `tries`
         times.
@@ -130,25 +132,26 @@ class Accounts(Operations[Pool]):
 
     @hidden
     def reset(self, key: Key, new_password: Secret, *, also: Hook = None) -> Reply:
-        """Sets a password without the old one: REPLACED; ENROLLED if the account had no record;
-        NO_ACCOUNT."""
+        """Sets a password without the old one. Returns REPLACED, ENROLLED if the account had no
+        record, or NO_ACCOUNT."""
         request = Request(Kind.RESET, key, b"", new_password)
         return self._done(self._replied(request, also))
 
     @hidden
     def upgrade(self, key: Key, password: Secret, *, also: Hook = None) -> Reply:
-        """Replaces a record with lower costs: UPGRADED, or KEPT for other records; WRONG; ABSENT;
-        NO_ACCOUNT."""
+        """Replaces a record whose costs are too low. Returns UPGRADED, KEPT for other records,
+        WRONG, ABSENT or NO_ACCOUNT."""
         return self._done(self._replied(Request(Kind.UPGRADE, key, password), also))
 
     @hidden
     def remove(self, key: Key, password: Secret, *, also: Hook = None) -> Reply:
-        """Removes the record, and keeps the account: REMOVED; WRONG; ABSENT; NO_ACCOUNT."""
+        """Removes the record, and keeps the account. Returns REMOVED, WRONG, ABSENT or
+        NO_ACCOUNT."""
         return self._done(self._replied(Request(Kind.REMOVE, key, password), also))
 
     @hidden
     def new_record(self, password: Secret) -> str:
-        """A record for your own INSERT, which adds an account with its password.
+        """Returns a record for your own INSERT, which adds an account with its password.
 
         Raises:
             TypeError: the password is neither bytes nor text.
@@ -158,7 +161,7 @@ class Accounts(Operations[Pool]):
 
     @hidden
     def examine(self, *used: Kind) -> list[Fault]:
-        """The faults of the table, the server and the replica; empty if none has a fault.
+        """Returns the faults of the table, the server and the replica, or an empty list.
 
         The trial writes a record into a new row, or into an existing one if a new row is
         impossible, in a transaction that it rolls back. Pass Kind.REMOVE if the service removes
@@ -176,22 +179,22 @@ class Accounts(Operations[Pool]):
 
     @hidden
     def perform(self, request: Request, *, also: Hook = None) -> Answer:
-        """Runs the whole operation; the answer has the records before and after it."""
+        """Runs the whole operation, and returns an answer with the records before and after it."""
         return self._done(self._perform(request, also))
 
     @hidden
     def begin(self, request: Request) -> Ticket:
-        """The first part: reads the record."""
+        """Runs the first part, which reads the record."""
         return self._done(self._begin(request))
 
     @hidden
     def work(self, ticket: Ticket) -> Worked:
-        """The second part: hashes, and uses no connection."""
+        """Runs the second part, which hashes, and uses no connection."""
         return self._done(self._work(ticket))
 
     @hidden
     def commit(self, worked: Worked) -> Answer:
-        """The third part: writes the new record if the row still has the copy.
+        """Runs the third part, which writes the new record if the row still has the copy.
 
         If the row has a different record, the reply is CHANGED, and `after` is that record.
         """
@@ -199,7 +202,7 @@ class Accounts(Operations[Pool]):
 
     @hidden
     def commit_in(self, conn: Any, worked: Worked) -> Answer:
-        """The third part in a transaction that the caller begins and ends.
+        """Runs the third part in a transaction that the caller begins and ends.
 
         The reply counts once the server has acknowledged the caller's COMMIT; on PostgreSQL with a
         synchronous standby, the acknowledgement must have no warning. After CHANGED, and after any
@@ -211,8 +214,8 @@ class Accounts(Operations[Pool]):
         level except READ UNCOMMITTED.
 
         Raises:
-            StoreFault: no transaction is open on the connection, it has PostgreSQL's level
-                REPEATABLE READ, or the table has a fault.
+            StoreFault: no transaction is open on the connection, the open one has PostgreSQL's
+            level REPEATABLE READ, or the table has a fault.
             Exception: whatever the driver raises.
         """
         return self._done(self._commit_in(conn, worked))

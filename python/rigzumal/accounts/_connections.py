@@ -43,7 +43,7 @@ class Connections:
 
     async def at_replica(self, job: Job[Any]) -> Any:
         """Runs a job once at the replica. Returns Undone if no replica exists, if the replica fails
-        or refuses, or if it did so a moment ago."""
+        or refuses, or if it failed or refused a moment ago."""
         begun = time.monotonic()
         if self.replica is None or begun < self._asked_from:
             return Undone(None)
@@ -68,7 +68,7 @@ class Connections:
         return done
 
     async def replica_faults(self, job: Job[Any]) -> list[Fault]:
-        """The faults of the replica, if one exists."""
+        """Returns the faults of the replica, if one exists."""
         done = None if self.replica is None else await self._at_replica(job)
         if not isinstance(done, Undone):
             return []
@@ -78,17 +78,18 @@ class Connections:
         return [kind(f"replica-{code}", text)]
 
     def _why(self, done: Undone) -> str:
-        """The reason why the job did nothing, without the driver's text, which may quote a row."""
+        """Returns the reason why the job did nothing, without the driver's text, which may quote a
+        row."""
         cause = done.cause.__cause__ if isinstance(done.cause, Lost) else done.cause
         if isinstance(cause, AccountsError):
             return f"{type(cause).__name__}: {cause}"
         return self.table.name(cause)
 
     async def patiently(self, job: Job[Any], patience: Optional[float] = None) -> Any:
-        """Runs a job at the primary until it is done, with growing pauses.
+        """Runs a job at the primary until the job is done, with growing pauses.
 
         The method repeats a job that did nothing, after a lost connection or after a transaction
-        that the server undid. It computes no hash again.
+        that the server undid. The method computes no hash again.
         """
         begun, waits = time.monotonic(), None
         while True:
@@ -142,7 +143,7 @@ class Waits:
         return self.age >= self._patience
 
     def next(self, is_dead: bool = False) -> float:
-        """The next pause; after a dead connection it is as long as the last one."""
+        """Returns the next pause; after a dead connection it is as long as the last one."""
         pause, self.is_first = self._next, False
         if not is_dead:
             self._next = min(pause * 2, 0.5)
@@ -150,9 +151,9 @@ class Waits:
 
 
 def _reason(error: Exception) -> str:
-    """The reason for a missing connection, in the words of the server or the system.
+    """Returns the reason for a missing connection, in the words of the server or the system.
 
-    The text quotes no row, since nothing was sent; it omits a password in the DSN.
+    The text quotes no row, since the program sent nothing, and omits a password in the DSN.
     """
     lines = [line.strip() for line in str(error).splitlines()]
     return ": " + _DSN_PASSWORD.sub(r"\1***", "; ".join(filter(None, lines)))[:_LONGEST]

@@ -26,7 +26,7 @@ from rigzumal.accounts.types import Key, Kind, Reply, Request, StoreFault, Ticke
 from rigzumal.accounts.types import Worked
 from rigzumal.accounts.pools import Pool
 
-BATCH = 50_000  # lines of an import that are committed together
+BATCH = 50_000  # lines of an import that one COMMIT stores
 SHARE = 1000  # lines that one statement adds
 FEW = 200  # lines that one statement puts into existing rows: each key is compared with all
 _KEY: Final[Callable[[Line], Any]] = operator.itemgetter(0)
@@ -41,24 +41,24 @@ class Rows:
     dialect: Dialect
 
     def every(self) -> Iterator[tuple[Any, Optional[str]]]:
-        """Each name with its record, in the order of the names, as the server sends them."""
+        """Yields each name with its record, in the order of the names, as the server sends them."""
         with self.pool() as conn:
             for name, record in self.dialect.rows_of(conn, self.dialect.every):
                 yield name, record
 
     def delete(self, key: Key) -> bool:
-        """Deletes the account with its row; False if it doesn't exist."""
+        """Deletes the account with its row. Returns False if the account doesn't exist."""
         return self._changed("DELETE FROM {t} WHERE {k} = {m}", key)
 
     def rename(self, key: Key, new: Key) -> bool:
-        """Renames the account; False if it doesn't exist.
+        """Renames the account. Returns False if the account doesn't exist.
 
         Raises the driver's IntegrityError if another account has the name.
         """
         return self._changed("UPDATE {t} SET {k} = {m} WHERE {k} = {m}", new, key)
 
     def _changed(self, form: str, *values: Key) -> bool:
-        """Whether a statement changed a row; runs the statement in its own transaction."""
+        """Runs a statement in its own transaction. Returns whether the statement changed a row."""
         dialect = self.dialect
         if not all(map(dialect.can_stand, values)):
             return False
@@ -79,14 +79,14 @@ class Import:
     dialect: Dialect
     pool: Pool
     takes_foreign: bool = False  # records of other schemes, for a hook to judge
-    are_new: bool = True  # the names until now
+    are_new: bool = True  # the names so far
     copies: bool = True  # whether the engine still takes lines in its own way
 
     def take(self, file: pathlib.Path, key_of: Callable[[str], Key]) -> dict[str, int]:
         """Adds the accounts in lines "NAME RECORD", and counts the outcomes.
 
         The command reads all lines before it adds the first account, and reads them again for each
-        batch. It reports refused lines on standard error.
+        batch. The command reports refused lines on standard error.
         """
         with _read_twice(file) as lines:
             total = self._checked(self._records(lines, key_of))
@@ -94,7 +94,7 @@ class Import:
             return self._taken(self._records(lines, key_of), total)
 
     def _checked(self, records: Iterable[Line]) -> int:
-        """The number of lines; reports each line with a space in its name, which may be a
+        """Returns the number of lines, and reports each name with a space, which may be a
         mistake."""
         total, spaced, first = 0, 0, ""
         for total, (key, _) in enumerate(records, 1):
@@ -127,12 +127,12 @@ class Import:
         return {word: counts[word] for word in ("added", "there", "another")}
 
     def _records(self, lines: Iterable[str], key_of: Callable[[str], Key]) -> Iterator[Line]:
-        """The names and records of lines."""
+        """Yields the names and records of lines."""
         is_text, fault_of = self.dialect.key_type is str, _library.record_fault
         for number, line in enumerate(lines, 1):
             line = line.rstrip("\r\n")
             name, _, record = line.rpartition(" ")
-            # Most names have no blank, and nothing else that is refused in one.
+            # Most names have no blank, and nothing else for which `_record` refuses one.
             is_plain = is_text and name and name.isprintable() and " " not in name
             if is_plain and record.isascii() and "\0" not in record:
                 if fault_of(record.encode()) == _library.OK:
@@ -160,7 +160,7 @@ class Import:
         return key, record
 
     def put(self, batch: Sequence[Line]) -> list[str]:
-        """Adds a batch in one transaction: "added", "there" or "another" for each."""
+        """Adds a batch in one transaction. Returns "added", "there" or "another" for each line."""
         with self.pool() as conn:
             session = Session(conn)
             run(self.dialect.start(session))
@@ -169,8 +169,8 @@ class Import:
         return words
 
     def _by_copy(self, session: Session, batch: Sequence[Line]) -> Optional[list[str]]:
-        """Writes a large batch in the engine's own way; None if the engine has no such way, or
-        refuses the batch."""
+        """Writes a large batch in the engine's own way. Returns None if the engine has no such way,
+        or refuses the batch."""
         if len(batch) <= SHARE or not self.copies:
             return None
         try:
@@ -186,9 +186,10 @@ class Import:
         """Writes a batch with large statements: first as if all names were new, then without that
         assumption.
 
-        If both attempts fail, it writes line by line, which shows the account with the fault.
+        If both attempts fail, the method writes line by line, which shows the account with the
+        fault.
         """
-        # In the order of the names, which is the index's: its pages are read once each.
+        # In the order of the names, which is the index's: the server reads each of its pages once.
         lines = sorted(batch, key=_KEY)
         shares = [lines[it : it + SHARE] for it in range(0, len(lines), SHARE)]
         while True:
@@ -212,7 +213,7 @@ class Import:
         lines = [it for it in share if stands.get(it[0]) is None] if stands else share
         new = dict(lines)
         if len(new) < len(lines):
-            new = dict(reversed(lines))  # of lines with one name the first counts
+            new = dict(reversed(lines))  # among lines with one name, the first counts
         added = [it for it in new.items() if it[0] not in stands]
         enrolled = [it for it in new.items() if it[0] in stands] if stands else []
         if added:
@@ -237,7 +238,7 @@ class Import:
         return words
 
     def _standing(self, session: Session, keys: Sequence[Key]) -> list[Any]:
-        """The rows of these keys, with their records or None."""
+        """Returns the rows of these keys, with their records or None."""
         if not keys:
             return []
         return run(session.execute(*self.dialect.standing(keys))).rows
@@ -250,7 +251,7 @@ class Import:
             raise
 
     def _put(self, session: Session, key: Key, record: str) -> str:
-        """Enrols an account in the open transaction, and adds it if it doesn't exist."""
+        """Enrols an account in the open transaction, and adds the account if it doesn't exist."""
         if not run(session.execute(self.dialect.select, key)).rows:
             run(session.execute(self.dialect.insert, key))
         ticket = Ticket(Request(Kind.ENROL, key), None)
@@ -265,7 +266,7 @@ class Import:
 
 
 def _as_they_came(batch: Sequence[Line], words: Sequence[str]) -> list[str]:
-    """The outcomes of a batch in the order of its lines, from the order of their names."""
+    """Returns the outcomes of a batch in the order of its lines, from the order of their names."""
     names: list[Any] = [name for name, _ in batch]
     places = sorted(range(len(batch)), key=names.__getitem__)
     ordered = [""] * len(batch)
@@ -276,7 +277,7 @@ def _as_they_came(batch: Sequence[Line], words: Sequence[str]) -> list[str]:
 
 @contextlib.contextmanager
 def _read_twice(file: pathlib.Path) -> Iterator[IO[str]]:
-    """The lines of a file; a temporary file keeps the lines of a pipe for the second reading."""
+    """Opens the lines of a file; a temporary file keeps a pipe's lines for the second reading."""
     given: dict[str, Any] = {"encoding": "utf-8", "errors": "surrogateescape"}
     with open(file, **given) as lines:
         if lines.seekable():
@@ -289,26 +290,27 @@ def _read_twice(file: pathlib.Path) -> Iterator[IO[str]]:
 
 
 def line_of(name: object, record: Optional[str]) -> str:
-    """The line of an import; empty if the account has no record, or doesn't fit on a line."""
+    """Returns the line of an import, or "" if the account has no record or doesn't fit on a
+    line."""
     text, line = str(name), f"{name} {record}"
     fits = text and record and line.isprintable() and " " not in record
     return line if fits and text == text.strip() else ""
 
 
 def shown(name: object) -> str:
-    """A name that is safe on a terminal, whatever characters its owner chose."""
+    """Returns a name in a form that is safe on a terminal, whatever characters its owner chose."""
     text = str(name)
     return text if text.isprintable() else ascii(text)
 
 
 def why(record: object, fault: Union[InvalidRecordError, str]) -> str:
-    """The fault of a record, with the scheme of another program's record."""
+    """Returns the fault of a record, with the scheme of another program's record."""
     scheme = none_of_ours(record) if isinstance(record, str) else ""
     return f"{scheme}, and {fault}" if scheme else str(fault)
 
 
 def _progress(done: int, total: int, begun: float) -> None:
-    """A progress bar on standard error, if standard error is a terminal and the import is long."""
+    """Shows a progress bar on standard error, if that is a terminal and the import is long."""
     if not sys.stderr.isatty() or total <= BATCH:
         return
     took = time.monotonic() - begun

@@ -18,7 +18,7 @@ from rigzumal.accounts.types import Ticket, Worked, bytes_of_password
 Hasher = Union[PasswordHasher, ScryptHasher]
 
 Foreign = Callable[[str, bytes], Union[Optional[bool], Awaitable[Optional[bool]]]]
-"""Checks a password against a record of another scheme: True if it is right, otherwise False.
+"""Returns whether a password is right for a record of another scheme, as True or False.
 
 None means that no password is right and that the hook hashed nothing, as for a locked
 login: Rigzumal then computes a hash, so that the answer takes equally long. Any other answer
@@ -27,18 +27,18 @@ its executor.
 """
 
 Prepare = Callable[[str], str]
-"""Converts a password to the form that is hashed, as `rigzumal.opaque_string` does.
+"""Converts a password to the form for the hash, as `rigzumal.opaque_string` does.
 
-It raises ValueError for a password that no account may have.
+The function raises ValueError for a password that no account may have.
 """
 
 FOREIGN_HINT: Final = ": pass Accounts a `foreign` that checks records of other schemes"
 _TAG_SIZE: Final = 32
-_KNOWN: Final = 64  # costs of which a judge knows whether they are upgraded
-# Their numbers in the library for C are their places.
+_KNOWN: Final = 64  # costs for which a judge remembers whether an upgrade replaces them
+# The place of each is its number in the library for C.
 _OPERATIONS: Final = {kind: number for number, kind in enumerate(Kind, 1)}
 _REPLIES: Final = dict(enumerate(Reply, 1))
-# The password of a request that its account is to get.
+# The field of a request with the account's new password.
 _NEW: Final = {
     Kind.ENROL: "password",
     Kind.CHANGE: "new_password",
@@ -62,7 +62,7 @@ class Passwords:
             raise TypeError(f"`prepare` must be a function, not a {kind}")
 
     def new(self, password: Secret) -> bytes:
-        """The bytes of a new password.
+        """Returns the bytes of a new password.
 
         Raises TypeError if the password is neither bytes nor text, and ValueError if it is too
         short or too long, if UTF-8 can't encode it, or if `prepare` refuses it.
@@ -75,8 +75,8 @@ class Passwords:
         return made
 
     def of(self, request: Request) -> Request:
-        """The request with its passwords in the form that is hashed; raises the same exceptions as
-        `new`."""
+        """Returns the request with its passwords in the form for the hash, and raises the
+        exceptions of `new`."""
         new = _NEW.get(request.kind)
         if new is None and self.prepare is None:
             return request
@@ -87,14 +87,14 @@ class Passwords:
         if self.prepare is not None and is_present and request.can_be_right:
             try:
                 changed["password"] = self._prepared(request.password)
-            except ValueError:  # anybody may try a password, and gets an answer
+            except ValueError:  # anybody may try any password, and gets an answer
                 changed.update(password=b"", can_be_right=False)
         made = copying.copy(request)
         vars(made).update(changed)
         return made
 
     def _prepared(self, password: bytes) -> bytes:
-        """The bytes to hash; bytes that aren't UTF-8 stay unchanged."""
+        """Returns the bytes to hash; bytes that aren't UTF-8 stay unchanged."""
         if self.prepare is None:
             return password
         try:
@@ -145,12 +145,12 @@ class Judge:
             raise ValueError("upgrade_from has the hasher's own costs")
 
     def new_record(self, password: Secret) -> str:
-        """A new record of a password; raises the same exceptions as `bytes_of_password`."""
+        """Returns a new record of a password, and raises the exceptions of `bytes_of_password`."""
         return self._made(bytes_of_password(password))
 
     def question(self, ticket: Ticket) -> Optional[tuple[Foreign, str, bytes]]:
-        """The hook with its arguments, the record and the password; None if no hook has to
-        answer."""
+        """Returns the hook with its arguments, the record and the password, or None if no hook has
+        to answer."""
         request, copy = ticket.request, ticket.copy
         if self.foreign is None or not isinstance(copy, str):
             return None
@@ -160,7 +160,7 @@ class Judge:
         return self.foreign, copy, request.password
 
     def work(self, ticket: Ticket, right: Optional[bool] = None) -> Worked:
-        """The result of the whole operation on the ticket's copy.
+        """Returns the result of the whole operation on the ticket's copy.
 
         `right` is the hook's answer to the ticket's question. An account without a record costs as
         many hashes as a wrong password, and so does an unknown name.
@@ -181,7 +181,7 @@ class Judge:
         if copy is None:
             return self._stepped(request, copy)
         if request.kind is Kind.ENROL:
-            # Whatever text stands: an enrolment doesn't read it, and a step would.
+            # Whatever the record's text: an enrolment doesn't read the text, and a step would.
             return Reply.EXISTS, copy
         try:
             return self._at_record(request, copy)
@@ -199,7 +199,7 @@ class Judge:
         return _wrong(request), copy
 
     def _at_record(self, request: Request, copy: str) -> tuple[Reply, Copy]:
-        """The result for a record of ours, under any of the secrets."""
+        """Returns the result for a record of ours, under any of the secrets."""
         secrets = self._secrets
         if None in secrets and copy.startswith("$scrypt$"):
             secrets = (None,)
@@ -217,7 +217,7 @@ class Judge:
         return _wrong(request), copy
 
     def _stepped(self, request: Request, copy: Optional[str]) -> tuple[Reply, Copy]:
-        """The step's answer under the first secret, and the new record."""
+        """Returns the step's answer under the first secret, and the new record."""
         kind, password, secret = request.kind, request.password, self._secret
         if kind is Kind.UPGRADE and copy is not None and not self._is_upgraded(copy):
             is_kept = is_right(copy, password, secret)
@@ -236,7 +236,7 @@ class Judge:
             self._made(request.new_password)  # the step hashes it for a wrong password too
 
     def _at_right(self, request: Request, copy: str) -> tuple[Reply, Copy]:
-        """The result of a right password for a record that any upgrade replaces."""
+        """Returns the result of a right password for a record that any upgrade replaces."""
         if request.kind is Kind.VERIFY:
             return Reply.YES, copy
         if request.kind is Kind.REMOVE:
@@ -256,7 +256,7 @@ class Judge:
         return f"{self._hasher.costs}${encoded(salt)}"
 
     def _is_upgraded(self, record: str) -> bool:
-        """Whether an upgrade replaces a record, by its costs."""
+        """Whether an upgrade replaces a record because of its costs."""
         costs = record.rsplit("$", 2)[0]
         found = self._upgraded.get(costs)
         if found is None:
@@ -281,7 +281,7 @@ class Judge:
 
 
 def verdict_of(answer: object) -> Optional[bool]:
-    """The hook's answer; raises TypeError for a pair, a string or a number."""
+    """Returns the hook's answer, and raises TypeError for a pair, a string or a number."""
     if answer is None or isinstance(answer, bool):
         return answer
     kind = type(answer).__name__
@@ -289,7 +289,8 @@ def verdict_of(answer: object) -> Optional[bool]:
 
 
 def _numbers_of(costs: str) -> tuple[str, int, int, int, int]:
-    """The numbers of costs; raises InvalidRecordError for any other text, such as a record."""
+    """Returns the numbers of costs, and raises InvalidRecordError for any other text, such as a
+    record."""
     try:
         return parts(f"{costs}${'A' * 22}${encoded(bytes(_TAG_SIZE))}").costs
     except InvalidRecordError as fault:
@@ -302,7 +303,7 @@ def _wrong(request: Request) -> Reply:
 
 
 def _dearness(found: Parts) -> tuple[int, int, int]:
-    """Version, memory and work, in units that don't matter within one scheme."""
+    """Returns version, memory and work, in units that don't matter within one scheme."""
     if found.scheme == "scrypt":
         memory = found.passes << found.memory
         return found.version, memory, memory * found.lanes
@@ -317,10 +318,10 @@ def step(
     setting: str = "",
     secret: Optional[bytes] = None,
 ) -> tuple[Reply, Optional[str]]:
-    """The reply of a whole operation on a record of ours, and the new record.
+    """Returns the reply of a whole operation on a record of ours, and the new record.
 
-    Calls rigzumal_step_from, which without a secret runs the proved rigzumal_step; it has no reset.
-    The setting of a new record: costs with a fresh salt.
+    Calls rigzumal_step_from, which has no reset, and without a secret runs the proved
+    rigzumal_step. The setting of a new record is its costs with a fresh salt.
     """
     size = _library.TEXT_SIZE if setting else 0
     text = ctypes.create_string_buffer(size) if setting else None

@@ -29,7 +29,7 @@ from rigzumal.accounts.pools import check_pool
 
 AnyPool = TypeVar("AnyPool")
 
-_REFUSALS: Final = 3  # of a COMMIT whose effect is unknown, after which it isn't sent again
+_REFUSALS: Final = 3  # refusals of a COMMIT of unknown effect, until no other follows
 
 AS_A_VERIFY: Final = {
     Reply.KEPT: Reply.YES,
@@ -81,7 +81,7 @@ class Operations(Generic[AnyPool]):
         self._connections = Connections(self._runtime, pool, replica, self._table, patience)
 
     def _before_commit(self, worked: Worked) -> None:
-        """Called just before each COMMIT of a change."""
+        """Does nothing; the table calls this method just before each COMMIT of a change."""
 
     async def _replied(self, request: Request, also: Hook) -> Reply:
         return (await self._perform(request, also)).reply
@@ -154,7 +154,7 @@ class Operations(Generic[AnyPool]):
     async def _first_copy(
         self, request: Request, patience: Optional[float] = None
     ) -> tuple[Copy, bool]:
-        """A copy to work on, and whether it comes from the primary."""
+        """Returns a copy to work on, and whether the copy comes from the primary."""
         key, connections = request.key, self._connections
         self._dialect.check_key(key)
         if not self._dialect.can_stand(key):
@@ -174,7 +174,8 @@ class Operations(Generic[AnyPool]):
     async def _commit(
         self, worked: Worked, also: Hook = None, patience: Optional[float] = None
     ) -> Answer:
-        """Compares and writes, either in one statement or in its own transaction."""
+        """Compares the record with the copy and writes the change, in one statement or one
+        transaction."""
         key = worked.ticket.request.key
         if also is None and not self._dialect.can_stand(key):
             return Answer(Reply.NO_ACCOUNT, NO_ROW, NO_ROW)
@@ -197,14 +198,14 @@ class Operations(Generic[AnyPool]):
     async def _settled(self, worked: Worked, also: Hook) -> Answer:
         """Finds out whether a change was stored if its COMMIT had no answer.
 
-        A record is written only once, since its salt is fresh. If the row has the new record, the
-        change was therefore written. The change may not have reached the disk or the standby, so
-        the operation writes the record again: the COMMIT of that write waits for both, and a SELECT
-        wouldn't.
+        The operation writes a record only once, since its salt is fresh. If the row has the new
+        record, the server therefore wrote the change. The change may not have reached the disk or
+        the standby, so the operation writes the record again: the COMMIT of that write waits for
+        both, and a SELECT wouldn't.
 
-        If the row still has the copy, the change hasn't been stored so far, and is sent again: a
-        replaced record never returns. NULL may return, if another client has removed the record
-        since: a second enrolment would restore it.
+        If the row still has the copy, the server hasn't stored the change so far, and the operation
+        sends the change again: a replaced record never returns. NULL may return, if another client
+        has removed the record since: a second enrolment would restore the record.
         """
         waits, why = Waits(self._connections.patience, time.monotonic(), 0.01), ""
         refusals = 0
@@ -231,7 +232,8 @@ class Operations(Generic[AnyPool]):
         return cause is not None and self._dialect.verdict(cause) is Verdict.REFUSED
 
     async def _put_again(self, worked: Worked, also: Hook) -> bool:
-        """Whether the change is permanently stored; False if another attempt may find out.
+        """Whether the server has stored the change permanently; False if another attempt may find
+        out.
 
         Raises:
             OutcomeUnknown: the row has neither the copy nor the new record.

@@ -16,7 +16,7 @@ class State(enum.Enum):
     """The effect of a login on a record."""
 
     CURRENT = "current"
-    REHASH = "rehash"  # a right password replaces it by one of the hasher's costs
+    REHASH = "rehash"  # a right password replaces the record by one with the hasher's costs
     FOREIGN = "foreign"  # the record is of another scheme, and the service's hook judges it
     UNREADABLE = "unreadable"  # the record is of no known scheme: nobody logs in without a hook
     ABSENT = "absent"  # the account has no record
@@ -31,7 +31,7 @@ class Group(NamedTuple):
 
 
 def group_of(record: Optional[str], is_old: Callable[[Parts], bool]) -> Group:
-    """The group of a record."""
+    """Returns the group of a record."""
     if record is None:
         return Group(State.ABSENT, "", "")
     costs = costs_of(record)
@@ -44,14 +44,14 @@ def group_of(record: Optional[str], is_old: Callable[[Parts], bool]) -> Group:
 
 
 def costs_of(record: str) -> Optional[str]:
-    """Costs such as "$argon2id$v=19$m=65536,t=3,p=4"; None for any other text."""
+    """Returns costs such as "$argon2id$v=19$m=65536,t=3,p=4", or None for any other text."""
     return record.rsplit("$", 2)[0] if _library.is_record(record) else None
 
 
 def report(
     rows: Iterable[tuple[Any, Optional[str]]], is_old: Callable[[Parts], bool]
 ) -> list[tuple[Group, int]]:
-    """Each group with its count, by state, and the most frequent first."""
+    """Returns each group with its count, by state, and the most frequent first."""
     counts = Counter(group_of(record, is_old) for _, record in rows)
     order = list(State)
     return sorted(
@@ -61,7 +61,7 @@ def report(
 
 
 def as_prometheus(counts: Iterable[tuple[Group, int]]) -> Iterator[str]:
-    """The lines of Prometheus' text format."""
+    """Yields the lines of Prometheus' text format."""
     name = "rigzumal_accounts"
     yield f"# HELP {name} Accounts by the state, the scheme and the costs of their records."
     yield f"# TYPE {name} gauge"

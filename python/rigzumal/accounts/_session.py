@@ -20,11 +20,12 @@ from rigzumal.accounts.pools import lent
 T = TypeVar("T")
 
 Hook = Optional[Callable[[Any, Reply], Any]]
-"""A caller's own statements: called with the driver's connection and the reply."""
+"""A caller's own statements: a function of the driver's connection and the reply."""
 
 
 class HookFailed(Exception):
-    """A caller's hook raised `error`, which is passed to the caller; nothing was stored."""
+    """A caller's hook raised `error`, which the library passes to the caller; nothing was
+    stored."""
 
     def __init__(self, error: Exception) -> None:
         super().__init__()
@@ -32,7 +33,7 @@ class HookFailed(Exception):
 
 
 def at_once(name: str, answer: Any) -> Any:
-    """The answer of a caller's function; raises TypeError if its body didn't run."""
+    """Returns the answer of a caller's function, and raises TypeError if its body didn't run."""
     if isinstance(answer, Coroutine):
         answer.close()
     if isinstance(answer, Awaitable):
@@ -63,7 +64,7 @@ class Session:
         """Runs a statement to its end, since an open cursor would keep SQLite's snapshot."""
         cursor = self.conn.cursor()
         try:
-            # Without values no driver looks for marks in it.
+            # Without values, no driver looks for placeholders in the statement.
             statement = (sql, values) if values else (sql,)
             cursor.execute(*statement, **self._options)
             return _result(cursor, cursor.fetchall() if cursor.description else ())
@@ -96,7 +97,7 @@ def _result(cursor: Any, fetched: Any) -> Result:
 
 
 def _values(row: Any) -> tuple[Any, ...]:
-    """A row's values, from a driver whose rows aren't tuples."""
+    """Returns a row's values, from a driver whose rows aren't tuples."""
     if not isinstance(row, Iterable) or isinstance(row, (str, bytes)):
         raise StoreFault(f"a row is {type(row).__name__}, not a tuple or a dictionary")
     return tuple(row.values() if isinstance(row, Mapping) else row)
@@ -107,7 +108,7 @@ Job = Callable[[Session], Coroutine[Any, Any, T]]
 
 
 def run(coroutine: Coroutine[Any, Any, T]) -> T:
-    """The result of a coroutine over a blocking driver."""
+    """Returns the result of a coroutine over a blocking driver."""
     try:
         coroutine.send(None)
     except StopIteration as end:
@@ -131,7 +132,7 @@ async def _ended(job: Awaitable[T], ends: list[Union[T, BaseException]]) -> None
 
 
 def _answer(end: Union[T, BaseException]) -> T:
-    """Returns a job's answer; raises its error."""
+    """Returns a job's answer, or raises its error."""
     if isinstance(end, BaseException):
         raise end
     return end
@@ -155,7 +156,7 @@ class Runtime:
         self._options, self._executor = options, executor
 
     def session(self, conn: Any) -> Session:
-        """A session on a connection."""
+        """Returns a session on a connection."""
         return self._session(conn, self._options)
 
     async def use(self, pool: Any, job: Job[T]) -> T:
@@ -183,7 +184,7 @@ class Runtime:
         return work(*args)
 
     async def ask(self, name: str, hook: Callable[..., Any], *args: Any) -> Any:
-        """The answer of a caller's hook, which may also hash."""
+        """Returns the answer of a caller's hook, which may also hash."""
         return at_once(name, hook(*args))
 
 
@@ -204,7 +205,7 @@ class AsyncRuntime(Runtime):
                 raise
         return _answer(*ends)
 
-    # asyncio takes as long to import as all else here, so a blocking program doesn't.
+    # asyncio takes as long to import as all else here, so a blocking program doesn't import it.
 
     async def pause(self, seconds: float) -> None:
         import asyncio

@@ -27,8 +27,8 @@ ENDED: Final = (
 )
 WROTE: Final = "`also` has changed the account's own record"
 NESTED: Final = (
-    "`also` has called an operation on its own table, which may wait for the row that it"
-    " holds: use its argument, the connection"
+    "`also` called an operation on the same table, which can wait for the row that the outer"
+    " operation locks: use the connection that `also` receives"
 )
 
 
@@ -37,7 +37,7 @@ class Lost(Exception):
 
 
 class Broken(Exception):
-    """COMMIT was sent, but no answer arrived."""
+    """The program sent COMMIT, but no answer arrived."""
 
 
 @dataclass(frozen=True)
@@ -45,7 +45,7 @@ class Undone:
     """Nothing was stored, and the job may be repeated."""
 
     cause: Optional[BaseException]
-    reason: str = ""  # why there is no connection, in words that quote no row
+    reason: str = ""  # the reason for a missing connection, in words that quote no row
 
 
 class _Put(NamedTuple):
@@ -62,8 +62,8 @@ class Table:
 
     dialect: Dialect
     confirm: bool  # a COMMIT that writes confirms an operation without a change
-    before_commit: Callable[[Worked], None]  # is called before each one of a change
-    pool: Any = None  # of the primary: accounts that share it are of one database
+    before_commit: Callable[[Worked], None]  # the table calls it before each COMMIT of a change
+    pool: Any = None  # of the primary: accounts that share this pool are of one database
 
     def refuse_nested(self) -> None:
         """Refuses an operation inside an `also` on the same table."""
@@ -77,7 +77,7 @@ class Table:
         return self.confirm and worked.ticket.copy is not NO_ROW
 
     async def look(self, session: Session, key: Key) -> Copy:
-        """The present record."""
+        """Returns the present record."""
         self.dialect.fresh(session.conn)
         try:
             await self.dialect.prepare(session)
@@ -87,7 +87,8 @@ class Table:
         self._raise(caught)
 
     async def one(self, session: Session, sql: str, key: Key) -> Copy:
-        """The record that a statement reads; NO_ROW for a key that the column can't store."""
+        """Returns the record that a statement reads, or NO_ROW for a key that the column can't
+        store."""
         try:
             return _record((await session.execute(sql, key)).rows)
         except Exception as error:
@@ -98,7 +99,7 @@ class Table:
     async def change(
         self, session: Session, worked: Worked, also: Hook = None
     ) -> Union[Answer, Undone]:
-        """Makes a change by one statement, or by a transaction that includes a caller's hook."""
+        """Writes a change in one statement, or in a transaction that includes a caller's hook."""
         self.dialect.fresh(session.conn)
         done: Union[Answer, Undone, None] = None
         if also is None and self._is_of_one_statement(worked):
@@ -106,7 +107,7 @@ class Table:
         return done or await self._transaction(session, worked, also)
 
     def _is_of_one_statement(self, worked: Worked) -> bool:
-        """Whether one statement makes the change, if the engine has such a statement.
+        """Whether one statement can write the change, if the engine has such a statement.
 
         If a record is added or removed, the row doesn't show afterwards who changed it. The library
         must therefore know whether a connection broke before COMMIT.
@@ -116,7 +117,8 @@ class Table:
         return bool(self.dialect.at_once) and both and copy != after
 
     async def _at_once(self, session: Session, worked: Worked) -> Union[Answer, Undone, None]:
-        """Makes a change by one statement; None if only a transaction can show its outcome."""
+        """Writes a change in one statement. Returns None if only a transaction can show its
+        outcome."""
         dialect, copy, after = self.dialect, worked.ticket.copy, worked.after
         is_sent = False
         try:
@@ -165,10 +167,10 @@ class Table:
         return await self._undone(session, caught)
 
     async def _answer(self, session: Session, worked: Worked, also: Hook) -> Answer:
-        """Compares and writes, after a caller's hook has received the reply.
+        """Calls a caller's hook with the reply, and then compares the record and writes the change.
 
-        The row is locked during the hook. The record is written last, so that nothing is written if
-        the hook has ended the transaction.
+        The transaction locks the row during the hook. The method writes the record last, so that it
+        writes nothing if the hook has ended the transaction.
         """
         if also is None:
             return await self.compare(session, worked)
@@ -204,13 +206,14 @@ class Table:
         return mode.has_transaction and not mode.has_failed
 
     async def commit_in(self, session: Session, worked: Worked) -> Answer:
-        """Compares and writes within a transaction that the caller begins and ends."""
+        """Compares the record and writes the change in a transaction that the caller begins and
+        ends."""
         self.dialect.check_key(worked.ticket.request.key)
         await self.dialect.within(session)
         return await self.compare(session, worked)
 
     async def compare(self, session: Session, worked: Worked) -> Answer:
-        """Compares and writes, within an open transaction."""
+        """Compares the record with the copy, and writes the change, within an open transaction."""
         key, copy = worked.ticket.request.key, worked.ticket.copy
         dialect = self.dialect
         if not dialect.can_stand(key):
@@ -219,11 +222,11 @@ class Table:
             return judged(worked, await self.one(session, dialect.locked, key))
         rows, count, _ = await dialect.put(session, worked.after, key, copy)
         if count == 0:
-            # With a lock: a plain SELECT may read an old snapshot where the UPDATE didn't.
+            # With a lock: a plain SELECT may read an old snapshot, which the UPDATE didn't.
             answer = judged(worked, await self.one(session, dialect.locked, key))
             if answer.reply is not worked.reply:
                 return answer
-            # NULL may have come back since the UPDATE, and stays by the lock.
+            # NULL may have come back since the UPDATE, and the lock now keeps it.
             rows, count, _ = await dialect.put(session, worked.after, key, copy)
         if count == 0:
             raise StoreFault("the row still has its old record, which an UPDATE doesn't change")
@@ -237,8 +240,8 @@ class Table:
         return Answer(worked.reply, copy, worked.after)
 
     async def examine(self, session: Session, record: str, used: Container[Kind]) -> list[Fault]:
-        """The faults that only the engine or a trial shows: no catalogue shows a role that may not
-        update, a rule that does nothing, or a CHECK that no record passes."""
+        """Returns the faults that only the engine or a trial shows: no catalogue shows a role that
+        may not update, a rule that does nothing, or a CHECK that no record passes."""
         self.dialect.fresh(session.conn)
         found = await self.dialect.examine(session)
         faults = [*found.faults, *(() if self.confirm else found.unless_confirmed)]
@@ -252,7 +255,7 @@ class Table:
         return faults + ([Fault(Severity.ERROR, "no-update", text)] if text else [])
 
     async def _trial(self, session: Session, puts: Sequence[_Put]) -> Optional[str]:
-        """The reason why a row can't store one of these changes."""
+        """Returns the reason why a row can't store one of these changes."""
         fault, put = None, puts[0]
         try:
             await self.dialect.start(session)
@@ -282,13 +285,14 @@ class Table:
         try:
             await self.dialect.put(session, record, key, None)
         except Exception as raised:
-            # An enum has no name that no row has, so an empty table of one shows nothing.
+            # An enum has no value for an unused key, so an empty table with such a key shows
+            # nothing.
             if not self.dialect.lacks_key(raised, key):
                 raise
 
     async def _row(self, session: Session) -> Optional[Key]:
-        """The key of a new row, or of an existing one; None if the table is empty and refuses a
-        row."""
+        """Returns the key of a new row, or of an existing one, or None if the table is empty and
+        refuses a row."""
         dialect = self.dialect
         key = unused_key(dialect.key_type)
         try:
@@ -297,7 +301,7 @@ class Table:
                 return key
         except Exception:
             pass
-        # The role adds no rows, they have columns of their own, or a key is padded.
+        # The role may add no rows, rows need other columns too, or the server pads a key.
         await dialect.undo(session)
         await dialect.start(session)
         sql = dialect.alone(f"SELECT {dialect.key} FROM {dialect.table} LIMIT 1")
@@ -351,20 +355,20 @@ class Table:
         raise StoreFault(f"the server refused a statement: {self.name(error)}; {said}")
 
     def name(self, error: Optional[BaseException]) -> str:
-        """An error's kind and number, without its text."""
+        """Returns an error's kind and number, without its text."""
         number = "" if error is None else self.dialect.number(error)
         return f"{type(error).__name__} {number}".rstrip()
 
 
 def judged(worked: Worked, now: Copy) -> Answer:
-    """The answer without a change, for the record that the statement found."""
+    """Returns the answer without a change, for the record that the statement found."""
     if now == worked.ticket.copy:
         return Answer(worked.reply, now, now)
     return Answer(Reply.NO_ACCOUNT if now is NO_ROW else Reply.CHANGED, now, now)
 
 
 def _record(rows: list[tuple[Any, ...]]) -> Copy:
-    """The record of the row that the statement found; NO_ROW if it found none."""
+    """Returns the record of the row that the statement found, or NO_ROW if it found none."""
     if len(rows) > 1:
         raise StoreFault("more than one row has the key")
     if not rows:
@@ -378,7 +382,7 @@ def _record(rows: list[tuple[Any, ...]]) -> Copy:
 
 
 def unused_key(kind: type) -> Key:
-    """A key that no row has."""
+    """Returns a key that no row has."""
     number = uuid.uuid4()
     # A column of two bytes can hold this number.
     small = -1 - secrets.randbelow(30_000)

@@ -15,7 +15,7 @@ from rigzumal._commands import read_password
 
 
 def _options() -> Words:
-    """The options of each command, which may also precede the command."""
+    """Returns the options of each command, which may also precede the command."""
     words = Words(add_help=False, argument_default=argparse.SUPPRESS)
     words.add_argument("--database", metavar="URL")
     words.add_argument("--table", help="by default: accounts")
@@ -34,7 +34,7 @@ def _options() -> Words:
 
 
 def parser(description: str, texts: Mapping[str, str]) -> argparse.ArgumentParser:
-    """The parser of the command, with a text for each of its commands."""
+    """Builds the command's parser, with a text for each of its commands."""
     words = Words(
         prog="python3 -m rigzumal accounts",
         description=description,
@@ -68,7 +68,7 @@ def parser(description: str, texts: Mapping[str, str]) -> argparse.ArgumentParse
 
 
 def accounts_hasher(args: argparse.Namespace) -> Union[PasswordHasher, ScryptHasher]:
-    """The hasher of the costs, with the pepper of --secret."""
+    """Builds the hasher of the costs, with the pepper of --secret."""
     hasher = hasher_of(args)
     secrets = [pathlib.Path(it).read_bytes() for it in getattr(args, "secret", ())]
     if not secrets:
@@ -79,12 +79,13 @@ def accounts_hasher(args: argparse.Namespace) -> Union[PasswordHasher, ScryptHas
 
 
 def password_of(*, is_new: bool = False) -> bytes:
-    """The password: what the user types, or standard input without one newline at its end."""
+    """Reads the password from the terminal, or from standard input without one newline at its
+    end."""
     return _checked(read_password(is_new=is_new).removesuffix(b"\n"))
 
 
 def old_and_new() -> tuple[bytes, bytes]:
-    """The old password and the new one: two lines, or what the user types."""
+    """Reads the old password and the new one, from the terminal or as two lines."""
     if sys.stdin is not None and sys.stdin.isatty():
         old = read_password("Old password")
         return _checked(old), _checked(read_password("New password", is_new=True))

@@ -57,7 +57,7 @@ def main(words: Optional[Sequence[str]] = None) -> int:
     except Exception as fault:
         if type(fault).__module__.partition(".")[0] not in DRIVERS:
             raise
-        first, *_ = [*str(fault).strip().splitlines(), ""]  # others may have a row
+        first, *_ = [*str(fault).strip().splitlines(), ""]  # another error may quote a row
         say(f"{type(fault).__name__}: {first}")
     return Status.DATABASE
 
@@ -131,7 +131,7 @@ class _Command:
         return int(name)
 
     def new_key(self, name: str) -> Key:
-        """A name that a new account may get."""
+        """Returns a name as the key of a new account, or refuses the name."""
         key = self.key(name)
         if not self.dialect.can_stand(key):
             raise Refusal("the column can't hold this name", Status.WORDS)
@@ -142,7 +142,7 @@ class _Command:
         return key
 
     def copy(self, key: Key) -> Copy:
-        """The row's record; None if the row has none, and NO_ROW if no row exists."""
+        """Returns the row's record, None if the row has none, or NO_ROW if no row exists."""
         return self.accounts.begin(Request(Kind.VERIFY, key)).copy
 
     @contextlib.contextmanager
@@ -182,7 +182,7 @@ class _Command:
             return self.say(Reply.EXISTS)
         with _password_judged():
             record = accounts.new_record(password)
-        # The account and its record are put in one transaction.
+        # One transaction adds the account and its record.
         (word,) = Import(accounts, self.dialect, self.pool).put([(key, record)])
         reply = Reply.ENROLLED if word == "added" else Reply.EXISTS
         return self.say(reply, Reply.ENROLLED)

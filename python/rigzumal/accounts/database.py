@@ -60,21 +60,21 @@ class Database:
         return self.kind == "sqlite" and not os.path.exists(self._path)
 
     def dialect_kind(self) -> type[Dialect]:
-        """The dialect of the engine; the server reports whether it is MariaDB or MySQL."""
+        """Returns the engine's dialect; the server reports whether it is MariaDB or MySQL."""
         if self.kind != "mysql":
             return Sqlite if self.kind == "sqlite" else Postgres
         with contextlib.closing(self.connect()) as conn:
             return MariaDB if "MariaDB" in conn.get_server_info() else MySQL
 
     def connect(self) -> Any:
-        """A connection in autocommit; raises ImportError if the driver is missing."""
+        """Opens a connection in autocommit, and raises ImportError if the driver is missing."""
         if self.kind == "mysql":
             return self._mysql()
         if self.kind == "postgresql":
             return self._postgresql()
         folder = os.path.dirname(self._path)
         if folder and not os.path.isdir(folder):
-            raise StoreFault(f"{folder}: no such folder")  # of which SQLite names nothing
+            raise StoreFault(f"{folder}: no such folder")  # SQLite names none
         conn = sqlite3.connect(self._path, timeout=20, isolation_level=None)
         conn.execute("PRAGMA synchronous = FULL")
         return conn
@@ -137,7 +137,7 @@ def _check_people(rest: str) -> None:
 
 
 def _place(text: str) -> tuple[str, int]:
-    """A host with its port; raises ValueError for any other text."""
+    """Returns a host with its port, and raises ValueError for any other text."""
     found = _HOST.fullmatch(text)
     if found is None:
         raise ValueError("a host of MySQL is name:port or [address]:port")

@@ -45,7 +45,7 @@ def check_pool(pool: object, enter: str) -> None:
     """Raises TypeError for a connection, an engine or a single use instead of a pool, and for a
     PerThread or a PerUse of the other kind of accounts."""
     is_other = isinstance(pool, PerThread if enter == "__aenter__" else PerUse)
-    # A context manager of contextlib's may be called too, as a decorator.
+    # contextlib's context managers are callables too, since they are decorators.
     is_use = isinstance(pool, (AbstractContextManager, AbstractAsyncContextManager))
     is_use = is_use and type(pool).__module__ == "contextlib"
     if not callable(pool) or hasattr(type(pool), "cursor") or is_other or is_use:
@@ -60,7 +60,7 @@ def check_connect(connect: object, of: str) -> None:
 
 
 def lent(pool: Any, enter: str) -> Any:
-    """The context manager of a pool's connection; raises TypeError if it lacks `enter`.
+    """Returns the context manager of a pool's connection, and raises TypeError if it lacks `enter`.
 
     A connection of psycopg or sqlite3 is also a context manager, but its exit doesn't close the
     connection.
@@ -94,7 +94,7 @@ class _Held:
 
 
 class PerThread:
-    """One connection for each thread; it is closed after any exception, and with its thread.
+    """Keeps one connection for each thread, and closes it after any exception and with its thread.
 
     `connect` opens a connection in autocommit. After a fork the child opens its own connection, and
     doesn't use its parent's.
@@ -117,10 +117,10 @@ class PerThread:
             held.close()
 
     def _lend(self) -> _Held:
-        """The thread's connection, or a new one."""
+        """Returns the thread's connection, or a new one."""
         if runs_over(self):
             fault = "this thread's connection is in use"
-            raise TypeError(f"{fault}: within `also`, use its argument")
+            raise TypeError(f"{fault}: within `also`, use the connection that `also` receives")
         held = self._mine()
         # A lent connection never came back: a signal may have interrupted its use anywhere.
         if held is None or held.is_lent:
@@ -131,14 +131,14 @@ class PerThread:
     def _take_back(self, held: _Held, is_well: bool) -> None:
         """Keeps a connection for the thread's next use, or closes it."""
         if held is not getattr(self._local, "held", None):
-            held.close()  # another connection took its place, or it is closed
+            held.close()  # the thread has another connection by now, or has closed this one
         elif is_well:
             held.is_lent = False
         else:
             self.close()
 
     def _mine(self) -> Optional[_Held]:
-        """This thread's connection, if this process opened it."""
+        """Returns this thread's connection, if this process opened it."""
         held: Optional[_Held] = getattr(self._local, "held", None)
         if held is not None and held.pid != os.getpid():
             # Closing it here, or dropping it, would end the parent's session at the server.
@@ -171,11 +171,11 @@ class _Use:
         self._pool._take_back(self._held, kind is None)
 
 
-_CONNECTING: Final = 4  # connections that are opened at a time: each holds up the loop
+_CONNECTING: Final = 4  # the number of connections to open at a time: each delays the event loop
 
 
 class PerUse:
-    """Opens a connection for each use, for AsyncAccounts; `connect` opens one in autocommit.
+    """Opens a connection for each use by AsyncAccounts; `connect` opens one in autocommit.
 
     If the task is cancelled, even while the connection opens, the pool closes the connection. For
     many simultaneous uses, a pool that keeps its connections is faster.
@@ -224,7 +224,7 @@ def _close(opening: asyncio.Future[Any]) -> None:
 
 
 def of_engine(engine: Any) -> Any:
-    """The pool of an engine of SQLAlchemy, 1.4 or 2.0.
+    """Returns the pool of an engine of SQLAlchemy, 1.4 or 2.0.
 
     An Engine becomes a pool for Accounts, and an AsyncEngine a pool for AsyncAccounts. The engine
     must have isolation_level="AUTOCOMMIT", or be

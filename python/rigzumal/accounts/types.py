@@ -22,7 +22,7 @@ from rigzumal._library import Secret, bytes_of
 Key = Union[int, str, bytes, uuid.UUID]
 """The name of an account, of its column's type."""
 
-LONGEST_PASSWORD: Final = 256  # bytes; a longer one is refused, and never cut off
+LONGEST_PASSWORD: Final = 256  # bytes; the operations refuse a longer one, and never truncate it
 
 
 class Reply(enum.Enum):
@@ -41,7 +41,7 @@ class Reply(enum.Enum):
     CHANGED = "changed"
     NO_ACCOUNT = "noaccount"
 
-    __hash__ = object.__hash__  # Enum's own is one of Python's, and slow
+    __hash__ = object.__hash__  # Enum's own __hash__ is a function in Python, and slow
 
     # Hidden from mypy, whose `truthy-bool` then reports each place where a comparison is missing.
     if not TYPE_CHECKING:
@@ -90,8 +90,8 @@ Copy = Union[str, None, NoRow]
 
 
 def bytes_of_password(password: Secret) -> bytes:
-    """The bytes of a password; raises the same exceptions as `new_record` for a password that no
-    account may have."""
+    """Returns the bytes of a password, and raises the exceptions of `new_record` for a password
+    that no account may have."""
     found = password if type(password) is bytes else bytes_of(password)
     if len(found) > LONGEST_PASSWORD:
         raise ValueError(f"a password has up to {LONGEST_PASSWORD} bytes")
@@ -111,7 +111,7 @@ class Request:
     key: Key
     password: bytes = field(repr=False)  # not of a reset
     new_password: bytes = field(repr=False)  # of a change and of a reset
-    # False for a password that no account can have; the field is then empty, and the password
+    # False for a password that no account can have: the field is then empty, and the password
     # wrong.
     can_be_right: bool = field(init=False, repr=False)
 
@@ -179,7 +179,8 @@ class NoConnection(Unavailable):
 
 
 class OutcomeUnknown(AccountsError):
-    """COMMIT was sent, no answer arrived, and the row doesn't show the outcome.
+    """The operation sent COMMIT, no answer arrived, and the row doesn't show the outcome.
 
-    The change may be stored, may have been replaced since, or may still take effect.
+    The server may have stored the change, another client may have replaced it since, or it may
+    still take effect.
     """

@@ -32,8 +32,8 @@ _TYPES: Final = {
 
 
 def _bytes_of(text: _Text, encoding: str) -> bytes:
-    """The bytes of a text; an error names the position of a character that can't be encoded, but
-    never the character."""
+    """Encodes a text; an error names the position of a character that can't be encoded, but never
+    the character."""
     if isinstance(text, bytes):
         return text
     try:
@@ -56,7 +56,7 @@ def _check_types(**given: tuple[object, type]) -> None:
 
 
 def _parameter(name: str) -> Any:
-    """A property that reads a hasher's parameter."""
+    """Builds a property that reads a hasher's parameter."""
     return property(operator.attrgetter(f"_parameters.{name}"))
 
 
@@ -114,13 +114,13 @@ class PasswordHasher:
 
     @classmethod
     def from_parameters(cls, params: Parameters) -> PasswordHasher:
-        """A hasher with these parameters, for version 0x13."""
+        """Builds a hasher with these parameters, for version 0x13."""
         costs = params.time_cost, params.memory_cost, params.parallelism
         return cls(*costs, params.hash_len, params.salt_len, type=params.type)
 
     @hidden
     def hash(self, password: _Text, *, salt: Optional[bytes] = None) -> str:
-        """A new encoded hash; the call generates a salt if the caller passes none.
+        """Returns a new encoded hash, with a generated salt if the caller passes none.
 
         Raises:
             HashingError: a number or a size is out of range, or memory is short.
@@ -132,7 +132,7 @@ class PasswordHasher:
 
     @hidden
     def verify(self, hash: _Text, password: _Text) -> Literal[True]:
-        """True if the password is right for the hash.
+        """Returns True if the password is right for the hash.
 
         Raises:
             VerifyMismatchError: the hash belongs to another password.

@@ -38,7 +38,7 @@ class VerifyMismatchError(VerificationError, rigzumal.VerifyMismatchError):
 
 
 class HashingError(Argon2Error):
-    """A password couldn't be hashed."""
+    """The library couldn't hash a password."""
 
 
 class InvalidHashError(_Said, rigzumal.InvalidRecordError):

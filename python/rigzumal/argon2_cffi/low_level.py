@@ -13,8 +13,8 @@ from rigzumal._parts import decoded, encoded
 from rigzumal.argon2_cffi.exceptions import HashingError, InvalidHashError
 from rigzumal.argon2_cffi.exceptions import VerificationError, VerifyMismatchError
 
-# As in rigzumal's own modules: typing, dataclasses, re and hmac are imported only for types, since
-# they take longer than all else.
+# As in rigzumal's own modules, only type checkers import typing, dataclasses, re and hmac here,
+# since these imports take longer than all else.
 TYPE_CHECKING = False
 if TYPE_CHECKING:
     import re
@@ -42,8 +42,8 @@ _VERSIONS: Final = (0x10, 0x13)
 _NO_VERSION: Final = 18  # argon2-cffi's number for a hash without a version; it stands for 0x10
 _MOST_LANES: Final = 255
 
-# Faults of records that argon2-cffi reads and the library may not: a number, or the length of the
-# salt, the tag or the text.
+# Faults of records that argon2-cffi reads, but perhaps not the library: a number, or the length of
+# the salt, the tag or the text.
 _OF_OURS: Final = (5, 6, 7, 9)
 
 # libargon2's messages, from 0 down to -35.
@@ -168,7 +168,7 @@ class Encoded:
         self.parameters, self.salt, self.tag = parameters, salt, tag
 
     def text(self) -> bytes:
-        """The encoded hash."""
+        """Returns the encoded hash."""
         it = self.parameters
         costs = f"m={it.memory_cost},t={it.time_cost},p={it.parallelism}"
         front = f"$argon2{it.type.name.lower()}$v={it.version}${costs}"
@@ -176,7 +176,7 @@ class Encoded:
 
     @classmethod
     def read(cls, text: bytes) -> Optional[Encoded]:
-        """The parts of an encoded hash, or None; its costs may be out of range."""
+        """Returns the parts of an encoded hash, whose costs may be out of range, or None."""
         found = _form().fullmatch(text.decode("latin1"))
         if found is None:
             return None
@@ -194,14 +194,14 @@ class Encoded:
 
 
 def extract_parameters(hash: Union[str, bytes]) -> Parameters:
-    """The parameters of an encoded hash.
+    """Returns the parameters of an encoded hash.
 
     Raises:
         InvalidHashError: the text isn't a hash of Argon2.
     """
     try:
         text = _library.bytes_of(hash)
-    except ValueError:  # it has no form in UTF-8
+    except ValueError:  # UTF-8 can't encode the text
         raise InvalidHashError from None
     read = Encoded.read(text)
     if read is None or read.parameters.version not in _VERSIONS:
@@ -213,14 +213,14 @@ def extract_parameters(hash: Union[str, bytes]) -> Parameters:
 
 @functools.lru_cache(maxsize=None)
 def _form() -> re.Pattern[str]:
-    """The regular expression of an encoded hash."""
+    """Returns the regular expression of an encoded hash."""
     import re
 
     return re.compile(_FORM)
 
 
 def _fault_of(text: bytes) -> int:
-    """The fault of a record that isn't a valid hash here."""
+    """Returns the fault of a record that isn't a valid hash here."""
     try:
         _library.parts(text)
     except _library.InvalidRecordError as fault:
@@ -229,14 +229,14 @@ def _fault_of(text: bytes) -> int:
 
 
 def error_to_str(error: int) -> str:
-    """libargon2's message for one of its numbers."""
+    """Returns libargon2's message for one of its numbers."""
     known = -len(_MESSAGES) < error <= 0
     return _MESSAGES[-error] if known else "Unknown error code"
 
 
 def _first_fault(it: Parameters) -> Optional[int]:
-    """The libargon2 number for the first parameter that is too small, in its order of checks; None
-    if all are large enough."""
+    """Returns libargon2's number for the first parameter that is too small, in libargon2's order of
+    checks, or None if all are large enough."""
     faults = (
         (it.hash_len < 4, -2),
         (it.salt_len < 8, -6),
@@ -248,7 +248,7 @@ def _first_fault(it: Parameters) -> Optional[int]:
 
 
 def _tag(it: Parameters, secret: bytes, salt: bytes) -> bytes:
-    """The tag for these parameters, computed with a thread for each lane."""
+    """Computes the tag for these parameters, with a thread for each lane."""
     numbers: dict[str, Any] = {**vars(it), "type": rigzumal.Type(it.type.value)}
     del numbers["salt_len"]
     return rigzumal.argon2(secret, salt, threads=it.parallelism, **numbers)
@@ -265,7 +265,7 @@ def hash_secret_raw(
     type: Type,
     version: int = ARGON2_VERSION,
 ) -> bytes:
-    """The tag of hash_len bytes, with memory_cost in KiB and a thread for each lane.
+    """Computes the tag of hash_len bytes, with memory_cost in KiB and a thread for each lane.
 
     Raises:
         HashingError: a number or a size is out of range, or memory is short.
@@ -295,7 +295,7 @@ def hash_secret(
     type: Type,
     version: int = ARGON2_VERSION,
 ) -> bytes:
-    """The encoded hash with the tag of hash_secret_raw; raises the same exceptions."""
+    """Returns the encoded hash with the tag of hash_secret_raw, and raises the same exceptions."""
     salt = _library.data_of(salt)
     costs = (time_cost, memory_cost, parallelism)
     tag = hash_secret_raw(secret, salt, *costs, hash_len, type, version)
@@ -305,7 +305,8 @@ def hash_secret(
 
 @hidden
 def verify_secret(hash: bytes, secret: bytes, type: Type) -> Literal[True]:
-    """True if the encoded hash has this type and the secret is right; uses a thread for each lane.
+    """Returns True if the encoded hash has this type and the secret is right, on a thread for each
+    lane.
 
     Raises:
         VerifyMismatchError: the hash belongs to another secret.
@@ -328,8 +329,8 @@ def verify_secret(hash: bytes, secret: bytes, type: Type) -> Literal[True]:
 
 
 def _verdict(hash: bytes, secret: bytes) -> int:
-    """The library's verdict, or our own for a salt of over 48 bytes or a tag of over 64, which the
-    library refuses."""
+    """Returns the library's verdict, or our own for a salt of over 48 bytes or a tag of over 64,
+    which the library refuses."""
     fault = _library.check(hash, secret, threads=_MOST_LANES)
     read = Encoded.read(hash) if fault in _OF_OURS else None
     if read is None:

@@ -16,5 +16,5 @@ CHEAPEST = Parameters(Type.ID, 19, 8, 4, 1, 8, 1)
 
 
 def get_default_parameters() -> Parameters:
-    """The defaults of PasswordHasher."""
+    """Returns the defaults of PasswordHasher."""
     return RFC_9106_LOW_MEMORY

@@ -40,15 +40,16 @@ class UserAdmin(admin.UserAdmin):
         obj.save(update_fields=names)
 
     def changeform_view(self, request: Any, *args: Any, **kwargs: Any) -> Any:
-        """The page of a user; shows the form again if it couldn't write the password."""
+        """Answers with a user's page, and shows the form again if it couldn't write the
+        password."""
         try:
             return super().changeform_view(request, *args, **kwargs)
         except RecordChanged:
             return self._again(request)
 
     def user_change_password(self, request: Any, id: str, form_url: str = "") -> Any:
-        """The page that sets a password; shows the form again if the password was changed
-        meanwhile."""
+        """Answers with the page that sets a password, and shows the form again if the password was
+        changed meanwhile."""
         try:
             return super().user_change_password(request, id, form_url)
         except (RecordChanged, ValidationError):

@@ -22,7 +22,8 @@ class CompareAndSetBackend(ModelBackend):
     """Django's ModelBackend, which never undoes a change of a password.
 
     - After a right login the backend rehashes a record with old costs, by an UPDATE that compares
-      the row's record; if the record has changed, it checks the password against the new one.
+      the row's record; if the record has changed, the backend checks the password against the new
+      one.
     - The backend reads the user from the database that it writes to, so a replica may lag.
     - An unknown name or an inactive user costs one hash and two queries, like a wrong password; the
       backend doesn't rehash an inactive user's record.
@@ -39,7 +40,8 @@ class CompareAndSetBackend(ModelBackend):
         password: Optional[str] = None,
         **kwargs: Any,
     ) -> Any:
-        """The user; None for an unknown name, a wrong password or a user who may not log in."""
+        """Returns the user, or None for an unknown name, a wrong password or a user who may not log
+        in."""
         model = get_user_model()
         if username is None:
             username = kwargs.get(model.USERNAME_FIELD)
@@ -61,7 +63,7 @@ class CompareAndSetBackend(ModelBackend):
         except passwords.RecordChanged:
             return None
 
-    # Django calls it from 5.2 on.
+    # Django 5.2 and later call it.
     aauthenticate = records.awaited(lambda self, *a, **b: self.authenticate(*a, **b))
 
 
@@ -70,5 +72,5 @@ def _spend(password: Any) -> None:
     """Hashes the typed password, so that the answer takes as long as for a wrong password."""
     try:
         hashers.make_password(password)
-    except ValueError:  # the text has no form in UTF-8, and is judged as an empty password
+    except ValueError:  # UTF-8 can't encode the text, so an empty password stands for it
         hashers.make_password("")

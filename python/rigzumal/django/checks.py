@@ -34,13 +34,13 @@ WIDTH = 128  # letters that a record of Django's may have
 OURS = (hashers.Argon2PasswordHasher, hashers.ScryptPasswordHasher)
 
 _SNAPSHOTS = {"repeatable read", "serializable"}
-_PSYCOPG2_SNAPSHOTS = {2, 3}  # psycopg2's numbers for the same
+_PSYCOPG2_SNAPSHOTS = {2, 3}  # psycopg2's numbers for the same levels
 _LEVEL = re.compile(r"isolation(?:[ _-]level)?[ =']+(repeatable|serializable)")
 """The form of a level in PostgreSQL's `options` and in MySQL's `init_command`."""
 
 
 def register() -> None:
-    """Registers the checks; called once, by the app."""
+    """Registers the checks; the app calls this function once."""
     settings_checks = (backends, column, hashers_listed, isolation, own_methods)
     for check in (*settings_checks, user_model, admin_sites, url_views, command):
         checks.register(check, checks.Tags.security)
@@ -68,7 +68,7 @@ def _password_field() -> Optional[Any]:
 
 
 def _classes(setting: str, number: str) -> tuple[list[tuple[str, type]], list[Any]]:
-    """The classes in a setting's list with their paths, and the faults of the list."""
+    """Returns the classes in a setting's list with their paths, and the faults of the list."""
     listed = getattr(settings, setting)
     if isinstance(listed, str):
         text = f"{setting} is a string instead of a list."
@@ -93,15 +93,15 @@ def _classes(setting: str, number: str) -> tuple[list[tuple[str, type]], list[An
 
 
 def _misspelt(setting: str) -> str:
-    """A hint about a setting that has a similar name."""
+    """Returns a hint about a setting that has a similar name."""
     others = set(dir(settings)) - {setting}
     near = difflib.get_close_matches(setting, others, 1, 0.9)
     return f" The settings have {near[0]}: is {setting} meant?" if near else ""
 
 
 def backends(**_: Any) -> Messages:
-    """W001: no backend compares. W002: an additional backend doesn't compare. E012: a backend can't
-    be imported. W014: the model compares, but under Django's own backend.
+    """Reports W001: no backend compares. W002: an additional backend doesn't compare. E012: a
+    backend can't be imported. W014: the model compares, but under Django's own backend.
 
     A model's check_password compares under any backend that calls it.
     """
@@ -114,8 +114,8 @@ def backends(**_: Any) -> Messages:
     if _compares():
         if ModelBackend in found and not is_used:
             text = (
-                "The only ModelBackend is Django's own: a login that meets changes answers"
-                " with an error page, and an inactive user's right password is rehashed."
+                "The only ModelBackend is Django's own. A login that overlaps a change ends in an"
+                " error page, and Django rehashes an inactive user's right password."
             )
             yield _message("W014", text, hint)
         return
@@ -131,7 +131,7 @@ def backends(**_: Any) -> Messages:
 
 
 def column(**_: Any) -> Messages:
-    """E003: the column is too short for a record."""
+    """Reports E003: the column is too short for a record."""
     field = _password_field()
     width: Optional[int] = field.max_length if field else None
     if width is not None and width < WIDTH:
@@ -140,8 +140,8 @@ def column(**_: Any) -> Messages:
 
 
 def hashers_listed(**_: Any) -> Messages:
-    """E015: one of PASSWORD_HASHERS can't be imported, or none is listed. W004: another library
-    hashes new records. E013: another hasher has the name of ours, and checks its records.
+    """Reports E015: one of PASSWORD_HASHERS can't be imported, or none is listed. W004: another
+    library hashes new records. E013: another hasher has the name of ours, and checks its records.
 
     If two hashers have the same algorithm, Django uses the later one.
     """
@@ -162,7 +162,7 @@ def hashers_listed(**_: Any) -> Messages:
 
 
 def isolation(**_: Any) -> Messages:
-    """W005: a transaction would read the record as it was at the transaction's start."""
+    """Reports W005: a transaction would read the record as it was at the transaction's start."""
     hint = "Remove the level, or set READ COMMITTED."
     for alias, database in settings.DATABASES.items():
         if _has_snapshots(database):
@@ -179,7 +179,7 @@ def _has_snapshots(database: Any) -> bool:
             return True
     level = options.get("isolation_level")
     if level is None:
-        # None is the server's own level, which is REPEATABLE READ of MySQL and MariaDB.
+        # None is the server's own level, which is REPEATABLE READ on MySQL and MariaDB.
         is_mysql = database.get("ENGINE", "").endswith("mysql")
         return is_mysql and "isolation_level" in options
     # psycopg 3 has an enumeration, whose numbers aren't psycopg2's.
@@ -190,15 +190,15 @@ def _has_snapshots(database: Any) -> bool:
 
 
 def own_methods(**_: Any) -> Messages:
-    """E006: our calls would skip a method of the user model."""
+    """Reports E006: our calls would skip a method of the user model."""
     hint = "Give the model the CompareAndSetMixin, after the class that has the method."
     for name in users.unreached_methods(get_user_model()):
-        text = f"{name} would be bypassed, so logins are refused."
+        text = f"Our calls would bypass {name}, and therefore refuse logins."
         yield _message("E006", text, hint)
 
 
 def user_model(**_: Any) -> Messages:
-    """W007: the user model's own methods write without a comparison."""
+    """Reports W007: the user model's own methods write without a comparison."""
     if _compares() or _password_field() is None:
         return
     name = get_user_model()._meta.label
@@ -212,7 +212,7 @@ def _outcome() -> str:
 
 
 def admin_sites(**_: Any) -> Messages:
-    """W008: an admin page for users, or for one's own password, is Django's."""
+    """Reports W008: an admin page for users, or for one's own password, is Django's."""
     if not apps.is_installed("django.contrib.admin"):
         return
     from django.contrib.admin.sites import all_sites
@@ -235,7 +235,7 @@ def admin_sites(**_: Any) -> Messages:
 
 
 def url_views(**_: Any) -> Messages:
-    """W009: a URL leads to Django's own view for a change or a reset."""
+    """Reports W009: a URL leads to Django's own view for a change or a reset."""
     if not getattr(settings, "ROOT_URLCONF", None):
         return
     hint = "Include 'rigzumal.django.urls', or use the views of rigzumal.django.views."
@@ -259,7 +259,7 @@ def _password_views(patterns: Any, front: str = "") -> Iterator[tuple[str, str, 
 
 
 def command(**_: Any) -> Messages:
-    """W010: `manage.py changepassword` is Django's."""
+    """Reports W010: `manage.py changepassword` is Django's."""
     if get_commands().get("changepassword") == "django.contrib.auth":
         outcome = "a traceback" if _compares() else "undone"
         text = "changepassword is Django's own: a simultaneous change is"
@@ -268,7 +268,7 @@ def command(**_: Any) -> Messages:
 
 
 def unlisted_hashers(databases: Any = None, **_: Any) -> Messages:
-    """W011: the table has records without a listed hasher: their users can't log in."""
+    """Reports W011: the table has records without a listed hasher: their users can't log in."""
     field = _password_field()
     if field is None or _classes("PASSWORD_HASHERS", "E015")[1]:
         return
@@ -284,7 +284,7 @@ def unlisted_hashers(databases: Any = None, **_: Any) -> Messages:
 
 
 def _unlisted(holder: Any, alias: str) -> Optional[str]:
-    """The algorithm of a record that no listed hasher accepts; None without such a record."""
+    """Returns the algorithm of a record that no listed hasher accepts, or None."""
     if holder._meta.db_table not in connections[alias].introspection.table_names():
         return None  # `migrate` runs the checks too, before it creates the table.
     others = holder._base_manager.using(alias).exclude(password="")

@@ -1,7 +1,8 @@
 """Django's forms for changes, resets and the admin, which compare before they write.
 
 `save` raises a ValidationError if the record was changed after the form was validated. Our views
-show the error; your own view can show it with `show(form, error)`. `commit=False` is a ValueError.
+show the error; your own view can show it with `show(form, error)`. `commit=False` raises a
+ValueError.
 """
 
 # mypy: allow-subclassing-any
@@ -91,7 +92,7 @@ class AdminPasswordChangeForm(_Comparing, forms.AdminPasswordChangeForm):
 
     def _write(self) -> None:
         data = self.cleaned_data
-        # From Django 5.1 on a button removes the password.
+        # Django 5.1 and later have a button that removes the password.
         is_usable = data.get("set_usable_password", True)
         passwords.set_password(self.user, data["password1"] if is_usable else None)
 

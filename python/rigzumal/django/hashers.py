@@ -37,17 +37,17 @@ _NUMBER = r"[1-9]\d{0,9}"
 
 
 def _tag(record: str) -> bytes:
-    """The tag at the end of a record; scrypt's tag is padded."""
+    """Returns the tag at the end of a record; scrypt's tag is padded."""
     return decoded(record.rpartition("$")[2].rstrip("="))
 
 
 class _RecordHasher(BasePasswordHasher):
-    """The common part of both hashers: it reads, compares and shows strings, and detects old
+    """The common part of both hashers, which reads, compares and shows strings, and detects old
     ones."""
 
     _scheme: str
-    _form: re.Pattern[str]  # of a record behind its algorithm
-    _numbers: tuple[str, ...]  # the numbers that a record and its hasher have
+    _form: re.Pattern[str]  # of a record after its algorithm
+    _numbers: tuple[str, ...]  # the names of the numbers in a record and in its hasher
 
     def __init__(self) -> None:
         require_app()
@@ -66,7 +66,7 @@ class _RecordHasher(BasePasswordHasher):
         return parts
 
     def _made(self, password: Password, parts: dict[str, Any]) -> bytes:
-        """The tag of the password under a record's own numbers and salt."""
+        """Computes the tag of the password with a record's own numbers and salt."""
         raise NotImplementedError
 
     @hidden_below
@@ -86,12 +86,12 @@ class _RecordHasher(BasePasswordHasher):
         return hmac.compare_digest(made, _tag(parts["hash"]))
 
     def safe_summary(self, encoded: str) -> dict[str, Any]:
-        """The parts of a record that may be shown, or the fault of a damaged record."""
+        """Returns the parts of a record that Django may show, or the fault of a damaged record."""
         try:
             parts = self.decode(encoded)
         except ValueError as fault:
             return {"algorithm": self.algorithm, "broken record": str(fault)}
-        for secret in ("salt", "hash"):  # at the end, as Django shows them
+        for secret in ("salt", "hash"):  # at the end, in Django's order
             text = parts.pop(secret)
             parts[secret] = text[:6] + "*" * len(text[6:])
         return {name.replace("_", " "): value for name, value in parts.items()}
@@ -143,7 +143,7 @@ class Argon2PasswordHasher(_RecordHasher):
 
     @hidden_below
     def encode(self, password: Password, salt: str) -> str:
-        """A new record of the password, by Argon2id, version 0x13."""
+        """Returns a new record of the password, by Argon2id, version 0x13."""
         _check_salt(salt)
         numbers = {it: getattr(self, it) for it in (*self._numbers, "hash_len")}
         tag = rigzumal.argon2(password, salt.encode(), **numbers)
@@ -220,7 +220,7 @@ class ScryptPasswordHasher(_RecordHasher):
         r: Optional[int] = None,
         p: Optional[int] = None,
     ) -> str:
-        """A new record of the password."""
+        """Returns a new record of the password."""
         _check_salt(salt)
         n, r, p = n or self.work_factor, r or self.block_size, p or self.parallelism
         parts = {"work_factor": n, "block_size": r, "parallelism": p, "salt": salt}

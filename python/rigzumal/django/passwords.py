@@ -1,12 +1,12 @@
 """The operations on a user's password; each one compares before it writes.
 
-They call a model's own `check_password` and `set_password` if the model has the mixin of
+The operations call a model's own `check_password` and `set_password` if the model has the mixin of
 `rigzumal.django.users`, and refuse any other model with such methods.
 
 Each operation may raise:
     ValueError: the user isn't saved.
     RecordChanged: the row's record has changed since the user was read, and stays unchanged;
-        for the first three, it changed eight times.
+        for the first three operations, the record changed eight times.
     ImproperlyConfigured: the model has a method that these calls would skip.
 """
 
@@ -37,7 +37,8 @@ def check_password(user: Any, password: Any) -> bool:
 
 @hidden_below
 def verify_password(user: Any, password: Any) -> bool:
-    """Like `check_password`, but without a rehash (unless the model's own method rehashes)."""
+    """Checks a password like `check_password`, but without a rehash, unless the model's own method
+    rehashes."""
     if users.has_own_methods(user):
         return bool(user.check_password(password))
     return records.judge_alone(user, password)
@@ -45,7 +46,7 @@ def verify_password(user: Any, password: Any) -> bool:
 
 @hidden_below
 def change_password(user: Any, old_password: Any, new_password: Any) -> bool:
-    """Writes the new password if the old one is right; returns False if it is wrong.
+    """Writes the new password if the old one is right. Returns False if the old one is wrong.
 
     The call checks the old password against the record that the new one replaces, so a simultaneous
     reset stays. The call runs no validators, but calls their `password_changed`. The call writes
@@ -57,7 +58,7 @@ def change_password(user: Any, old_password: Any, new_password: Any) -> bool:
 
 @hidden_below
 def change_judged(user: Any, old_password: Any, new_password: Any, judged: Optional[str]) -> bool:
-    """`change_password`, after the old password was right for the record `judged`.
+    """Runs `change_password` after the old password was right for the record `judged`.
 
     If the row still has that record, the call doesn't check the password again.
     """
@@ -94,7 +95,7 @@ aset_password = records.awaited(set_password)
 
 
 def _copy_of(user: Any, database: str) -> Copy:
-    """The record that was read with the user, even after a rollback."""
+    """Returns the record that was read with the user, even after a rollback."""
     copy = records.known_copy(user, database)
     compares = isinstance(user, users.CompareAndSetMixin)
     if copy is None or not (compares or copy.newest == user.password):
@@ -116,7 +117,7 @@ def _set_by_methods(user: Any, new_password: Any) -> None:
     except BaseException as fault:
         user.password, user._password = before, None
         if isinstance(fault, DatabaseError) and row.look() is None:
-            raise RecordChanged from None  # deleted meanwhile
+            raise RecordChanged from None  # another request has deleted the user meanwhile
         raise
 
 

@@ -5,7 +5,7 @@ password and hashes without a lock, and an UPDATE writes the new record if the r
 copy. Otherwise the operation checks the password against the row's record. The answer is therefore
 that of the row's record, and no slower operation undoes a change.
 
-In the caller's transaction (`ATOMIC_REQUESTS`) a change counts when the transaction is committed.
+In the caller's transaction (`ATOMIC_REQUESTS`) a change counts once the transaction commits.
 On PostgreSQL, MySQL and MariaDB, the transaction's isolation must be READ COMMITTED, Django's
 default. On SQLite a transaction that has read fails ("database is locked") if another process
 writes first.
@@ -40,16 +40,16 @@ class RecordChanged(Exception):
 
 
 def database_of(user: Any) -> str:
-    """The database in which the user's record is written."""
-    # __class__ is the model also where `request.user` is a lazy object, whose type isn't.
+    """Returns the database to which the user's record is written."""
+    # __class__ is the model even if `request.user` is a lazy object, whose type isn't the model.
     return str(router.db_for_write(user.__class__, instance=user))
 
 
 class Copy:
     """The record that was read with a user, or that was written since then.
 
-    The last element of `records` is the newest record. Until the transaction of that write is
-    committed, `records` also keeps the older ones: after a rollback the row has one of them.
+    The last element of `records` is the newest record. Until the transaction of that write commits,
+    `records` also keeps the older ones: after a rollback the row has one of them.
     """
 
     def __init__(self, *records: str) -> None:
@@ -61,7 +61,7 @@ class Copy:
         return self.records[-1]
 
     def settle(self) -> None:
-        """Django calls this method at the commit."""
+        """Keeps only the newest record; Django calls this method at the commit."""
         self.records = self.records[-1:]
 
     def is_in_doubt(self, database: str) -> bool:
@@ -70,7 +70,7 @@ class Copy:
         return len(self.records) > 1 and self.settle not in waiting
 
     def followed_by(self, record: str, database: str) -> Copy:
-        """The copy for a record that was written over this one's."""
+        """Returns the copy for a record that was written over this one's."""
         if not connections[database].in_atomic_block:
             return Copy(record)
         copy = Copy(*self.records, record)
@@ -85,7 +85,7 @@ class Copy:
 
 
 def note_read(user: Any, database: str, record: str) -> None:
-    """Stores the record that was read with a user, instead of older ones."""
+    """Stores the record that was read with a user, and forgets older ones."""
     user._record_copies = {database: Copy(record)}
 
 
@@ -95,7 +95,7 @@ def note_put(user: Any, database: str, copy: Copy) -> None:
 
 
 def known_copy(user: Any, database: str) -> Optional[Copy]:
-    """The user's record in a database; None if it was neither read nor written there.
+    """Returns the user's record in a database, or None if no query has read or written it there.
 
     For a write, the record may come from another database: a replica.
     """
@@ -111,7 +111,8 @@ class Row:
     def __init__(self, user: Any) -> None:
         if user.pk is None:
             raise ValueError("the user isn't saved yet")
-        # An UPDATE through a child's table would first select, and then compare nothing.
+        # An UPDATE through a child model's table would first select the row, and then compare
+        # nothing.
         holder = user._meta.get_field("password").model
         self.user, self.database = user, database_of(user)
         self._rows = holder._base_manager.using(self.database).filter(
@@ -119,13 +120,13 @@ class Row:
         )
 
     def look(self) -> Optional[str]:
-        """The row's record, or None if the user was deleted."""
+        """Returns the row's record, or None if the user was deleted."""
         found: Optional[str] = self._rows.values_list("password", flat=True).first()
         return found
 
     def put(self, over: Sequence[str], record: str) -> bool:
-        """Writes the record if the row has one of the known records, and then sets it in the user
-        too."""
+        """Writes the record if the row has one of the known records, and then sets the user's
+        record too."""
         if self._rows.filter(password__in=over).update(password=record) == 0:
             return False
         copy = known_copy(self.user, self.database)
@@ -162,13 +163,13 @@ def _at_what_stands(user: Any, judge: Callable[[str], tuple[bool, str]]) -> bool
 
 
 def judge_alone(user: Any, password: Any) -> bool:
-    """Whether the password is right; never rehashes."""
+    """Returns whether the password is right, and never rehashes."""
     check = hashers.check_password
     return _at_what_stands(user, lambda copy: (check(password, copy), copy))
 
 
 def judge_login(user: Any, password: Any) -> bool:
-    """Whether the password is right; rehashes a record with old costs."""
+    """Returns whether the password is right, and rehashes a record with old costs."""
 
     def judge(copy: str) -> tuple[bool, str]:
         after = [copy]
@@ -185,7 +186,7 @@ def judge_login(user: Any, password: Any) -> bool:
 def judge_change(
     user: Any, old_password: Any, new_password: Any, judged: Optional[str] = None
 ) -> bool:
-    """Changes the password if the old one is right, which it is for the record `judged`."""
+    """Changes the password if the old one is right, as it is for the record `judged`."""
 
     def judge(copy: str) -> tuple[bool, str]:
         right = copy == judged or hashers.check_password(old_password, copy)

@@ -69,7 +69,8 @@ class CompareAndSetMixin(models.Model):
 
     @hidden_below
     def check_password(self, raw_password: Any) -> bool:
-        """Whether the password is right; raises RecordChanged if the record changed eight times."""
+        """Returns whether the password is right, and raises RecordChanged if the record changed
+        eight times."""
         copy = records.known_copy(self, records.database_of(self))
         if self._state.adding or copy is None or self.password != copy.newest:
             # A password was set and isn't saved yet.
@@ -139,7 +140,7 @@ class CompareAndSetMixin(models.Model):
     def _do_update(
         self, rows: Any, using: str, pk: Any, values: Any, *rest: Any, **more: Any
     ) -> Any:
-        """Model's UPDATE of one table, which compares if it writes the password."""
+        """Runs Model's UPDATE of one table, which compares if it writes the password."""
         update = super()._do_update
         written = [it[2] for it in values if it[0].attname == "password"]
         copy = records.known_copy(self, using)
@@ -162,10 +163,10 @@ class CompareAndSetMixin(models.Model):
 
     @hidden_below
     def _do_insert(self, manager: Any, using: str, fields: Any, *rest: Any, **more: Any) -> Any:
-        """Model's INSERT into one table."""
+        """Runs Model's INSERT into one table."""
         made = super()._do_insert(manager, using, fields, *rest, **more)
         if any(it.attname == "password" for it in fields):
-            # Before post_save is sent, whose handlers may save again.
+            # Before Django sends post_save, whose handlers may save again.
             records.note_put(self, using, records.Copy(self.password))
         return made
 
@@ -195,14 +196,14 @@ def comparing(model: Any) -> Iterator[None]:
 
 
 def own_methods(classes: Any, *names: str) -> list[str]:
-    """The methods with these names that belong neither to Django nor to the mixin."""
+    """Returns the methods with these names that belong neither to Django nor to the mixin."""
     known = (AbstractBaseUser, CompareAndSetMixin)
     having = [(of, name) for name in names for of in classes if name in vars(of)]
     return [f"{of.__qualname__}.{name}" for of, name in having if of not in known]
 
 
 def unreached_methods(model: Any) -> list[str]:
-    """A model's own methods that our calls would skip, or that would not compare."""
+    """Returns a model's own methods that our calls would skip, or that would not compare."""
     classes = model.__mro__
     if not issubclass(model, CompareAndSetMixin):
         return own_methods(classes, "check_password", "set_password")
@@ -211,8 +212,8 @@ def unreached_methods(model: Any) -> list[str]:
 
 
 def has_own_methods(user: Any) -> bool:
-    """Whether the user's model has such methods; raises ImproperlyConfigured if one can't be
-    reached."""
+    """Returns whether the user's model has such methods. Raises ImproperlyConfigured if our calls
+    can't reach one."""
     unreached = unreached_methods(user.__class__)
     if unreached:
         raise ImproperlyConfigured(

@@ -16,7 +16,7 @@ class _ShowsWhyNot:
     """Shows an exception of `form_valid` as an error of the form."""
 
     def form_valid(self, form: Any) -> Any:
-        """Writes the password, or shows why it couldn't be written."""
+        """Writes the password, or shows why the form couldn't write it."""
         try:
             with forms.lost_as_error():
                 return super().form_valid(form)  # type: ignore[misc]

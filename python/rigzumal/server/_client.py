@@ -53,7 +53,7 @@ class Reply(enum.Enum):
     SAME = "same"
     # up to here.
 
-    # Hidden from mypy, whose `truthy-bool` then names each place where it is missing.
+    # Hidden from mypy, whose `truthy-bool` then names each place without a comparison.
     if not TYPE_CHECKING:
 
         def __bool__(self) -> bool:
@@ -105,7 +105,7 @@ class Question:
     wrong: Optional[Reply] = None
 
     def known_reply(self) -> Optional[Reply]:
-        """The reply, if the client can decide it without asking the server."""
+        """Returns the reply, if the client can decide it without asking the server."""
         if self.no_name is not None and not all(map(may_be_name, self.names)):
             return self.no_name
         if self.wrong is not None and not may_be_password(self.passwords[0]):
@@ -113,7 +113,7 @@ class Question:
         return None
 
     def line(self, tag: bytes) -> bytes:
-        """The request's line.
+        """Returns the request's line.
 
         Raises:
             TypeError: a password is neither bytes nor text.
@@ -130,7 +130,7 @@ class Question:
         return b" ".join(fields) + b"\n"
 
     def reply(self, tag: bytes, line: bytes) -> Reply:
-        """The reply in a received line.
+        """Returns the reply in a received line.
 
         Raises:
             ServerError: as in `answer_of`; also Unavailable for a text that isn't a reply.
@@ -163,7 +163,7 @@ def may_be_password(password: Secret) -> bool:
 
 
 def answer_of(tag: bytes, line: bytes) -> str:
-    """The answer in a line with this tag.
+    """Returns the answer in a line with this tag.
 
     Raises:
         ServerError: one of the classes above; also Unavailable for a line that isn't an answer.
@@ -195,20 +195,21 @@ class Calls(Generic[Replied, Listed]):
         raise NotImplementedError
 
     def verify(self, name: str, password: Secret) -> Replied:
-        """Whether the password is right: YES or NO; ABSENT if the account has no record;
-        NO_ACCOUNT.
+        """Checks the password. Returns YES, NO, ABSENT if the account has no record, or NO_ACCOUNT.
 
-        EXPIRED: the password is right, but `change` must replace it before a login. A name or a
-        password that no book allows, such as a name with a space, gets NO.
+        The reply EXPIRED means that the password is right, but `change` must replace it before a
+        login. A name or a password that no book allows, such as a name with a space, gets NO.
         """
         no = Reply.NO
         return self._reply(Question("verify", (name,), (password,), no, no))
 
     def change(self, name: str, password: Secret, new_password: Secret) -> Replied:
-        """Replaces the password: REPLACED; WRONG if the old one is wrong; ABSENT; NO_ACCOUNT.
+        """Replaces the password. Returns REPLACED, WRONG if the old one is wrong, ABSENT or
+        NO_ACCOUNT.
 
-        SHORT, also in `enrol` and `reset`: the new password has fewer characters than the server
-        requires. SAME: the password must be changed, but the new one is the same as the old one.
+        SHORT, also in `enrol` and `reset`, means that the new password has fewer characters than
+        the server requires. SAME means that the user must change the password, but the new one is
+        the old one.
 
         Raises:
             ValueError: the new password has over 256 bytes, or UTF-8 can't encode it.
@@ -217,53 +218,55 @@ class Calls(Generic[Replied, Listed]):
         return self._reply(Question("change", (name,), both, *replies))
 
     def known(self, name: str) -> Replied:
-        """Whether a user may log in: YES; ABSENT for no record or a lock; NO_ACCOUNT.
+        """Asks whether a user may log in. Returns YES, ABSENT for no record or a lock, or
+        NO_ACCOUNT.
 
-        EXPIRED: the password must be changed.
+        The reply EXPIRED means that the user must change the password.
         """
         return self._reply(Question("known", (name,), no_name=Reply.NO_ACCOUNT))
 
     def account(self, name: str) -> Replied:
-        """Adds an account without a record: OK. Raises `Refused` (1 exists) if the name exists."""
+        """Adds an account without a record. Returns OK. Raises `Refused` (1 exists) if the name
+        exists."""
         return self._reply(Question("account", (name,)))
 
     def enrol(self, name: str, password: Secret) -> Replied:
-        """Sets a first password: ENROLLED; EXISTS if the account has a record or a lock;
+        """Sets a first password. Returns ENROLLED, EXISTS if the account has a record or a lock, or
         NO_ACCOUNT."""
         return self._reply(Question("enrol", (name,), (password,)))
 
     def reset(self, name: str, new_password: Secret) -> Replied:
-        """Sets a password without the old one: REPLACED; ENROLLED if the account had no record;
-        NO_ACCOUNT. A lock remains."""
+        """Sets a password without the old one. Returns REPLACED, ENROLLED if the account had no
+        record, or NO_ACCOUNT. A lock remains."""
         return self._reply(Question("reset", (name,), (new_password,)))
 
     def disable(self, name: str) -> Replied:
-        """Removes the record, and keeps the name: DISABLED; ABSENT; NO_ACCOUNT."""
+        """Removes the record, and keeps the name. Returns DISABLED, ABSENT or NO_ACCOUNT."""
         return self._reply(Question("disable", (name,)))
 
     def delete(self, name: str) -> Replied:
-        """Removes the account with its record: DELETED; NO_ACCOUNT."""
+        """Removes the account with its record. Returns DELETED or NO_ACCOUNT."""
         return self._reply(Question("delete", (name,)))
 
     def rename(self, name: str, new_name: str) -> Replied:
-        """Gives an account another name: RENAMED; EXISTS if an account has that name;
+        """Gives an account another name. Returns RENAMED, EXISTS if an account has that name, or
         NO_ACCOUNT."""
         return self._reply(Question("rename", (name, new_name)))
 
     def lock(self, name: str) -> Replied:
-        """Makes every password wrong until `unlock`: LOCKED; NO_ACCOUNT."""
+        """Makes every password wrong until `unlock`. Returns LOCKED or NO_ACCOUNT."""
         return self._reply(Question("lock", (name,)))
 
     def unlock(self, name: str) -> Replied:
-        """Ends a lock: UNLOCKED; NONE if the account wasn't locked; NO_ACCOUNT."""
+        """Ends a lock. Returns UNLOCKED, NONE if the account wasn't locked, or NO_ACCOUNT."""
         return self._reply(Question("unlock", (name,)))
 
     def expire(self, name: str) -> Replied:
-        """Requires a new password before the next login: EXPIRED; ABSENT; NO_ACCOUNT."""
+        """Requires a new password before the next login. Returns EXPIRED, ABSENT or NO_ACCOUNT."""
         return self._reply(Question("expire", (name,)))
 
     def names(self, first: str = "-", count: int = 100) -> Listed:
-        """Up to `count` names (1 to 1000), in order, from `first` on."""
+        """Returns up to `count` names (1 to 1000), in order, from `first` on."""
         return self._listed(Question("list", (first, str(count))))
 
 
@@ -294,7 +297,7 @@ class Client(Calls[Reply, list[str]]):
         return answer_of(b"1", self._line(asked)).split()[1:]
 
     def _line(self, asked: Question) -> bytes:
-        """The received line, or the beginning of a longer one."""
+        """Returns the received line, or the beginning of a longer one."""
         until = time.monotonic() + self._timeout
         sent, line = asked.line(b"1"), b""
         try:
@@ -313,7 +316,7 @@ class Client(Calls[Reply, list[str]]):
         return line
 
     def _connect(self, connection: socket.socket, until: float) -> None:
-        """Connects; waits if too many other clients are waiting for the server."""
+        """Connects, and waits if too many other clients are waiting for the server."""
         while True:
             try:
                 return connection.connect(self._path)

@@ -57,7 +57,7 @@ class Client(Calls[Coroutine[Any, Any, Reply], Coroutine[Any, Any, "list[str]"]]
         return answer_of(*await self._line(asked)).split()[1:]
 
     async def _line(self, asked: Question) -> tuple[bytes, bytes]:
-        """The tag and the received line, which is empty if the connection ended."""
+        """Returns the tag and the received line, which is empty if the connection ended."""
         self._last += 1
         tag = b"%d" % self._last
         try:

@@ -156,7 +156,7 @@ class RowsOfOnesOwn:
         accounts = self.accounts()
 
         def nests(conn, reply):
-            self.assertRaisesRegex(TypeError, "use its argument", accounts.verify, "ann", "one")
+            self.assertRaisesRegex(TypeError, "use the connection", accounts.verify, "ann", "one")
             self.also(conn, reply)
 
         self.assert_replies("change ann one two replaced", accounts, also=nests)

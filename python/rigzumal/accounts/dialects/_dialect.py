@@ -31,7 +31,7 @@ _IN_NO_COLUMN: Final = re.compile("[\0\ud800-\udfff]")
 
 
 class Verdict(enum.Enum):
-    """The meaning of a driver's error that occurred before COMMIT was sent."""
+    """The meaning of a driver's error that occurred before the program sent COMMIT."""
 
     AGAIN = "the server rolled the transaction back: try again"
     ELSEWHERE = "the server accepts no changes now: try another server, or try later"
@@ -47,7 +47,7 @@ def is_of_driver(raised: BaseException) -> bool:
 
 
 def other_driver(conn: Any, wanted: str) -> StoreFault:
-    """The StoreFault for a connection that another driver opened."""
+    """Returns the StoreFault for a connection that another driver opened."""
     found = type(conn).__module__.partition(".")[0]
     more = ": pass of_engine(engine)" if found == "sqlalchemy" else ""
     return StoreFault(f"the driver is {found} instead of {wanted}{more}")
@@ -68,20 +68,20 @@ class Dialect:
     statement compares the record byte by byte, and treats NULL as equal to NULL.
 
     Args:
-        table: its name, preceded by its schema if that isn't on the search path.
-        key: the column that names an account; it is unique.
-        record: the column of the records; it may be NULL.
+        table: the table's name, preceded by its schema if that isn't on the search path.
+        key: the column that names an account, and is unique.
+        record: the column of the records, which may be NULL.
         key_type: the Python type of the key column: str, int or bytes; on PostgreSQL also
             uuid.UUID.
 
     Attributes:
         key, record: the columns, in the form for statements.
         select: the statement that reads the record of a key.
-        locked: the same, with the UPDATE's lock on the row until the transaction ends. A weaker
-            lock, which two logins can hold, deadlocks if both then update the row.
+        locked: the same statement, with the UPDATE's lock on the row until the transaction ends. A
+            weaker lock, which two logins can hold, deadlocks if both then update the row.
         update: writes a record if the row has the copy; its values are record, key, copy.
-        at_once: writes a whole change and commits it, or undoes it; empty if the engine has no such
-            statement.
+        at_once: writes a whole change, and commits or undoes the change; empty if the engine has no
+            such statement.
         insert: adds the account of a key, without a record.
         every: reads all keys and records.
         returns: whether the UPDATE returns the record that it wrote.
@@ -147,16 +147,15 @@ class Dialect:
         return (sql, *keys)
 
     async def add_all(self, session: Session, lines: Sequence[Line]) -> Optional[list[str]]:
-        """Adds many accounts in the engine's own way, in an open transaction; None without such a
-        way.
+        """Adds many accounts in the engine's own way, in an open transaction, if it has such a way.
 
-        The answer for each is "added", "there" or "another".
+        Returns "added", "there" or "another" for each, or None if the engine has no such way.
         """
         return None
 
     def rows_of(self, conn: Any, sql: str) -> Iterator[tuple[Any, ...]]:
-        """The rows of a statement without values, one at a time as the server sends them: a table
-        may be large."""
+        """Yields the rows of a statement without values, one at a time as the server sends them: a
+        table may be large."""
         cursor = conn.cursor()
         cursor.execute(sql)
         yield from iter(cursor.fetchone, None)
@@ -165,14 +164,15 @@ class Dialect:
     # ---- names
 
     def quoted(self, name: str) -> str:
-        """A name of a table or a column, quoted for a statement."""
+        """Quotes the name of a table or a column for a statement."""
         doubled = name.replace(self.quote, self.quote * 2)
         if self.mark == "%s":
             doubled = doubled.replace("%", "%%")
         return f"{self.quote}{doubled}{self.quote}"
 
     def alone(self, sql: str) -> str:
-        """A statement without values, in a form in which no driver searches for placeholders."""
+        """Returns a statement without values, in a form in which no driver searches for
+        placeholders."""
         return sql.replace("%%", "%") if self.mark == "%s" else sql
 
     def check_key(self, key: object) -> None:
@@ -205,8 +205,8 @@ class Dialect:
     # ---- connections
 
     def mode(self, conn: Any) -> Mode:
-        """The mode of a connection; raises StoreFault if another driver opened it, and
-        ConnectionError if it is closed."""
+        """Returns the mode of a connection. Raises StoreFault if another driver opened the
+        connection, and ConnectionError if it is closed."""
         raise NotImplementedError
 
     def fresh(self, conn: Any) -> None:
@@ -238,7 +238,7 @@ class Dialect:
         return await session.execute(self.update, after, key, copy)
 
     async def put_at_once(self, session: Session, after: Copy, key: Key, copy: Copy) -> int:
-        """Writes a record by one statement that commits; returns the number of affected rows."""
+        """Writes a record in one statement that commits. Returns the number of affected rows."""
         raise NotImplementedError
 
     async def commit(self, session: Session) -> None:
@@ -254,7 +254,7 @@ class Dialect:
         return True
 
     async def settle(self, session: Session) -> None:
-        """Checks the constraints that COMMIT would check, in a trial that is rolled back."""
+        """Checks the constraints that COMMIT would check, in a trial, which never commits."""
 
     async def undo(self, session: Session) -> None:
         """Rolls back an open transaction."""
@@ -263,7 +263,7 @@ class Dialect:
     # ---- errors
 
     def verdict(self, raised: BaseException) -> Verdict:
-        """The meaning of a driver's error that occurred before COMMIT was sent."""
+        """Returns the meaning of a driver's error that occurred before the program sent COMMIT."""
         raise NotImplementedError
 
     def is_drivers(self, raised: BaseException) -> bool:
@@ -286,31 +286,31 @@ class Dialect:
         return False
 
     def number(self, raised: BaseException) -> str:
-        """The server's number of an error, since the text may quote the refused row."""
+        """Returns the server's number of an error, since the text may quote the refused row."""
         return ""
 
     def missing_name(self, raised: BaseException) -> str:
-        """The server's message if a table, a column or a right is missing. Otherwise the text is
-        empty, since other messages may quote a row."""
+        """Returns the server's message if a table, a column or a right is missing. Otherwise the
+        text is empty, since other messages may quote a row."""
         return ""
 
     # ---- tables
 
     def create(self) -> str:
-        """The statement that creates a table without faults."""
+        """Returns the statement that creates a table without faults."""
         kinds = {str: self.key_sql, int: "BIGINT", bytes: self.bytes_sql}
         key = f"{self.key} {kinds.get(self.key_type, 'UUID')} NOT NULL PRIMARY KEY"
         record = f"{self.record} VARCHAR({LONGEST_RECORD})"
         return self.alone(f"CREATE TABLE {self.table} ({key}, {record})")
 
     async def examine(self, session: Session) -> Findings:
-        """The faults that the catalogue and the settings show."""
+        """Returns the faults that the catalogue and the settings show."""
         raise NotImplementedError
 
     # ---- faults that a table of any engine may have
 
     def missing(self, found: Container[str]) -> list[Fault]:
-        """The columns that the table lacks."""
+        """Returns a fault for each column that the table lacks."""
         return [
             error("no-column", f"no column {self.table_name}.{name}")
             for name in (self.key_name, self.record_name)
@@ -318,7 +318,7 @@ class Dialect:
         ]
 
     def common_faults(self, nullable: bool, unique: Collection[str]) -> Iterator[Fault]:
-        """The faults that a table in any engine may have.
+        """Yields the faults that a table in any engine may have.
 
         `unique` has the expression of each unique index with one part: "" for the key itself.
         """

@@ -42,6 +42,6 @@ class Findings:
     """The findings in an engine's catalogue and settings."""
 
     faults: list[Fault]
-    is_usable: bool = True  # a trial is possible there, and can be undone
-    # No faults if looks are confirmed by a COMMIT that writes.
+    is_usable: bool = True  # a trial is possible there, and a ROLLBACK undoes it
+    # These are no faults if a COMMIT that writes confirms each answer.
     unless_confirmed: tuple[Fault, ...] = ()

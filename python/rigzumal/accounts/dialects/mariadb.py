@@ -19,19 +19,19 @@ UNCOMMITTED: Final = "READ UNCOMMITTED: uncommitted records are read"
 NOBODYS_RECORD: Final = f"$argon2id$v=19$m=8,t=1,p=1$bm9ib2R5J3M${'A' * 43}"
 """A placeholder for "no record", within a transaction alone."""
 
-# 1213: a deadlock, or of Galera a certification that failed; 1205: a lock was waited
-# for in vain; 1020: changed since it was read; 3024: MySQL's max_execution_time.
+# 1213: a deadlock, or Galera's certification failed; 1205: the wait for a lock was too long; 1020:
+# the row has changed since it was read; 3024: MySQL's max_execution_time.
 _AGAIN: Final = frozenset({1213, 1205, 1020, 3024})
-_TIME_IS_OVER: Final = 1969  # max_statement_time: after a COMMIT it proves nothing
+_TIME_IS_OVER: Final = 1969  # max_statement_time: after a COMMIT this error proves nothing
 _NOTHING_DONE: Final = 1205
 _NO_SAVEPOINT: Final = 1305
-# 1290, 1836: it is read only; 1040, 1203: too many clients, or too many of this user.
+# 1290, 1836: the server is read only; 1040, 1203: too many clients, or too many of this user.
 _ELSEWHERE: Final = frozenset({1290, 1836, 1040, 1203})
-# 0 and 2xxx: the connection; 4031: it was idle for too long; 1047: a Galera node outside
-# of the majority; 1053, 1317, 1927: the server stops, or the thread was killed.
+# 0 and 2xxx: the connection broke; 4031: it was idle for too long; 1047: a Galera node outside of
+# the majority; 1053, 1317, 1927: the server stops, or somebody killed the thread.
 _LOST: Final = {0, 2002, 2003, 2006, 2013, 2055, 4031, 1047, 1053, 1317, 1927}
 _BROKEN: Final = (ConnectionError, TimeoutError, socket.timeout)
-# What a COMMIT may answer though it is in the log: 1180, 1181: an error during COMMIT or
+# Errors of a COMMIT that may be in the log all the same: 1180, 1181: an error during COMMIT or
 # ROLLBACK; 1021, 1026, 1030: a full disk, an error of writing, an error of the engine.
 _UNKNOWN: Final = frozenset({1021, 1026, 1030, 1180, 1181, _TIME_IS_OVER})
 
@@ -87,7 +87,7 @@ class MariaDB(Dialect):
         self._prepared.add(session.conn)
 
     def _at_once(self, t: str, k: str, r: str) -> str:
-        # The same transaction as of several statements, within the server.
+        # The transaction of several statements, as one statement that the server runs.
         look = f"SELECT {r} INTO stands FROM {t} WHERE {k} = %s"
         is_put = "CAST(stands AS BINARY) <=> CAST(%s AS BINARY)"
         return (
@@ -134,12 +134,12 @@ class MariaDB(Dialect):
             return result
         result = await session.execute(self.update, copy, key, other)
         if result.affected != 1:
-            # Never committed: at this point the row holds nobody's record.
+            # The caller rolls back: at this point the row holds nobody's record.
             raise StoreFault(ANOTHER_RECORD)
         return result
 
     async def hold(self, session: Session) -> None:
-        # A hook's BEGIN commits the open transaction, and the mark goes with it.
+        # A hook's BEGIN commits the open transaction, which removes the savepoint.
         await session.execute("SAVEPOINT rigzumal_also")
 
     async def is_held(self, session: Session) -> bool:
@@ -247,7 +247,7 @@ def shown_early(seen: dict[str, str]) -> tuple[Fault, ...]:
 
 
 def of_server(seen: dict[str, str]) -> Iterator[Fault]:
-    """The faults of a MariaDB session."""
+    """Yields the faults of a MariaDB session."""
     if "STRICT_" not in seen["sql_mode"]:
         yield warning("not-strict", "sql_mode isn't strict: the server truncates long values")
     level = seen.get("tx_isolation") or seen.get("transaction_isolation", "")

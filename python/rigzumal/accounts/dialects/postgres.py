@@ -13,20 +13,20 @@ from rigzumal.accounts.dialects._faults import Fault, Findings, error, not_durab
 from rigzumal.accounts.dialects._faults import warning
 from rigzumal.accounts.types import Copy, Key, StoreFault
 
-# 40001: serialization; 40P01: a deadlock; 55P03: lock_timeout; 57014: statement_timeout.
+# 40001: a serialization failure; 40P01: a deadlock; 55P03: lock_timeout; 57014: statement_timeout.
 _AGAIN: Final = frozenset({"40001", "40P01", "55P03", "57014"})
-# 25006: a standby, or a session that only reads; 53300: it has too many clients.
+# 25006: a standby, or a session that only reads; 53300: the server has too many clients.
 _ELSEWHERE: Final = frozenset({"25006", "53300"})
-# 08: the connection; 57P0x: the server stops, has crashed or starts; 25P03: the
-# transaction was idle for too long. The statement sent before such an error may have taken effect.
+# 08: the connection broke; 57P0x: the server stops, has crashed or starts; 25P03: the transaction
+# was idle for too long. The statement sent before such an error may have taken effect.
 _LOST: Final = ("08", "57P0", "25P03")
 _UNKNOWN: Final = "40003"  # the server doesn't know the statement's outcome
 _LACKS: Final = ("22P05", "22021")  # characters that the server's encoding doesn't have
-# A text that a type doesn't take; and the server's function that reads an enum's names.
+# A text that a type refuses; and the server's function that reads an enum's names.
 _NO_VALUE: Final = "22P02"
 _READS_ENUM: Final = "enum_in"
-_QUOTES: Final = "\"'\u00ab\u00bb\u201c\u201d\u201e\u00a0 "  # of translated words
-# The server's own function that warns of a wait that was cancelled; its words are translated.
+_QUOTES: Final = "\"'\u00ab\u00bb\u201c\u201d\u201e\u00a0 "  # in translated messages
+# The server's own function that warns of a cancelled wait; the server translates the message.
 _WAIT_FOR_STANDBY: Final = "SyncRepWaitForLSN"
 _COPY: Final = "COPY rigzumal_came (number, name, made) FROM STDIN"
 # No such table, column or schema, and no right to it.
@@ -44,8 +44,8 @@ class Postgres(Dialect):
     doesn't show the effect of an AFTER trigger.
     """
 
-    # Its own level, whatever the session's default is: under READ COMMITTED an UPDATE
-    # that waited for a row looks at its condition again.
+    # A fixed level, whatever the session's default is: under READ COMMITTED, an UPDATE that waited
+    # for a row checks its condition again.
     begin = "BEGIN ISOLATION LEVEL READ COMMITTED READ WRITE"
     key_types = (str, int, bytes, uuid.UUID)
     key_sql = "TEXT"
@@ -54,12 +54,12 @@ class Postgres(Dialect):
     drivers = ("psycopg",)
     # PgBouncer may send the next statement to a session that hasn't prepared it.
     execute_options = {"prepare": False}
-    # With this level other tables' rows may still refer to the account.
+    # With this lock, other tables' rows may still refer to the account.
     _lock = " FOR NO KEY UPDATE"
     _same = '{r}::text COLLATE "C" IS NOT DISTINCT FROM {m}::text'
 
     def mode(self, conn: Any) -> Mode:
-        # SQLAlchemy's own connections have an `info` of theirs.
+        # SQLAlchemy's own connections have a different `info`.
         is_psycopgs = hasattr(getattr(conn, "info", None), "transaction_status")
         if not (is_psycopgs and hasattr(conn, "prepare_threshold")):
             raise other_driver(conn, "psycopg 3")
@@ -71,7 +71,8 @@ class Postgres(Dialect):
 
     async def within(self, session: Session) -> None:
         await super().within(session)
-        # A change whose snapshot is older than a session's row doesn't see it to end it.
+        # A change whose snapshot is older than a session's row doesn't see that row, and can't end
+        # it.
         found = await session.execute("SHOW transaction_isolation")
         if found.rows == [("repeatable read",)]:
             fault = "the transaction is REPEATABLE READ"
@@ -87,11 +88,13 @@ class Postgres(Dialect):
             caught = raised
         if is_of_statements:
             raise StoreFault(STATEMENT_MODE)
-        # A standby never writes, and reports this by another code; it may be promoted.
+        # A standby never writes, and reports this with another code; it may become the primary
+        # later.
         raise ConnectionError("the server is a standby") from caught
 
     def _at_once(self, t: str, k: str, r: str) -> str:
-        # If the row has another value than the statement wrote, it divides by zero, and is undone.
+        # If the row has another value than the statement wrote, the statement divides by zero, and
+        # the server undoes it.
         same = f'{r}::text COLLATE "C" = %s::text'
         size = f"octet_length({r}) = octet_length(%s::text)"
         update = self.update.rpartition(" RETURNING ")[0]
@@ -105,20 +108,19 @@ class Postgres(Dialect):
         return (await self._committed(session, self.at_once, *values)).affected
 
     def refuses_at_once(self, raised: BaseException) -> bool:
-        # 25: the session only reads, and a transaction of ours doesn't; 42 and 0A: the
-        # server doesn't take the statement; 22012: the row has another value than the statement
-        # wrote.
+        # 25: the session only reads, unlike a transaction of ours; 42 and 0A: the server refuses
+        # the statement; 22012: the row has another value than the statement wrote.
         state = self.number(raised)
         return state[:2] in ("25", "42", "0A") or state == "22012"
 
     async def commit(self, session: Session) -> None:
         done = await self._committed(session, self.commit_sql)
-        # A transaction that has failed answers ROLLBACK and raises nothing.
+        # COMMIT of a failed transaction answers ROLLBACK, and raises no exception.
         if done.status != "COMMIT":
             raise StoreFault(f"the server answered {done.status} to COMMIT")
 
     async def _committed(self, session: Session, sql: str, *values: object) -> Result:
-        """A statement that commits, and that raises an exception if the standby may lack the
+        """Runs a statement that commits, and raises an exception if the standby may lack the
         change."""
         warnings: list[str] = []
 
@@ -133,13 +135,13 @@ class Postgres(Dialect):
             done = await session.execute(sql, *values)
         finally:
             session.conn.remove_notice_handler(handler)
-        # A wait for the standby that was cancelled answers COMMIT, with a warning.
+        # After a cancelled wait for the standby, the server answers COMMIT, with a warning.
         if warnings:
             raise ConnectionError("committed on the primary, but perhaps not on the standby")
         return done
 
     async def add_all(self, session: Session, lines: Sequence[Line]) -> list[str]:
-        """Adds the records of lines with COPY; returns "added", "there" or "another" for each line.
+        """Adds the records of lines with COPY. Returns "added", "there" or "another" for each line.
 
         Raises an exception if the server stored a record other than the line's.
         """
@@ -158,8 +160,8 @@ class Postgres(Dialect):
 
     @property
     def _came(self) -> tuple[str, str]:
-        """The statements that create temporary tables for the lines, and for those that were
-        stored."""
+        """Returns the statements that create temporary tables for the lines and for the stored
+        ones."""
         columns = f"0 AS number, {self.key} AS name, {self.record}::text AS made"
         came = f"AS SELECT {columns} FROM {self.table} LIMIT 0"
         return (
@@ -169,8 +171,8 @@ class Postgres(Dialect):
 
     @property
     def _put_all(self) -> str:
-        """Stores the first record of each name, in the order of the names, in rows without a
-        record."""
+        """Builds the statement that stores each name's first record in a row without a record, in
+        the order of the names."""
         t, k, r = self.table, self.key, self.record
         came = "SELECT DISTINCT ON (name) * FROM rigzumal_came ORDER BY name, number"
         add = f"INSERT INTO {t} ({k}, {r}) SELECT name, made FROM came ON CONFLICT DO NOTHING"
@@ -184,7 +186,8 @@ class Postgres(Dialect):
 
     @property
     def _others(self) -> str:
-        """Finds lines that weren't stored, and lines whose row has a different record."""
+        """Builds the statement that finds unstored lines, and lines whose row has another
+        record."""
         same = f'kept.{self.record}::text COLLATE "C" = came.made'
         joined = "rigzumal_came AS came LEFT JOIN rigzumal_put AS put USING (number)"
         return self.alone(
@@ -214,8 +217,8 @@ class Postgres(Dialect):
 
     def lacks_key(self, raised: BaseException, key: Key) -> bool:
         if self.number(raised) == _NO_VALUE:
-            # Other types refuse no key, but what a row's policy reads, say. That may be an enum
-            # too: the words end with the text that is none of its names.
+            # With a key of another type, only a policy of the rows, say, can cause this error,
+            # perhaps for an enum of its own: the message ends with the refused text.
             diagnosis = getattr(raised, "diag", None)
             said = str(getattr(diagnosis, "message_primary", None)).rstrip(_QUOTES)
             is_key = isinstance(key, str) and said.endswith(key.rstrip(_QUOTES))
@@ -223,8 +226,8 @@ class Postgres(Dialect):
         return super().lacks_key(raised, key) or self.number(raised) in _LACKS
 
     def gave_up(self, raised: BaseException) -> bool:
-        # After an ERROR the server has rolled back. After FATAL and PANIC it answers no more, and a
-        # commit may be in its log.
+        # After an ERROR the server has rolled back. After FATAL and PANIC the server answers no
+        # more, and its log may have the commit.
         state = self.number(raised)
         severity = getattr(getattr(raised, "diag", None), "severity_nonlocalized", None)
         if not state or state == _UNKNOWN or severity not in (None, "ERROR"):
@@ -281,7 +284,7 @@ class Postgres(Dialect):
         return Findings(faults, is_usable=is_table)
 
     def _type_faults(self, key: str, record: str) -> Iterator[Fault]:
-        # An extension's type has its schema before it, if that isn't on the search path.
+        # The name of an extension's type begins with its schema, if that isn't on the search path.
         key, record = (it.rpartition(".")[2] for it in (key, record))
         if record.startswith("character varying("):
             yield from self.length_faults(record, int(record[18:-1]))
@@ -296,7 +299,7 @@ class Postgres(Dialect):
         yield from self.key_faults(key, key.startswith(kinds[self.key_type]))
 
 
-# A column of a domain has the type under it, and that domain's NOT NULL.
+# A column of a domain has the domain's base type, and the domain's NOT NULL.
 _COLUMNS: Final = (
     "WITH RECURSIVE found AS (SELECT attname, atttypid AS kind, atttypmod AS size,"
     " attnotnull AS bound FROM pg_attribute"
@@ -320,7 +323,7 @@ _TABLE: Final = (
     " (SELECT 1 FROM pg_inherits WHERE inhparent = c.oid) AS has_heirs"
     " FROM pg_class AS c WHERE oid = to_regclass(%s)"
 )
-# An EXCLUDE by = alone is as good as UNIQUE.
+# An EXCLUDE constraint with only = is as good as UNIQUE.
 _UNIQUE: Final = (
     "SELECT CASE WHEN a.attnum = i.indkey[0] THEN ''"
     " ELSE pg_get_indexdef(i.indexrelid, 1, true) END"

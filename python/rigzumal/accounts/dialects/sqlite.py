@@ -17,7 +17,7 @@ from rigzumal.accounts.dialects._faults import warning
 
 _BUSY: Final = (5, 6)  # SQLITE_BUSY, SQLITE_LOCKED
 _FULL: Final = (13,)  # SQLITE_FULL
-_LOOKED_AT: Final = 1000  # rows, for records that are no text
+_LOOKED_AT: Final = 1000  # rows in which to look for records that aren't text
 _NEEDED: Final = 8 << 20  # bytes: the log grows to 1,000 pages of 4 KiB, and then the file
 
 
@@ -38,7 +38,7 @@ class Sqlite(Dialect):
         has_transaction = getattr(conn, "in_transaction", None)
         if not isinstance(has_transaction, bool):
             raise other_driver(conn, "sqlite3")
-        # From Python 3.12 on there is an attribute; -1 stands for the older way.
+        # Python 3.12 and later have the attribute; -1 stands for the older way.
         autocommit = getattr(conn, "autocommit", -1)
         if autocommit == -1:
             autocommit = conn.isolation_level is None
@@ -51,7 +51,7 @@ class Sqlite(Dialect):
             super().fresh(conn)
 
     async def within(self, session: Session) -> None:
-        # Out of autocommit too, no transaction is open before the first change.
+        # Even outside autocommit, no transaction is open before the first change.
         if not self.mode(session.conn).has_transaction:
             raise StoreFault(NO_TRANSACTION)
 
@@ -66,8 +66,8 @@ class Sqlite(Dialect):
         return Verdict.AGAIN if is_busy else Verdict.REFUSED
 
     def gave_up(self, raised: BaseException) -> bool:
-        # SQLite judges a deferred constraint, and finds a full disk, at COMMIT. It writes the mark
-        # of the commit last, so the mark is missing then.
+        # SQLite judges a deferred constraint, and finds a full disk, at COMMIT. SQLite writes the
+        # mark of the commit last, so the mark is missing then.
         is_full = _is_of(raised, _FULL, "is full")
         return super().gave_up(raised) or isinstance(raised, sqlite3.IntegrityError) or is_full
 
@@ -83,7 +83,7 @@ class Sqlite(Dialect):
         of = (t, schema) if schema else (t,)
         info = f"pragma_table_xinfo({', '.join('?' * len(of))})"  # with generated columns
         found = await session.execute(f'SELECT name, type, "notnull", pk FROM {info}', *of)
-        # Names of columns are the same in any case.
+        # SQLite ignores the case of column names.
         spelled = {name.lower(): name for name in (self.record_name, self.key_name)}
         columns = {spelled.get(row[0].lower(), row[0]): row[1:] for row in found.rows}
         missing = self.missing(columns)
@@ -120,13 +120,13 @@ class Sqlite(Dialect):
         return Findings(faults + [it for path in paths for it in of_disk(path)])
 
     def _others(self) -> str:
-        """A query that finds records other than text in the first rows: SQLite allows them in a
-        column of any type."""
+        """Builds a query that finds records other than text in the first rows: SQLite allows them
+        in a column of any type."""
         rows = f"SELECT typeof({self.record}) AS type FROM {self.table} LIMIT {_LOOKED_AT}"
         return f"SELECT DISTINCT type FROM ({rows}) WHERE type NOT IN ('text', 'null')"
 
     def _type_faults(self, declared: str) -> Iterator[Fault]:
-        """SQLite compares '07' as 7, or 7 as '7', by the column's type."""
+        """Reports a column whose type makes SQLite compare '07' as 7, or 7 as '7'."""
         words = declared.upper()
         holds: type = float
         if "INT" in words:
@@ -140,13 +140,12 @@ class Sqlite(Dialect):
 
 
 def _is_of(raised: BaseException, codes: tuple[int, ...], text: str) -> bool:
-    """Whether an error has one of these codes; before Python 3.11, only the text contains the
-    code."""
+    """Whether an error has one of these codes; before Python 3.11, only the text shows the code."""
     code = getattr(raised, "sqlite_errorcode", None)
     return text in str(raised) if code is None else code & 0xFF in codes
 
 
-# Indexes of all rows, by one part, which has no name if it is an expression.
+# The indexes of all rows with one part; a part that is an expression has no name.
 _UNIQUE: Final = (
     "SELECT lower(x.name), coalesce(m.sql, '-') FROM pragma_index_list(?{of}) AS i"
     " JOIN pragma_index_xinfo(i.name{of}) AS x ON x.key = 1"
@@ -171,7 +170,7 @@ def of_disk(path: str) -> Iterator[Fault]:
 
 
 def of_connection(seen: dict[str, Any]) -> Iterator[Fault]:
-    """The faults of a SQLite connection, by its pragmas."""
+    """Yields the faults that a SQLite connection's pragmas show."""
     if seen["synchronous"] < 2:
         yield not_durable(f"synchronous is below FULL: {POWER_CUT_LOSES}")
     if seen["busy_timeout"] < 1000:

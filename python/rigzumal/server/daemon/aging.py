@@ -9,12 +9,12 @@ SECONDS_A_DAY = 86400
 SHADOW = 9  # fields of a line of shadow(5); a line may lack the last ones
 OLD_SHADOW = 5  # with the last change, the least and the most days of a password
 NUMBER = re.compile(rb"[0-9]{0,9}")  # the C library refuses a sign too
-# What Dovecot's extra fields begin with that let a user in nowhere, or from some networks alone.
+# The beginnings of Dovecot's extra fields that bar a user everywhere, or outside of some networks.
 BARS = (b"nologin", b"noauthenticate", b"allow_")
 
 
 def today() -> int:
-    """Days since 1970, as shadow(5) counts them."""
+    """Returns the days since 1970, as shadow(5) counts them."""
     return int(time.time()) // SECONDS_A_DAY
 
 
@@ -64,13 +64,13 @@ class Line:
         return Days(*(int(field) if field else -1 for field in fields))
 
     def is_of_dovecot(self) -> bool:
-        """Whether the line is Dovecot's, which its home folder or an extra field shows: such a line
+        """Whether the line is Dovecot's, as its home folder or an extra field shows: such a line
         may also have nine fields."""
         home, extra = self.others[3], self.others[5]
         return b"/" in home or b"=" in extra
 
     def bar(self, day: int) -> str:
-        """The reason that bars the user, even after the move; empty if there is none."""
+        """Returns the reason that bars the user, even after the move, or an empty text."""
         days = self.days()
         if days and days.has_ended(day):
             return "the account has expired"
@@ -81,7 +81,7 @@ class Line:
         return ""
 
     def why_shut(self, day: int) -> str:
-        """The reason that bars the line's user; empty if some password may be right."""
+        """Returns the reason that bars the line's user, or "" if some password may be right."""
         if why := self.bar(day):
             return why
         days = self.days()

@@ -16,12 +16,12 @@ import sys
 from contextlib import suppress
 from typing import BinaryIO
 
-SIZE = struct.Struct(">Q")  # precedes each text: the number of its bytes
+SIZE = struct.Struct(">Q")  # the number of a text's bytes, which precedes the text
 FAULT = struct.Struct(">H")  # the answer: the system's number of a fault, or 0
 
 
 def status_of(path: str) -> os.stat_result:
-    """The status of a regular file; refuses other files, since a pipe might keep the server
+    """Returns the status of a regular file, and refuses others: a pipe might keep the server
     waiting."""
     found = os.stat(path)
     if not stat.S_ISREG(found.st_mode):
@@ -30,14 +30,15 @@ def status_of(path: str) -> os.stat_result:
 
 
 def private(path: str, flags: int) -> int:
-    """Opens a regular file, but no link; only its owner may read and write it."""
+    """Opens a regular file, but no link, so that only its owner may read and write the file."""
     with suppress(FileNotFoundError):
         status_of(path)
     return os.open(path, flags | os.O_NOFOLLOW | os.O_NONBLOCK, 0o600)
 
 
 class GrowingFile:
-    """A private file that is opened for each text: an administrator rotates it by renaming it."""
+    """A private file that the program opens for each text: an administrator rotates it by a
+    rename."""
 
     def __init__(self, path: str) -> None:
         self.path = path
@@ -72,7 +73,7 @@ def write_texts(file: GrowingFile, texts: BinaryIO, answers: socket.socket) -> N
         (count,) = SIZE.unpack(size)
         text, fault = texts.read(count), 0
         if len(text) < count:
-            return  # the server was killed amid it
+            return  # somebody killed the server while it sent the text
         try:
             file.append(text)
         except OSError as refusal:

@@ -18,19 +18,19 @@ LONGEST_ANSWER = 65536  # bytes
 UNAVAILABLE = b"unavailable"
 NAME = re.compile(rb"[a-z0-9._-]{1,32}")  # of a book
 LOCKED, MUST_CHANGE = b"!", b"~"  # the marks of an account, in this order before its record
-LACKS = (b"absent", b"noaccount")  # its answers if it has no record, or no account
-LATER = b"later"  # begins its answer to a try that is too early
-EARLY = re.compile(rb"later ([1-9][0-9]{0,2})")  # the whole of it, with the seconds that are left
+LACKS = (b"absent", b"noaccount")  # the answers for an account without a record, and for no account
+LATER = b"later"  # the beginning of the answer to a try that is too early
+EARLY = re.compile(rb"later ([1-9][0-9]{0,2})")  # the whole answer, with the remaining seconds
 LONGEST_WAIT = 900  # seconds
-NO_RECORD = b"none"  # the same of `show`
+NO_RECORD = b"none"  # `show`'s answer for an account without a record
 NO_ACCOUNT = b"bad 5 noaccount"
 RETRY_SECONDS = 1.0  # seconds between a failed start of a process and the next one
-REST = 1.5  # as a share of the time that a round of changes took
+REST = 1.5  # as a share of the time of a round of changes
 LONGEST_REST = 0.1  # seconds
 
 
 def password_of(field: bytes) -> Optional[bytes]:
-    """The password in a field of a line; None if the field isn't the one of a password."""
+    """Returns the password in a field of a line, or None if the field isn't that of a password."""
     if field == b"-":
         return b""
     try:
@@ -41,12 +41,13 @@ def password_of(field: bytes) -> Optional[bytes]:
 
 
 def field_of(password: bytes) -> bytes:
-    """The field with this password in a line."""
+    """Returns the field with this password in a line."""
     return base64.b64encode(password).rstrip(b"=") or b"-"
 
 
 def seconds_to_wait(answer: bytes) -> int:
-    """The remaining seconds in the answer to a try that was too early; 0 for any other answer."""
+    """Returns the remaining seconds in the answer to a try that was too early, or 0 for any other
+    answer."""
     early = EARLY.fullmatch(answer)
     return int(early[1]) if early else 0
 
@@ -69,7 +70,7 @@ class Process(asyncio.SubprocessProtocol):
     def __init__(self) -> None:
         self.tags = itertools.count(1)
         self.pending = dict[bytes, asyncio.Future[bytes]]()  # answers, by their tags
-        self.rest = b""  # the beginning of a line that it is writing
+        self.rest = b""  # the beginning of a line that the process is writing
         self.ended: asyncio.Future[int] = asyncio.get_running_loop().create_future()
 
     def connection_made(self, transport: Any) -> None:
@@ -101,7 +102,8 @@ class Process(asyncio.SubprocessProtocol):
             self.kill()
 
     def connection_lost(self, _: object) -> None:
-        """Called when the process has ended and its last output has arrived."""
+        """Refuses the open lines; asyncio calls this method after the process's end and its last
+        output."""
         status = self.transport.get_returncode()
         self.ended.set_result(status if status >= 0 else 128 - status)
         for answer in self.pending.values():
@@ -120,22 +122,21 @@ class Process(asyncio.SubprocessProtocol):
 
 
 class Book:
-    """The book's answers: they come from successive processes, since only one process can open the
-    file.
+    """The book's answers, which come from successive processes: only one process can open the file.
 
     While another program has the file open (`lent`), lines wait for the next process.
     """
 
     def __init__(self, command: list[str]) -> None:
         self.command = command
-        self.process: Optional[Process] = None  # that answers lines; none while the file is lent
+        self.process: Optional[Process] = None  # answers lines; None during a loan
         self.living = set[Process]()
-        self.status = 0  # of the last process that ended
+        self.status = 0  # the status of the last process that ended
         self.waiting = list[tuple[tuple[bytes, ...], asyncio.Future[bytes]]]()
         self.is_down = False  # the last process couldn't start, so no line waits for the next one
-        self.is_ending = False  # the server starts no process any more
+        self.is_ending = False  # the server starts no more processes
         self.opened = 0.0  # the moment since which no line has waited for a process
-        # With the status of its last process: that ended by itself, or the server ends.
+        # The last process's status, once that process ends by itself or the server ends.
         self.ended: asyncio.Future[int] = asyncio.get_running_loop().create_future()
 
     async def open(self) -> None:
@@ -160,7 +161,7 @@ class Book:
             self.ended.set_result(status)
 
     def hand_over_to(self, process: Process) -> None:
-        """From now on sends all lines to a process, beginning with the waiting ones."""
+        """Sends the waiting lines, and from now on all lines, to a process."""
         self.process, self.is_down = process, False
         self.opened = time.monotonic()
         waiting, self.waiting = self.waiting, []
@@ -168,7 +169,8 @@ class Book:
             process.ask(words, answer)
 
     def ask(self, *words: bytes) -> asyncio.Future[bytes]:
-        """The answer to a line; UNAVAILABLE if the book ends before it answers."""
+        """Sends a line. The result is the answer, or UNAVAILABLE if the book ends before it
+        answers."""
         answer: asyncio.Future[bytes] = asyncio.get_running_loop().create_future()
         if self.process is not None:
             self.process.ask(words, answer)
@@ -179,7 +181,8 @@ class Book:
         return answer
 
     def row(self, name: bytes) -> asyncio.Future[bytes]:
-        """An account's marks followed by its record, or NO_RECORD; or the refusal of `show`."""
+        """Asks for an account's marks followed by its record, or NO_RECORD. The answer may be the
+        refusal of `show`."""
         return self.ask(b"show", name)
 
     def is_lent(self) -> bool:
@@ -207,7 +210,7 @@ class Book:
 
     async def reopen(self) -> None:
         """Starts processes until one of them answers, or the server ends. If the first process
-        doesn't answer, all waiting lines are refused."""
+        doesn't answer, the book refuses all waiting lines."""
         while not self.is_ending:
             if process := await self.process_that_answers():
                 self.hand_over_to(process)
@@ -221,7 +224,8 @@ class Book:
             self.ended.set_result(self.status)
 
     async def process_that_answers(self) -> Optional[Process]:
-        """A new process that has answered a line, and has therefore opened the file; or none."""
+        """Starts a process, and returns it once it has answered a line, and so opened the file, or
+        None."""
         try:
             process = await self.start_process()
         except OSError as fault:
@@ -253,12 +257,12 @@ class Book:
 
 
 class Places:
-    """Places that users get in turn: the user with the fewest gets the next one."""
+    """Places that users get in turn: the user with the fewest places gets the next one."""
 
     def __init__(self, count: int) -> None:
         self.free = count
-        self.taken = Counter[Hashable]()  # by each user
-        # Who waits, in the order of their next turns, and for which places.
+        self.taken = Counter[Hashable]()  # for each user
+        # The waiting users, in the order of their next turns, and the places for which they wait.
         self.users = OrderedDict[Hashable, deque[asyncio.Future[None]]]()
 
     def take(self, user: Hashable) -> asyncio.Future[None]:
@@ -273,7 +277,7 @@ class Places:
 
     def give(self, user: Hashable, place: asyncio.Future[None]) -> None:
         """Gives a free place to a user."""
-        if not place.cancelled():  # as the server ends
+        if not place.cancelled():  # when the server ends
             self.free -= 1
             self.taken[user] += 1
             place.set_result(None)
@@ -297,18 +301,18 @@ class Places:
 
 
 class Rounds:
-    """While users log in, changes run in rounds: in each round, all changes that hash or one other
-    change; a rest follows."""
+    """Runs changes in rounds while users log in. A round runs all changes that hash, or one other
+    change, and a rest follows."""
 
     def __init__(self, book: Book, is_busy: Callable[[], bool]) -> None:
         self.book = book
         self.is_busy = is_busy  # whether somebody logs in
-        self.gate = asyncio.Event()  # is set while no round runs, and none has its rest
+        self.gate = asyncio.Event()  # set while no round runs or rests
         self.gate.set()
-        self.running = 0  # changes of this round
+        self.running = 0  # changes in this round
 
     async def ask(self, words: list[bytes], is_alone: bool) -> bytes:
-        """The answer to a change, which runs in this round or in the next."""
+        """Runs a change in this round or in the next, and returns the answer."""
         while self.is_busy() and not self.gate.is_set():
             await self.gate.wait()
             if not is_alone:

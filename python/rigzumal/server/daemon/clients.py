@@ -16,21 +16,21 @@ if TYPE_CHECKING:
     from .service import Service
     from .transfers import Incoming
 
-AT_ONCE = 32  # requests of a client
+AT_ONCE = 32  # open requests of a client
 LONGEST = 960  # bytes of a line
-READ_SIZE = 4096  # bytes that are read at a time
-READ_SIZE_OF_TEXT = 65536  # the same of an import's text
+READ_SIZE = 4096  # bytes to read at a time
+READ_SIZE_OF_TEXT = 65536  # bytes of an import's text to read at a time
 SEND_BUFFER = 16384  # bytes that may wait in the system for a client to read them
 TAG = re.compile(rb"[a-z0-9]{1,20}")
 NO_TAG = b"*"  # before the answer to a line that needs no work of the book
 BAD_LINE, LONG = b"bad 11 line", b"bad 16 long"
-PAUSE_SECONDS = 0.001  # behind an answer without the book's work, times a user's clients
+PAUSE_SECONDS = 0.001  # seconds after an answer without the book's work, times a user's clients
 
 
 class Client:
     """A client that sends lines, and receives an answer to each, in any order."""
 
-    no_room = b"* unavailable\n"  # the answer to a client that isn't let in
+    no_room = b"* unavailable\n"  # the answer to a client that gets no place
 
     def __init__(self, service: Service, door: Door, sock: socket.socket, peer: Peer) -> None:
         self.service = service
@@ -39,35 +39,35 @@ class Client:
         self.pid = peer.pid
         self.uid = peer.uid
         self.user = peer.user
-        self.is_ending = False  # it accepts no more requests
-        self.is_watched = False  # the loop tells when its socket can be read
+        self.is_ending = False  # the client may send no more requests
+        self.is_watched = False  # the event loop reports when the socket has bytes to read
         self.running = 0  # requests without an answer
-        self.active = time.monotonic()  # when it last was answered
+        self.active = time.monotonic()  # the time of the last answer
         self.queues = defaultdict[object, asyncio.Lock](asyncio.Lock)  # for each kind of places
-        self.incoming: Optional[Incoming] = None  # the text of an import, which comes next
+        self.incoming: Optional[Incoming] = None  # the import whose text comes next
         self.answered = asyncio.Event()
         self.writing = asyncio.Lock()
         self.loop = asyncio.get_running_loop()
         sock.setsockopt(socket.SOL_SOCKET, socket.SO_SNDBUF, SEND_BUFFER)
 
     async def run(self) -> None:
-        """Reads requests. Closes the connection once all lines are answered, or if nobody reads the
+        """Reads requests. Closes the connection once all lines have answers, or if nobody reads the
         answers."""
         try:
             with suppress(OSError):
                 await self.read()
-                self.socket.send(b"")  # which fails where nobody reads
+                self.socket.send(b"")  # which fails if nobody reads the answers
                 await self.has_fewer(1)
         finally:
             self.is_ending = True
             self.loop.remove_reader(self.socket)
             del self.service.clients[self]
             self.door.counts -= Counter([self.user])
-            async with self.writing:  # after whoever waits for the socket
+            async with self.writing:  # after all tasks that wait for the socket
                 self.socket.close()
 
     async def read(self) -> None:
-        """Passes each line on; of a line that is too long, only its beginning, which is refused."""
+        """Passes each line on, but only the beginning of a line that is too long, for a refusal."""
         text, is_rest = b"", False
         while more := await self.receive():
             text += more
@@ -98,8 +98,9 @@ class Client:
         return rest
 
     async def receive(self) -> bytes:
-        """Some bytes; none at the end of the input. The event loop watches the socket between two
-        calls, which saves the time that sock_recv would spend on watching it again."""
+        """Returns some bytes, or none at the end of the input. The event loop watches the socket
+        between two calls, which saves the time that sock_recv would spend on watching the socket
+        again."""
         self.received: asyncio.Future[bytes] = self.loop.create_future()
         if not self.is_watched:
             self.is_watched = True
@@ -170,7 +171,7 @@ class Client:
     def has_gone(self) -> bool:
         """Whether the client has stopped reading answers; it may still send lines."""
         try:
-            self.socket.send(b"")  # which fails then
+            self.socket.send(b"")  # this fails if the client stopped reading
         except OSError:
             return True
         return False

@@ -25,7 +25,7 @@ class Costs:
 
 
 def costs_of(setting: str) -> Optional[Costs]:
-    """The costs of a setting, with or without its salt; None if the text isn't a setting."""
+    """Returns the costs of a setting, with or without its salt, or None for any other text."""
     if argon2 := ARGON2.fullmatch(setting):
         memory, passes = int(argon2[1]), int(argon2[2])
         return Costs(memory, memory * passes)
@@ -37,7 +37,8 @@ def costs_of(setting: str) -> Optional[Costs]:
 
 
 def size_of(kib: int) -> str:
-    """A bound in the form that credkeep reads: a number of KiB, or of GiB if it is too large."""
+    """Returns a bound in the form that credkeep reads: a number of KiB, or of GiB if it is too
+    large."""
     if kib <= MOST:
         return str(kib)
     return f"{min(math.ceil(kib / GIB), MOST)}G"

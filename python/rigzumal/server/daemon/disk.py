@@ -3,10 +3,10 @@ does the service for all its users."""
 
 import os
 
-# What changes may write before the server looks again, in bytes: SQLite's log grows to 1,000 pages
+# The bytes that changes may write before the server looks again: SQLite's log grows to 1,000 pages
 # of 4 KiB, with 256 KiB of zeros ahead, and then the file itself, by the pages of new accounts.
 NEEDED = 8 << 20
-FULL = b"bad 19 disk"  # the answer to a change that isn't tried
+FULL = b"bad 19 disk"  # the answer to a change that the server doesn't try
 
 
 def has_room(folder: str, needed: int = NEEDED) -> bool:

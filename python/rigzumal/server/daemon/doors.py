@@ -24,14 +24,14 @@ if TYPE_CHECKING:
     from .service import Service
 
 MOST_CLIENTS = 1024  # of a door
-MOST_WAITING = 64  # clients that wait to be let in, while none of them stays
+MOST_WAITING = 64  # clients that may wait for admission, while no admitted one stays
 LAST_PLACES = 64  # of a door, for users without a place
-ACCEPTED_AT_ONCE = 16  # clients in a pass of the loop: then others have their turn
+ACCEPTED_AT_ONCE = 16  # clients in a pass of the loop: other tasks then have their turn
 FIRST_OF_SYSTEMD = 3  # the descriptor of its first socket: sd_listen_fds(3)
 PEER = struct.Struct("3i")  # of SO_PEERCRED: the peer's pid, uid and gid
 SUBORDINATE = "/etc/subuid"  # subuid(5): the uids that a person has in namespaces
 RANGE = re.compile(r"([^:\n]+):([0-9]{1,10}):([0-9]{1,10})\n?")  # a line of that file
-LEAST_SUBORDINATE = 60001  # the least uid that is looked up there: those of people are below
+LEAST_SUBORDINATE = 60001  # the least uid to look up there: those of people are lower
 # The first two names of a control group: /system.slice/ssh.service, /user.slice/user-1000.slice.
 GROUP = re.compile(rb"^\d+:(?:name=systemd)?:((?:/[^/\n]+){1,2})", re.M)
 
@@ -54,9 +54,9 @@ class Door:
     mode: int
     group: str  # or "-" for none
     operations: frozenset[bytes]
-    client: type[Client] = Client  # what its clients speak
+    client: type[Client] = Client  # the protocol that its clients speak
     gid: int = -1
-    listener: Optional[socket.socket] = None  # that systemd has opened
+    listener: Optional[socket.socket] = None  # the socket that systemd has opened
     counts: Counter[Hashable] = field(default_factory=Counter)  # clients of each user
 
     def prepare(self) -> None:
@@ -72,7 +72,7 @@ class Door:
         self.lock()
 
     def socket_of_systemd(self) -> socket.socket:
-        """The socket that systemd passes under this name."""
+        """Returns the socket that systemd passes under this name."""
         names = os.environ.get("LISTEN_FDNAMES", "").split(":")
         if self.name in names:
             found = socket.socket(fileno=FIRST_OF_SYSTEMD + names.index(self.name))
@@ -93,7 +93,7 @@ class Door:
             raise Problem(f"another server uses {self.path}") from None
 
     def own_socket(self) -> socket.socket:
-        """A socket at the door's path; its mode is set before it listens."""
+        """Creates a socket at the door's path, and sets its mode before it listens."""
         listener = socket.socket(socket.AF_UNIX)
         if pathlib.Path(self.path).is_socket():
             if listener.connect_ex(self.path) == 0:
@@ -105,7 +105,7 @@ class Door:
         return listener
 
     def listen(self) -> socket.socket:
-        """The door's socket; from now on clients may connect."""
+        """Opens the door's socket; from now on clients may connect."""
         try:
             listener = self.listener or self.own_socket()
             listener.setblocking(False)
@@ -126,7 +126,7 @@ class Door:
                     await asyncio.sleep(0)
                 except OSError:  # no descriptor is free
                     await asyncio.sleep(0.1)
-                except Exception as fault:  # the fault costs one client, and never the socket
+                except Exception as fault:  # the fault ends one client, and never the socket
                     what = type(fault).__name__
                     log_seldom((self.name, what), "%s: a fault: %s", self.path, what)
 
@@ -147,7 +147,7 @@ class Door:
     def let_in(self, service: Service, sock: socket.socket) -> bool:
         """Whether the connection gets a place of its user; otherwise the client receives an
         answer."""
-        with suppress(OSError):  # if nothing has come
+        with suppress(OSError):  # if the client has sent nothing
             if not sock.recv(1, socket.MSG_PEEK):
                 sock.close()
                 return False
@@ -167,8 +167,8 @@ class Door:
 
 @functools.lru_cache(maxsize=1)
 def ranges_in(path: str, _version: tuple[int, ...]) -> list[tuple[range, str]]:
-    """The ranges of uids in this version of a subuid(5) file, each with its owner (a name or a
-    uid)."""
+    """Reads the ranges of uids in this version of a subuid(5) file, each with its owner (a name or
+    a uid)."""
     with open(path, encoding="utf-8", errors="replace") as file:
         lines = [found for found in map(RANGE.fullmatch, file) if found]
     ranges = list[tuple[range, str]]()
@@ -179,7 +179,7 @@ def ranges_in(path: str, _version: tuple[int, ...]) -> list[tuple[range, str]]:
 
 
 def owner_of(uid: int) -> int:
-    """The owner of a subordinate uid; any other uid is its own owner."""
+    """Returns the owner of a subordinate uid; any other uid is its own owner."""
     if uid < LEAST_SUBORDINATE:
         return uid
     try:
@@ -195,7 +195,7 @@ def owner_of(uid: int) -> int:
 
 
 def share_of(uid: int, pid: int) -> str:
-    """The user to whose share a process belongs: its uid, or, for a process of root, its
+    """Returns the user to whose share a process belongs: its uid, or, for a process of root, its
     service."""
     found = None
     if uid == 0:

@@ -12,7 +12,7 @@ from .journal import Marks, Problem, log
 if TYPE_CHECKING:
     from .service import Service
 
-# The marks that the book stores, by the operations that set them, and the answers to these.
+# For each operation that sets a mark of the book: the mark, and the answer.
 MARK_OF = {b"lock": LOCKED, b"expire": MUST_CHANGE}
 ANSWER_OF = {b"lock": b"locked", b"expire": b"expired"}
 
@@ -43,7 +43,7 @@ async def take_in(service: Service) -> None:
 
 
 async def has_taken(service: Service, name: bytes, word: bytes) -> bool:
-    """Writes the mark of an operation to the book; returns False if no account can have the
+    """Writes the mark of an operation to the book. Returns False if no account can have the
     mark."""
     if not NAME.fullmatch(name):  # such as one that is too long for a line
         return False
@@ -61,7 +61,7 @@ async def has_taken(service: Service, name: bytes, word: bytes) -> bool:
 
 
 async def mark_in_old_file(service: Service, name: bytes, word: bytes) -> bytes:
-    """Marks a user who is only in an old htpasswd file; for any other name the answer is empty."""
+    """Marks a user who is only in an old htpasswd file; for any other name, the answer is empty."""
     if not service.foreign or not (await service.foreign.file.line(name)).record:
         return b""
     if word == b"expire":
@@ -71,5 +71,5 @@ async def mark_in_old_file(service: Service, name: bytes, word: bytes) -> bytes:
 
 
 async def ask(service: Service, *words: bytes) -> bytes:
-    """The book's answer, even if the start is cancelled meanwhile."""
+    """Returns the book's answer, even if the server cancels the start meanwhile."""
     return await asyncio.shield(service.book.ask(*words))

@@ -21,7 +21,7 @@ from .tries import Tries
 HAS_RECORD = (b"yes", b"expired", b"same", b"replaced", b"upgraded", b"kept", b"enrolled")
 # The answers to operations that add a name, if the file has the name.
 IF_NAME_IS_TAKEN = {b"account": b"bad 1 exists", b"rename": b"exists"}
-ENDS_RECORD = (b"disable", b"delete", b"rename", b"remove")  # leave no record
+ENDS_RECORD = (b"disable", b"delete", b"rename", b"remove")  # these leave no record
 MARKS = (b"lock", b"unlock", b"expire")
 EXPIRED, FORGIVEN = b"expired", b"forgiven"  # the answers to `expire` and `forgive`
 
@@ -33,10 +33,10 @@ class Foreign:
         self.service = service
         self.file = OldFile(path, service.names)
         self.tries = Tries(service.options.tries)
-        self.locks = WeakValueDictionary[bytes, asyncio.Lock]()  # of names, one request at a time
+        self.locks = WeakValueDictionary[bytes, asyncio.Lock]()  # one for each name's requests
 
     async def answer(self, request: Request) -> bytes:
-        """The answer: that of a wrong password if the file bars the user, otherwise the answer of
+        """Returns the answer to a wrong password if the file bars the user, otherwise the answer of
         the book or the file."""
         if request.word == b"list":
             return await self.service.ask(request)
@@ -49,7 +49,8 @@ class Foreign:
         name, question = request.words[1], request
         is_barred = await self.file.bars(name)
         if is_barred and request.operation.tries:
-            # It takes as many hashes as a wrong password, counts as one, and changes nothing.
+            # Such a try takes as many hashes as a wrong password, counts as one, and changes
+            # nothing.
             question = replace(request, words=with_wrong_password(request.words))
         answer = await self.answer_unbarred(question)
         if is_barred or await self.file.bars(name):  # the file may have changed
@@ -57,7 +58,7 @@ class Foreign:
         return answer
 
     async def page_of_marks(self, request: Request) -> bytes:
-        """A page of `marks`, with a lock for users whom the file bars."""
+        """Returns a page of `marks`, with a lock for users whom the file bars."""
         page = await self.service.ask(request)
         word, *items = page.split(b" ")
         if word != b"marks":
@@ -85,7 +86,7 @@ class Foreign:
         return answer
 
     def rest(self, name: str) -> int:
-        """The remaining seconds of the wait for a user whom the file decides about."""
+        """Returns the remaining seconds of the wait for a user whom the file decides about."""
         return self.tries.rest(name.encode(errors="replace"))
 
     async def end_waits(self) -> None:
@@ -101,12 +102,12 @@ class Foreign:
             self.service.tally.end_wait(name.decode(errors="replace"), "the book decides now")
 
     async def with_locks(self, text: BinaryIO) -> BinaryIO:
-        """An export, with a lock for users whom the file bars."""
+        """Returns an export, with a lock for users whom the file bars."""
         return await asyncio.to_thread(with_locks, text, await self.file.barred())
 
     async def answer_unbarred(self, request: Request) -> bytes:
-        """The book's answer, or the file's if the book lacks the name. Requests for a name that the
-        file may decide about run one after another."""
+        """Returns the book's answer, or the file's if the book lacks the name. Requests for a name
+        that the file may decide about run one after another."""
         word, name = request.words[:2]
         makes_name = word in IF_NAME_IS_TAKEN
         names = {name, request.words[-1]} if makes_name else {name}
@@ -122,7 +123,7 @@ class Foreign:
         return answer
 
     async def answer_in_turn(self, request: Request) -> bytes:
-        """The answer to a request, while no other request for its names runs."""
+        """Answers a request while no other request for its names runs."""
         word, name = request.words[:2]
         if word in IF_NAME_IS_TAKEN and (await self.file.line(request.words[-1])).record:
             return IF_NAME_IS_TAKEN[word]
@@ -143,12 +144,12 @@ class Foreign:
         return answer
 
     async def prepare(self, request: Request, line: Line, row: bytes) -> bytes:
-        """Does the steps before the book's part; returns the answer if the book needn't answer."""
+        """Does the steps before the book's part. Returns the answer if the book needn't answer."""
         word, name = request.words[:2]
         if row == UNAVAILABLE or row.startswith(b"bad ") and row != NO_ACCOUNT:
             return row
         if word == b"rename" and line.record and not has_record(row):
-            return b"noaccount"  # it would leave the decision to the file, without a lock
+            return b"noaccount"  # the file would decide, without a lock
         if has_record(row) and self.file.is_expired(name) and word not in (b"show", *MARKS):
             if refusal := await self.finish_move(request):
                 return refusal
@@ -159,7 +160,8 @@ class Foreign:
         return b""
 
     async def finish_move(self, request: Request) -> bytes:
-        """Finishes a move that a kill may have interrupted after `enrol`; returns a refusal."""
+        """Finishes a move that a kill may have interrupted after `enrol`. Returns a refusal, if
+        any."""
         name = request.words[1]
         answer = await self.service.ask_besides(request, b"expire", name)
         if answer != EXPIRED:
@@ -167,13 +169,13 @@ class Foreign:
         return b"" if await self.file.note_moved(name) else UNAVAILABLE
 
     async def note_move(self, request: Request, answer: bytes) -> None:
-        """Notes that a name has moved, if the book has its record after this answer."""
+        """Notes that a name has moved, if the book has the name's record after this answer."""
         if request.operation.hashes and answer in HAS_RECORD:
             self.tries.forgive(request.words[1])
             await self.file.note_moved(request.words[1])
 
     async def answer_of_file(self, request: Request, line: Line, answer: bytes) -> bytes:
-        """The answer to a request for a user who is in the file but not in the book."""
+        """Answers a request for a user who is in the file but not in the book."""
         word, name = request.words[:2]
         if request.operation.tries:
             return await self.judge(request, line)
@@ -198,14 +200,14 @@ class Foreign:
         return answer
 
     def answer_to_known(self, name: bytes, line: Line) -> bytes:
-        """The answer to `known`, and to a right password, for a user whom nothing bars."""
+        """Returns the answer to `known`, and to a right password, for a user whom nothing bars."""
         return b"expired" if self.file.must_change(name, line) else b"yes"
 
     async def is_locked(self, name: bytes) -> bool:
         return (await self.service.book.row(name)).startswith(LOCKED)
 
     async def judge(self, request: Request, line: Line) -> bytes:
-        """The answer to a try by the file's record; a right password moves its user."""
+        """Answers a try by the file's record; a right password moves its user."""
         name, password = request.words[1], password_of(request.words[2]) or b""
         is_password = await asyncio.to_thread(is_right, line.record, password)
         is_same = await self.file.line(name) == line  # as before that hash
@@ -224,7 +226,7 @@ class Foreign:
         return answer
 
     async def move(self, request: Request, line: Line) -> bytes:
-        """Writes a user's record to the book, which then decides; returns a refusal.
+        """Writes a user's record to the book, which then decides. Returns a refusal, if any.
 
         If the password must be changed, the call first notes that: a kill after `enrol` would leave
         a record without the mark. `finish_move` reads the note.
@@ -234,7 +236,7 @@ class Foreign:
             return UNAVAILABLE
         await self.service.ask_besides(request, b"account", name)
         answer = await self.service.ask_besides(request, b"enrol", name, field)
-        if answer == b"exists":  # a lock came, or a record: the book decides
+        if answer == b"exists":  # the account has got a lock or a record: the book decides
             return b""
         if answer == b"enrolled" and self.file.is_expired(name):
             answer = await self.service.ask_besides(request, b"expire", name)
@@ -245,8 +247,8 @@ class Foreign:
 
 
 def with_wrong_password(words: list[bytes]) -> list[bytes]:
-    """The words of a try with a password that nobody has. A field that the book would refuse stays
-    unchanged.
+    """Returns the words of a try with a password that nobody has. A field that the book would
+    refuse stays unchanged.
 
     A long password keeps its length, and one with a NUL gets a NUL: some old schemes don't hash a
     password that is too long or has a NUL.
@@ -271,8 +273,8 @@ def ends_record(word: bytes, row: bytes) -> bool:
 
 
 def row_with_lock(row: bytes) -> bytes:
-    """The row with an added lock, even if the record or the account is missing; other refusals stay
-    unchanged."""
+    """Returns the row with an added lock, even if the record or the account is missing; other
+    refusals stay unchanged."""
     if row in (NO_ACCOUNT, NO_RECORD):
         return LOCKED
     if row.startswith((b"bad ", LOCKED)) or row == UNAVAILABLE:
@@ -281,7 +283,7 @@ def row_with_lock(row: bytes) -> bytes:
 
 
 def with_locks(text: BinaryIO, names: Collection[bytes]) -> BinaryIO:
-    """The lines of an export, with a lock for these names."""
+    """Returns the lines of an export, with a lock for these names."""
     locked = memory_file()
     text.seek(0)
     for line in text:
@@ -291,7 +293,7 @@ def with_locks(text: BinaryIO, names: Collection[bytes]) -> BinaryIO:
 
 
 def answer_to_barred(request: Request, answer: bytes) -> bytes:
-    """The answer for a user whom the file bars, instead of this one."""
+    """Returns the answer for a user whom the file bars, instead of this one."""
     if request.word == b"show":
         return row_with_lock(answer)
     if answer not in (b"yes", b"no", b"expired"):

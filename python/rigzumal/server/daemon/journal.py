@@ -20,8 +20,8 @@ SELDOM = 3600.0  # seconds
 MOST_KEYS = 65536  # the most keys of logged messages to remember
 logged_at = dict[Hashable, float]()  # the times at which log_seldom logged each key
 MARKED = re.compile(rb"([!-~]+)(?: ([a-z]+))? \d{4}-\d\d-\d\dT\d\d:\d\d:\d\dZ")
-MOST_LINES = 4096  # of a journal, that wait for its disk
-UNDOES = {b"unlock": b"lock", b"renew": b"expire"}  # a mark of these ends another
+MOST_LINES = 4096  # bytes of a journal that may wait for its disk
+UNDOES = {b"unlock": b"lock", b"renew": b"expire"}  # each of these marks ends another
 
 
 class Problem(Exception):
@@ -46,12 +46,12 @@ def forget_message(key: Hashable) -> bool:
 
 
 def utc(seconds: Optional[float] = None) -> str:
-    """A time, by default the present one, in the form of RFC 3339, to the second."""
+    """Returns a time, by default the present one, in the form of RFC 3339, to the second."""
     return time.strftime("%Y-%m-%dT%H:%M:%SZ", time.gmtime(seconds))
 
 
 def notify(text: str) -> None:
-    """Sends notices to systemd, if systemd wants them."""
+    """Sends notices to systemd, if systemd wants notices."""
     if path := os.environ.get("NOTIFY_SOCKET"):
         try:
             with socket.socket(socket.AF_UNIX, socket.SOCK_DGRAM) as notices:
@@ -61,7 +61,7 @@ def notify(text: str) -> None:
 
 
 class Journal(GrowingFile):
-    """A file of lines. Lines that arrive during a write are written together in the next one."""
+    """A file of lines. The next write stores all lines that arrive during a write."""
 
     def __init__(self, path: str) -> None:
         super().__init__(path)

@@ -19,14 +19,14 @@ from .service import Service
 from .tally import metrics
 
 NEWEST_OPTION = "--tries"  # of credkeep's serve
-HASHES = 3  # of unknown names at the start: the quickest one measures a hash
-UNWATCHED_SECONDS = 30.0  # between two looks at the book, if systemd asks for no watchdog
-# After a signal to end: until a client that reads no answers is closed, until the lines that have
-# no answer are dropped, and until the book is killed.
+HASHES = 3  # logins with unknown names at the start: the fastest one measures a hash
+UNWATCHED_SECONDS = 30.0  # seconds between two looks at the book, if systemd asks for no watchdog
+# The seconds after a signal until the server closes a client that reads no answers, drops the lines
+# without an answer, and kills the book.
 UNREAD_SECONDS = 0.5
 LINES_SECONDS = 18.0
 LAST_SECONDS = 30.0
-KILLED_SECONDS = 1.0  # until a killed book is gone, unless a disk holds it up
+KILLED_SECONDS = 1.0  # seconds until a killed book is gone, unless a disk holds it up
 
 
 def main() -> int:
@@ -92,7 +92,7 @@ def log_fault(_loop: asyncio.AbstractEventLoop, context: dict[str, Any]) -> None
 
 
 async def serve_clients(service: Service) -> None:
-    """Admits clients once the book answers, and serves them until it is cancelled."""
+    """Admits clients once the book answers, and serves them until the server cancels this task."""
     await asyncio.shield(service.book.ask(b"show", b"-"))  # so that nobody cancels this answer
     await take_in(service)
     service.transfers.remove_copy()
@@ -102,7 +102,7 @@ async def serve_clients(service: Service) -> None:
     log.info("start: %s", service.options.file)
     notify("READY=1")
     logins = [service.log_in(b"verify", b"-", b"-") for _ in range(HASHES)]
-    service.timing = asyncio.gather(*logins)  # of names that no book has
+    service.timing = asyncio.gather(*logins)  # logins with names that no book has
     idle = service.options.idle or float("inf")
     beat = beat_seconds()
     while True:
@@ -123,7 +123,7 @@ async def notify_once_answered(book: Book, beat: float) -> None:
 
 
 def beat_seconds() -> float:
-    """The seconds of an interval: half of systemd's limit."""
+    """Returns the seconds of an interval: half of systemd's limit."""
     text = os.environ.get("WATCHDOG_USEC", "")
     microseconds = float(text) if text.isdecimal() else 0.0
     return microseconds / 2e6 if microseconds else UNWATCHED_SECONDS

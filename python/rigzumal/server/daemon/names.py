@@ -1,4 +1,4 @@
-"""Names: the form that a client types, and the form in the book."""
+"""Converts names from the form that a client types to the form in the book."""
 
 import base64
 import hashlib
@@ -20,7 +20,7 @@ class Names:
         self.folds_local_part = options.fold_local_part
 
     def of_book(self, name: bytes) -> bytes:
-        """The name of an account in the book; NO_NAME if the name is refused."""
+        """Returns the name of an account in the book, or NO_NAME for a refused name."""
         if not self.has_addresses:
             return name
         if OF_AN_ADDRESS.fullmatch(name):
@@ -34,8 +34,8 @@ class Names:
         return b"e." + base64.b32encode(digest)[:30].lower()
 
     def spelling(self, name: bytes) -> bytes:
-        """The canonical spelling of an address that users may type in several ways; other names
-        stay unchanged."""
+        """Returns the canonical spelling of an address that users may type in several ways; other
+        names stay unchanged."""
         local, at, domain = name.rpartition(b"@")
         if not self.has_addresses or not at:
             return name

@@ -12,22 +12,22 @@ from .journal import Marks, log, log_seldom
 from .names import Names
 from .schemes import why_unknown
 
-STILL_SECONDS = 0.1  # seconds for which a file must not change before it is read
-MOST_LOOKS = 20  # looks at a changing file until it is read all the same
+STILL_SECONDS = 0.1  # seconds for which a file must not change before the server reads it
+MOST_LOOKS = 20  # looks at a changing file before the server reads it all the same
 MOST_TOLD = 20  # names in a line of the log
-MUST_CHANGE = b"expire"  # the mark in HTPASSWD.moved of who must change before they move
+MUST_CHANGE = b"expire"  # in HTPASSWD.moved: the user must change the password before the move
 
 
 class OldFile:
-    """The file; it is read again after each change. HTPASSWD.moved lists the users who have left
-    the file, and other users who must change the password."""
+    """The file, which the server reads again after each change. HTPASSWD.moved lists the users who
+    have left the file, and other users who must change the password."""
 
     def __init__(self, path: str, names: Names) -> None:
         self.path = path
         self.names = names
         self.version: tuple[int, ...] = ()
         self.lines = dict[bytes, Line]()  # empty while the file can't be read
-        self.last_lines = self.lines  # the last ones that were read, for the users whom they bar
+        self.last_lines = self.lines  # the last lines read, for the users whom they bar
         self.reading = asyncio.Lock()
         self.moved = Marks(f"{path}.moved")
         self.moved.append(b"")
@@ -39,7 +39,7 @@ class OldFile:
         lines, stuck = dict[bytes, Line](), list[str]()
         for user, record, *others in users_in(self.path):
             name, line = self.names.of_book(user), Line(record, tuple(others))
-            if name in lines:  # of two lines with one name the first decides
+            if name in lines:  # of two lines with one name, the first decides
                 continue
             lines[name] = line
             if record and not self.has_moved(name) and (why := why_stuck(name, line)):
@@ -66,7 +66,8 @@ class OldFile:
                 self.version = ()
 
     async def line(self, name: bytes) -> Line:
-        """The file's line for a name that hasn't moved; otherwise a line without a record."""
+        """Returns the file's line for a name that hasn't moved, otherwise a line without a
+        record."""
         await self.refresh()
         return Line() if self.has_moved(name) else self.lines.get(name, Line())
 
@@ -76,7 +77,8 @@ class OldFile:
         return bool(self.last_lines.get(name, Line()).bar(today()))
 
     async def barred(self) -> set[bytes]:
-        """The names of the users whom the lines of the file bar, if a book allows these names."""
+        """Returns the names of the users whom the file's lines bar, if a book allows these
+        names."""
         await self.refresh()
         barred = {name for name, line in self.last_lines.items() if line.bar(today())}
         return {name for name in barred if NAME.fullmatch(name)}
@@ -85,8 +87,8 @@ class OldFile:
         return self.moved.has(name)
 
     async def note_moved(self, name: bytes) -> bool:
-        """Notes that the file no longer decides about a name; returns False if the note can't be
-        written."""
+        """Notes that the file no longer decides about a name. Returns False if the server can't
+        write the note."""
         return self.has_moved(name) or await self.moved.put(name)
 
     def is_expired(self, name: bytes) -> bool:
@@ -105,14 +107,14 @@ class OldFile:
 
 
 def version_of(path: str) -> tuple[int, ...]:
-    """The metadata of a file, which change with each write or replacement."""
+    """Returns the metadata of a file, which change with each write or replacement."""
     status = status_of(path)
     return status.st_ino, status.st_size, status.st_mtime_ns, status.st_ctime_ns
 
 
 def version_at_rest(path: str) -> tuple[int, ...]:
-    """The version of a file that no longer changes: htpasswd truncates the file, and then writes
-    it."""
+    """Waits until a file no longer changes, and returns its version: htpasswd truncates the file
+    before it writes."""
     version = version_of(path)
     for _ in range(MOST_LOOKS):
         time.sleep(STILL_SECONDS)
@@ -123,19 +125,19 @@ def version_at_rest(path: str) -> tuple[int, ...]:
 
 
 def users_in(path: str) -> list[list[bytes]]:
-    """The fields of each user's line in a file."""
+    """Returns the fields of each user's line in a file."""
     with open(path, "rb") as file:
         lines = [line.rstrip() for line in file if not line.startswith(b"#")]
     return [line.split(b":") for line in lines if b":" in line]
 
 
 def printable(name: bytes) -> str:
-    """A name in a form that is safe for the log."""
+    """Returns a name in a form that is safe for the log."""
     return re.sub(rb"[^!-~]", b"?", name).decode()
 
 
 def why_stuck(name: bytes, line: Line) -> str:
-    """The reason why a user can't move; empty if the user can."""
+    """Returns the reason why a user can't move, or an empty text."""
     if not NAME.fullmatch(name):
         return "not a name of a book"
     return why_unknown(line.record) or line.why_shut(today())

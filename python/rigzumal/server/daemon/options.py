@@ -16,7 +16,7 @@ from .protocol import OPERATIONS
 
 VERSION = "0.2.0"
 BOOKS, SOCKETS = pathlib.Path("/var/lib/rigzumal"), pathlib.Path("/run/rigzumal")
-MOST_AT_ONCE = 254  # of a user: credkeep takes 255
+MOST_AT_ONCE = 254  # lines of a user: credkeep accepts 255
 MOST_TRIES = 86  # of credkeep
 
 
@@ -27,7 +27,7 @@ def number(word: str, most: int) -> int:
 
 
 def option(text: str, metavar: str = "", default: object = "", most: int = 10**9 - 1) -> Any:
-    """A field of Options that the command line sets; an option without a value is a flag."""
+    """Builds a field of Options that the command line sets; an option without a value is a flag."""
     if not metavar:
         return field(default=False, metadata={"help": text, "action": "store_true"})
     text += f" ({default})" if default != "" else ""
@@ -70,13 +70,13 @@ class Options:
         """Sets a bound on the costs in a line if no option does, since a costly record would delay
         everybody."""
         costs = costs_of(self.setting or USUAL)
-        if costs:  # credkeep refuses what is no setting
+        if costs:  # credkeep refuses a text that isn't a setting
             self.most_memory = self.most_memory or size_of(TIMES * costs.memory)
             self.most_work = self.most_work or size_of(TIMES * costs.work)
 
     def workers(self) -> int:
-        """The number of lines that the book hashes at the same time: those of one user, and one
-        more for another user."""
+        """Returns the number of lines that the book hashes at the same time: those of one user, and
+        one more for another user."""
         return 1 + min(self.at_once or len(os.sched_getaffinity(0)), MOST_AT_ONCE)
 
     def book_words(self) -> list[str]:
@@ -138,7 +138,7 @@ def parser() -> Parser:
 
 
 def parse(words: Sequence[str]) -> Options:
-    """The options on a command line; raises Problem for impossible ones."""
+    """Reads the options on a command line, and raises Problem for impossible ones."""
     options = parser().parse_args(words, Options())
     if options.metrics:
         return options

@@ -12,7 +12,7 @@ from dataclasses import dataclass
 from functools import cached_property
 from typing import Optional
 
-# As what an answer to a try is counted.
+# The counters for the answers to tries.
 RIGHT, WRONG, ABSENT, NO_ACCOUNT = "yes", "no", "absent", "noaccount"
 
 
@@ -21,22 +21,22 @@ class Answer:
     """An answer without further words, such as names, after it."""
 
     meaning: str  # on pages
-    tried: str = ""  # as what a try is counted that gets it
-    changed: bool = False  # whether the book has changed; a try that is `expired` changes nothing
+    tried: str = ""  # the counter for a try with this answer
+    changed: bool = False  # whether the book has changed; after a try, `expired` changes nothing
     reply: str = ""  # the member of the clients' Reply; none if they raise an exception
     http: int = 503  # the status of a request whose password gets it
-    pam: str = "AUTHINFO_UNAVAIL"  # what pam_rigzumal says of such a password, without PAM_
+    pam: str = "AUTHINFO_UNAVAIL"  # the result of pam_rigzumal for such a password, without PAM_
     ask: int = 0  # the status of credkeep-ask
-    text: str = ""  # what a person is told who gave the new password
+    text: str = ""  # the text for the person who typed the new password
 
 
 def done(reply: str, meaning: str) -> Answer:
-    """The answer to a change that took effect."""
+    """Builds the answer to a change that took effect."""
     return Answer(meaning, changed=True, reply=reply)
 
 
 def refused(meaning: str, ask: int = 1, http: int = 503) -> Answer:
-    """The answer to a refused line."""
+    """Builds the answer to a refused line."""
     return Answer(meaning, ask=ask, http=http)
 
 
@@ -198,13 +198,13 @@ class Operation:
     """
 
     fields: str = "NAME"
-    # Of the book; not those that any line, or any try, may get, and no other texts.
+    # The book's answers, without those to any line or any try, and without other texts.
     answers: str = ""
     hashes: bool = False
     changes: bool = False
-    is_own: bool = False  # it is answered by the server, and not by the book
-    is_transfer: bool = False  # it is of the whole book, and credkeep itself does it
-    command: Optional[Command] = None  # of credkeep-ask, by the same word
+    is_own: bool = False  # the server answers, and not the book
+    is_transfer: bool = False  # a transfer of the whole book, by credkeep itself
+    command: Optional[Command] = None  # credkeep-ask's command with the same word
 
     @cached_property
     def tries(self) -> bool:
@@ -236,7 +236,7 @@ class Operation:
         return 1 + fields.index(field) if field in fields else 0
 
 
-# Answers of the server itself to a new password, before the book is asked.
+# The server's own answers to a new password, before it asks the book.
 TO_NEW_PASSWORDS = ("short",)
 LOOK = "yes expired absent noaccount"
 OPERATIONS = {

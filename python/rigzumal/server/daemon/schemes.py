@@ -9,19 +9,20 @@ from contextlib import suppress
 
 from passlib.hash import apr_md5_crypt
 
-CRYPT_DATA = 131232  # bytes of crypt_r's own in the oldest libraries, which need most
-BCRYPT, LONGEST_BCRYPT = (b"$2a$", b"$2b$", b"$2y$"), 72  # bytes: crypt ignores all behind
-# Without DES, to which the first eight letters of a password are all of it.
+CRYPT_DATA = 131232  # bytes of crypt_r's data in the oldest libraries, which need most
+BCRYPT, LONGEST_BCRYPT = (b"$2a$", b"$2b$", b"$2y$"), 72  # bytes: crypt ignores the rest
+# Without DES, which reads only the first eight letters of a password.
 CRYPT = (*BCRYPT, b"$1$", b"$5$", b"$6$", b"$7$", b"$gy$", b"$y$")
 APACHE = b"$apr1$"
 SHA1, SALTED_SHA1 = b"{SHA}", b"{SSHA}"
-crypt_r = ctypes.CDLL(ctypes.util.find_library("crypt")).crypt_r  # or musl's libc has it
+crypt_r = ctypes.CDLL(ctypes.util.find_library("crypt")).crypt_r  # or musl's libc has crypt
 crypt_r.argtypes = [ctypes.c_char_p, ctypes.c_char_p, ctypes.c_void_p]
 crypt_r.restype = ctypes.c_char_p
 
 
 def why_unknown(record: bytes) -> str:
-    """The reason why no password is right for a record; empty if some password may be right."""
+    """Returns the reason why no password is right for a record, or "" if some password may be
+    right."""
     if record.startswith((APACHE, SHA1, SALTED_SHA1, *CRYPT)):
         return ""
     if record[:1] in b"!*":
@@ -36,7 +37,7 @@ def is_right(record: bytes, password: bytes) -> bool:
     if is_cut or b"\0" in password:
         return False
     if record.startswith(APACHE):
-        with suppress(ValueError):  # a record that has no such form
+        with suppress(ValueError):  # the record doesn't have such a form
             return bool(apr_md5_crypt.verify(password, record))
     if record.startswith(CRYPT):
         data = ctypes.create_string_buffer(CRYPT_DATA)
@@ -49,7 +50,7 @@ def is_right(record: bytes, password: bytes) -> bool:
 
 
 def decoded(text: bytes) -> bytes:
-    """The bytes of a text in base64, with padding or without; none if the text isn't base64."""
+    """Returns the bytes of a base64 text, with padding or without, or none for any other text."""
     with suppress(ValueError):
         return base64.b64decode(text + b"=" * (-len(text) % 4), validate=True)
     return b""

@@ -31,10 +31,10 @@ SHORT = b"short"
 # The answers to `known`, by the beginning of a row.
 KNOWN = {b"$": b"yes", LOCKED: b"absent", MUST_CHANGE: b"expired"}
 KNOWN |= {NO_RECORD: b"absent", NO_ACCOUNT: b"noaccount"}
-TURNS = 8  # places for lines that are taken in a pass of the loop
+TURNS = 8  # places for lines in a pass of the event loop
 LOOKS, CHANGES = 16, 128  # places for lines that change nothing, and for quick changes
-SYNC_SECONDS = 0.01  # about how long a change waits for the disk
-REFUSALS = (b"noaccount", b"bad ", LATER)  # change nothing; a name may be a password
+SYNC_SECONDS = 0.01  # seconds that a change waits for the disk, about
+REFUSALS = (b"noaccount", b"bad ", LATER)  # these change nothing; a name may be a password
 MOST_LOGINS_TIMED = 16
 
 
@@ -87,22 +87,22 @@ class Service:
         self.tasks = set[asyncio.Task[None]]()  # a task for each request
         self.audit = AuditLog(options.audit)
         if options.audit:
-            self.audit.append(b"")  # opened now, so that the start fails if it can't be written
+            self.audit.append(b"")  # opens it now, so that a fault ends the start
         self.upgrading = asyncio.Lock()
         self.transfers = Transfers(self)
-        self.answer = self.ask  # or an old file's, where the book lacks the name
+        self.answer = self.ask  # or an old file's, if the book lacks the name
         self.foreign: Optional["Foreign"] = None
         if options.foreign:
-            from .foreign import Foreign  # which needs passlib
+            from .foreign import Foreign  # this needs passlib
 
             self.foreign = Foreign(self, options.foreign)
             self.answer = self.foreign.answer
 
-    # ---- a request comes
+    # ---- a request arrives
 
     def submit(self, client: Client, tag: bytes, words: list[bytes]) -> bytes:
-        """Begins to process a request, or returns an answer of the server itself."""
-        while len(words) < 2:  # an operation, and one field at least
+        """Begins to process a request, or returns the server's own answer."""
+        while len(words) < 2:  # an operation, and at least one field
             words.append(b"")
         if what := why_denied(client.door, words):
             self.tell_denied(client, what)
@@ -118,7 +118,7 @@ class Service:
         return b""
 
     def begin(self, answering: Coroutine[Any, Any, None]) -> None:
-        """Begins a task; the server exits only after the task has ended."""
+        """Begins a task, after whose end alone the server exits."""
         task = asyncio.ensure_future(answering)
         self.tasks.add(task)
         task.add_done_callback(self.tasks.discard)
@@ -129,13 +129,13 @@ class Service:
         log_seldom(values, "denied at %s to uid %d: %s", *values)
 
     def with_names_of_book(self, words: list[bytes]) -> list[bytes]:
-        """The words of a request, with names in the book's form."""
+        """Returns the words of a request, with names in the book's form."""
         word, *fields = words
         count = OPERATIONS[word].names
         return [word, *map(self.names.of_book, fields[:count]), *fields[count:]]
 
     def own_answer(self, words: list[bytes]) -> bytes:
-        """The server's own answer to a request that the book needn't answer, or nothing."""
+        """Returns the server's own answer to a request that the book needn't answer, or nothing."""
         operation = OPERATIONS[words[0]]
         if len(b" ".join(words)) + 1 > LONGEST:  # with names that became longer
             return LONG
@@ -146,8 +146,8 @@ class Service:
         return b""
 
     def answer_to_new_password(self, field: bytes) -> bytes:
-        """The answer to a refused new password; empty for any other password, and for a field that
-        isn't a password."""
+        """Returns the answer to a refused new password, or nothing for any other password, and for
+        a field that isn't a password."""
         password = password_of(field)
         if password is None:  # which the book refuses
             return b""
@@ -155,29 +155,30 @@ class Service:
         return SHORT if length < self.options.least_length else b""
 
     def places_for(self, operation: Operation) -> Places:
-        """The queue of a request: for a hash, for the disk, or none."""
+        """Returns the queue of a request: for a hash, for the disk, or none."""
         is_quick = operation.changes and self.hash_seconds <= SYNC_SECONDS
         if operation.hashes and not is_quick:
             return self.hashes
         return self.changes if operation.changes else self.looks
 
-    # ---- it is answered
+    # ---- the server answers the request
 
     async def process(self, request: Request) -> None:
-        """Answers a request, and records the answer in the audit log. A change is recorded before
-        the client gets the answer, and a login afterwards, so that a slow disk delays no login."""
+        """Answers a request, and records the answer in the audit log. The server records a change
+        before the client gets the answer, and a login afterwards, so that a slow disk delays no
+        login."""
         client, operation = request.client, request.operation
         answer = await self.answer_in_turn(request)
         if seconds := seconds_to_wait(answer):
             answer = LATER
-        # Not the record that a `disable` shows.
+        # Without the record that a `disable` shows.
         noted = b"disabled" if operation.changes and b":" in answer else answer
         self.tally.count(operation, request.name, noted.decode(), seconds)
         if seconds:
-            # After the time of a hash: the answer to a name that the book lacks takes as long.
+            # `later` takes the time of a hash, as does the answer to a name that the book lacks.
             await asyncio.sleep(random.choice(self.login_seconds or [self.hash_seconds]))
         if operation.changes and not await self.note(request, noted):
-            answer = UNAVAILABLE  # no answer reports a change that isn't noted
+            answer = UNAVAILABLE  # no answer reports a change that the audit log lacks
         await client.reply(request.tag, answer, seconds)
         client.running -= 1
         client.answered.set()
@@ -187,7 +188,7 @@ class Service:
             await self.upgrade(request)
 
     async def answer_in_turn(self, request: Request) -> bytes:
-        """The answer to a request, once it has a place; nothing if the request changes nothing and
+        """Answers a request once it has a place. Returns nothing if the request changes nothing and
         its client has ended by then."""
         client, came = request.client, time.monotonic()
         async with client.queues[request.places]:  # one of its requests waits at a time
@@ -201,7 +202,7 @@ class Service:
             request.places.release(client.user)
 
     async def answer_if_room(self, request: Request) -> bytes:
-        """The answer to a request. The server doesn't try a change if the disks have no room, or if
+        """Answers a request. The server doesn't try a change if the disks have no room, or if
         so many lines wait for the audit log that the server can't record the change."""
         if request.operation.changes and self.audit.is_full():
             return UNAVAILABLE
@@ -211,17 +212,17 @@ class Service:
 
     def has_room(self) -> bool:
         """Whether the disks have room for a change: without room, a change would end the book, or
-        be stored without a record in the log."""
+        lack a record in the log."""
         full = [path for path, folder in self.folders.items() if not has_room(folder)]
         for path in full:
             text = "%s: its disk has less than %d KiB left, so the server refuses changes"
             log_seldom(("disk", path), text, path, NEEDED // 1024)
         return not full
 
-    # ---- the book is asked
+    # ---- the server asks the book
 
     async def ask(self, request: Request) -> bytes:
-        """The book's answer to a request."""
+        """Returns the book's answer to a request."""
         word, *fields = request.words
         if word in (b"known", b"show") and len(fields) == 1:
             row = await self.book.row(*fields)
@@ -235,8 +236,8 @@ class Service:
         return await self.book.ask(*request.words)
 
     async def log_in(self, *words: bytes) -> bytes:
-        """The answer to a login. The fastest login with a name that the book lacks measures the
-        time of a hash at the costs of new records."""
+        """Returns the answer to a login. The fastest login with a name that the book lacks measures
+        the time of a hash at the costs of new records."""
         began = time.monotonic()
         self.logins += 1
         answer = await self.book.ask(*words)
@@ -251,8 +252,8 @@ class Service:
         return answer
 
     async def ask_besides(self, request: Request, *words: bytes) -> bytes:
-        """The book's answer to an additional line of a request; the audit log gets that line
-        too."""
+        """Sends the book an additional line of a request, and returns the answer; the audit log
+        gets that line too."""
         answer = await self.book.ask(*words)
         await self.note(replace(request, words=list(words)), answer)
         return answer
@@ -279,7 +280,7 @@ class Service:
     # ---- the audit log
 
     async def note(self, request: Request, answer: bytes) -> bool:
-        """Adds an answered change, or a right password, to the audit log; returns False if that
+        """Adds an answered change, or a right password, to the audit log. Returns False if that
         fails."""
         if not self.audit.path or not self.is_noted(request, answer):
             return True
@@ -306,7 +307,8 @@ class Service:
 
 
 def answer_to_known(row: bytes) -> bytes:
-    """The answer to `known`, from an account's row; the row itself if it is a refusal."""
+    """Returns the answer to `known`, from an account's row, or the row itself if it is a
+    refusal."""
     for begin, answer in KNOWN.items():
         if row.startswith(begin):
             return answer
@@ -314,14 +316,14 @@ def answer_to_known(row: bytes) -> bytes:
 
 
 def why_denied(door: Door, words: list[bytes]) -> str:
-    """The part of a request that its socket doesn't allow, in words for the log; empty if
-    everything is allowed."""
+    """Returns the part of a request that its socket doesn't allow, in words for the log, or an
+    empty text."""
     word = words[0]
     if word not in OPERATIONS:
         return "an unknown operation"
     if word not in door.operations:
         return word.decode()
     is_setting_given = 0 < OPERATIONS[word].setting < len(words)
-    if is_setting_given and b"load" not in door.operations:  # costs are an administrator's
+    if is_setting_given and b"load" not in door.operations:  # only administrators may set costs
         return f"{word.decode()} with a setting"
     return ""

@@ -15,7 +15,7 @@ from .options import Options, folder_of
 from .protocol import ANSWERS, NO_ANSWER, RIGHT, Operation
 
 Note = TypeVar("Note")
-EXPIRED = "expired"  # the answer to `expire`, and to a right password that must be changed
+EXPIRED = "expired"  # the answer to `expire`, and to a right password that the user must change
 FORGIVEN = "forgiven"
 REMEMBERED = 65536  # names
 MOST_SHOWN, LONGEST_STATS = 1000, 4096  # names in an answer, letters of one
@@ -31,8 +31,8 @@ class Metric:
     counts: tuple[str, ...]
 
     def lines(self, counted: dict[str, str]) -> Iterator[str]:
-        """The metric in Prometheus' text format: if it has several samples, each one has its answer
-        as a label."""
+        """Yields the metric in Prometheus' text format: if it has several samples, each one has its
+        answer as a label."""
         kind = "counter" if self.name.endswith("_total") else "gauge"
         yield f"# HELP credkeep_{self.name} {self.text}"
         yield f"# TYPE credkeep_{self.name} {kind}"
@@ -66,7 +66,7 @@ class Wait:
     told: float
 
     def rest(self) -> int:
-        """The remaining seconds."""
+        """Returns the remaining seconds."""
         return max(0, math.ceil(self.seconds - (time.monotonic() - self.told)))
 
 
@@ -82,11 +82,11 @@ class Tally:
     """Counts the answers of a server since its start."""
 
     def __init__(self, options: Options) -> None:
-        self.tries = options.tries  # tries that may fail until the next has to wait
+        self.tries = options.tries  # tries that may fail before the next one must wait
         self.book, self.doors = folder_of(options.file).name, options.doors
         self.counts, self.waited = Counter[str](), 0.0
         self.logins = OrderedDict[str, float]()
-        self.early = OrderedDict[str, Wait]()  # the last wait of each name that a try was answered
+        self.early = OrderedDict[str, Wait]()  # the wait in the last answer to each name
 
     def count(self, kind: Operation, name: str, answer: str, seconds: int = 0) -> None:
         """Counts an answer to a request for a name, with the seconds of its wait, and logs the
@@ -110,7 +110,7 @@ class Tally:
                 self.end_wait(name, "a new password")
         elif tried := meaning.tried:
             self.counts[tried] += 1
-            self.early.pop(name, None)  # a password is judged once no wait is left
+            self.early.pop(name, None)  # the book checks a password only if no wait is left
             if tried == RIGHT:
                 self.end_wait(name, "a right password")
                 remember(self.logins, name, time.time())
@@ -132,8 +132,8 @@ class Tally:
             log.info("%d names no longer have to wait: the book's process is new", len(ended))
 
     def waits(self) -> list[str]:
-        """The names whose wait isn't over, each as NAME:SECONDS with the remaining seconds: a try
-        at that name was too early, and no login or `forgive` has ended the wait."""
+        """Returns the names whose wait isn't over, each as NAME:SECONDS with the remaining seconds:
+        a try at that name was too early, and no login or `forgive` has ended the wait."""
         early = self.early.items()
         return [f"{name}:{rest}" for name, wait in early if (rest := wait.rest())]
 
@@ -145,7 +145,7 @@ class Tally:
         return " ".join(["stats", *(f"{it}={now.get(it, 0)}" for it in COUNTED)])
 
     def answer(self, operation: bytes, name: str) -> str:
-        """The server's own answers; `last` is the time of a right password."""
+        """Returns the server's own answers; `last` is the time of a right password."""
         if operation == b"waits":
             waits = self.waits()
             more = [f"more={len(waits) - MOST_SHOWN}"] if len(waits) > MOST_SHOWN else []
@@ -156,7 +156,7 @@ class Tally:
 
 
 def metrics(path: str) -> str:
-    """The counts of the server at an admin socket, in Prometheus' text format."""
+    """Returns the counts of the server at an admin socket, in Prometheus' text format."""
     try:
         with socket.socket(socket.AF_UNIX) as it:
             it.settimeout(10)

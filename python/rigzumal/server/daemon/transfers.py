@@ -26,9 +26,10 @@ from .protocol import IMPORT_OPTIONS, LONGEST_TEXT, ONLY_TRIED
 if TYPE_CHECKING:
     from .service import Request, Service
 
-LONGEST_FAULTS = 1 << 20  # kept bytes of credkeep's standard error
-PIECE = 65536  # bytes that are read or sent at a time
-# The room that an import may need, times its text: the file grows, and its log before.
+LONGEST_FAULTS = 1 << 20  # bytes to keep of credkeep's standard error
+PIECE = 65536  # bytes to read or send at a time
+# An import may need the size of its text this many times: first SQLite's log grows, and then the
+# file.
 ROOM_FOR_TEXT = 4
 BUSY = b"bad 14 busy"
 DATABASE_FAILED = 5  # a status of credkeep
@@ -37,7 +38,7 @@ KILLED_FIRST = "1000"  # of proc(5), oom_score_adj
 
 
 def memory_file() -> BinaryIO:
-    """A file in memory, without a name, so that no hanging disk can block it."""
+    """Creates a file in memory, without a name, so that no hanging disk can block it."""
     return open(os.memfd_create("credkeep-server"), "w+b")
 
 
@@ -56,7 +57,8 @@ class Result:
     faults: bytes = b""
 
     def answer(self, tag: bytes) -> Iterator[bytes]:
-        """The answer, in pieces: a line with the sizes of both texts, followed by the texts."""
+        """Yields the answer in pieces: a line with the sizes of both texts, followed by the
+        texts."""
         left = self.output.seek(0, os.SEEK_END)
         yield b"%b ended %d %d %d\n" % (tag, self.status, left, len(self.faults))
         self.output.seek(0)
@@ -66,7 +68,7 @@ class Result:
         yield self.faults
 
     def first_line(self) -> bytes:
-        """The first line of the output, such as the counts of an import."""
+        """Returns the first line of the output, such as the counts of an import."""
         self.output.seek(0)
         return self.output.readline(PIECE).rstrip(b"\n")
 
@@ -94,11 +96,11 @@ class Transfers:
         self.service = service
         self.file = service.options.file
         self.copy = f"{self.file}-transfer"
-        self.has_import = False  # an import whose text arrives, or that waits or runs
+        self.has_import = False  # an import whose text is arriving, or that waits or runs
         self.one_at_a_time = asyncio.Lock()
         self.running: Optional[asyncio.subprocess.Process] = None
 
-    # ---- what a client asks for
+    # ---- a client's request
 
     def submit(self, request: Request) -> bytes:
         """Begins a request, or returns its answer."""
@@ -149,7 +151,7 @@ class Transfers:
         request.client.running += 1
         self.service.begin(self.process(request, text))
 
-    # ---- it is done
+    # ---- the work
 
     async def process(self, request: Request, text: Optional[BinaryIO]) -> None:
         """Runs and answers a request. A fault fails only this request, and never the service."""
@@ -159,7 +161,7 @@ class Transfers:
             if await self.is_noted(request, result):
                 await client.write(result.answer(request.tag))
             else:
-                await client.reply(request.tag, UNAVAILABLE)  # no answer reports what isn't noted
+                await client.reply(request.tag, UNAVAILABLE)  # no answer reports what the log lacks
         except Exception as fault:
             log.error("%s: a fault: %s", request.word.decode(), type(fault).__name__)
             await client.reply(request.tag, UNAVAILABLE)
@@ -168,14 +170,14 @@ class Transfers:
             client.answered.set()
 
     async def is_noted(self, request: Request, result: Result) -> bool:
-        """Records a request in the audit log; returns False if that fails."""
+        """Records a request in the audit log. Returns False if that fails."""
         if result.status or is_only_tried(request):
             return True
         is_import = request.word == b"import"
         return await self.service.note(request, result.first_line() if is_import else b"ok")
 
     async def result(self, request: Request, text: Optional[BinaryIO]) -> Result:
-        """The result of a request, which runs when no other credkeep runs."""
+        """Runs a request when no other credkeep runs, and returns the result."""
         try:
             async with self.one_at_a_time:
                 if self.service.book.has_ended():
@@ -223,7 +225,7 @@ class Transfers:
             self.remove_copy()
 
     async def export_copy(self) -> Result:
-        """The lines of the copy, with a lock for users whom an old file bars."""
+        """Returns the lines of the copy, with a lock for users whom an old file bars."""
         result = await self.run(self.copy, "export")
         if self.service.foreign:
             result.output = await self.service.foreign.with_locks(result.output)
@@ -242,8 +244,8 @@ class Transfers:
     # ---- credkeep
 
     def import_words(self, request: Request) -> list[str]:
-        """The arguments of credkeep's import, with the bounds on a record's costs that lines
-        have."""
+        """Returns the arguments of credkeep's import, with the bounds on a record's costs in
+        lines."""
         options = self.service.options
         words = ["import", *(option.decode() for option in request.words[2:])]
         if options.most_memory:
@@ -253,13 +255,13 @@ class Transfers:
         return words
 
     async def with_names_of_book(self, text: Optional[BinaryIO]) -> Optional[BinaryIO]:
-        """The text of an import, with its addresses in the book's form."""
+        """Returns the text of an import, with its addresses in the book's form."""
         if text is None or not self.service.options.mail_names:
             return text
         return await asyncio.to_thread(with_names_of_book, text, self.service.names)
 
     async def run(self, file: str, *words: str, text: Optional[BinaryIO] = None) -> Result:
-        """The result of a run of credkeep with this text as its input."""
+        """Runs credkeep with this text as its input, and returns the result."""
         options, result = self.service.options, Result()
         if text is not None:
             text.seek(0)
@@ -299,7 +301,7 @@ def have_killed_first(pid: int) -> None:
 
 
 async def beginning_of(stream: asyncio.StreamReader) -> bytes:
-    """The whole lines at the beginning of a stream, which is read to its end."""
+    """Reads a stream to its end, and returns the whole lines at its beginning."""
     text, left_out = b"", 0
     while more := await stream.read(PIECE):
         if len(text) < LONGEST_FAULTS:
@@ -314,7 +316,8 @@ async def beginning_of(stream: asyncio.StreamReader) -> bytes:
 
 
 def with_names_of_book(text: BinaryIO, names: Names) -> BinaryIO:
-    """The lines of an import, with the addresses before their first colons in the book's form."""
+    """Returns the lines of an import, with the addresses before their first colons in the book's
+    form."""
     written = memory_file()
     text.seek(0)
     for line in text:

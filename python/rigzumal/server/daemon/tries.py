@@ -18,23 +18,23 @@ class Failed:
     """The number of consecutive failures."""
 
     count: int
-    last: float  # the moment of the last one
+    last: float  # the moment of the last failure
 
 
 class Tries:
     """The limits on tries for each of these users."""
 
     def __init__(self, limit: int) -> None:
-        self.limit = limit or math.inf  # failed tries until the next has to wait
+        self.limit = limit or math.inf  # failed tries before the next one must wait
         self.failed = dict[bytes, Failed]()
 
     def count(self, name: bytes) -> int:
-        """The number of consecutive failures, which a day without a failure resets."""
+        """Returns the number of consecutive failures, which a day without a failure resets."""
         failed = self.failed.get(name)
         return failed.count if failed and time.monotonic() < failed.last + FORGOTTEN else 0
 
     def rest(self, name: bytes) -> int:
-        """The remaining seconds before the next try."""
+        """Returns the remaining seconds before the next try."""
         count = self.count(name)
         if count < self.limit:
             return 0

@@ -19,12 +19,12 @@ METHODS = (b"GET", b"HEAD")
 LONGEST_HEAD = 8192  # bytes
 BASIC = re.compile(rb"basic +([A-Za-z0-9+/]+={0,2})", re.I)
 NAME = re.compile(rb"[!-~\x80-\xff]+")
-TAG = b"1"  # of each request: the server answers one at a time
+TAG = b"1"  # the tag of each request: the server answers one at a time
 
 
 def credentials(headers: Sequence[tuple[bytes, bytes]]) -> Optional[tuple[bytes, bytes]]:
-    """The name in a request's only Authorization header (RFC 7617), and the password in the form of
-    a line's field."""
+    """Returns the name in a request's only Authorization header (RFC 7617), and the password in the
+    form of a line's field."""
     values = [value for name, value in headers if name == b"authorization"]
     found = BASIC.fullmatch(values[0]) if len(values) == 1 else None
     if found is None:
@@ -40,8 +40,8 @@ def credentials(headers: Sequence[tuple[bytes, bytes]]) -> Optional[tuple[bytes,
 
 
 def status_of_framing(request: Any) -> int:
-    """The status for a request that servers may read in two ways; 0 for any other request. RFC
-    9112, 6.1."""
+    """Returns the status for a request that servers may read in two ways (RFC 9112, section 6.1),
+    or 0 for any other request."""
     if request.http_version not in VERSIONS:
         return 505
     names = {name for name, _ in request.headers}

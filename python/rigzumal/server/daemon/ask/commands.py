@@ -17,8 +17,8 @@ from .server import Server
 from .terminal import end, end_in_order, read_passwords, write_answer
 
 LONGEST_PASSWORD = 256  # bytes
-LONGEST_NAME = 254  # bytes: it may be an address
-# The commands, by their words: those of operations, and two that ask for more than one.
+LONGEST_NAME = 254  # bytes: a name may be an address
+# The commands, by their words: those of operations, and two that run more than one operation.
 COMMANDS = {
     "add": Command("NAME", "add an account, or its first record; asks for the password twice"),
     "check": Command("NAME", "ask for the password, and say whether it is right"),
@@ -29,7 +29,7 @@ COMMANDS |= {
     if operation.command is not None
 }
 OPTIONS = {"show": ("--record",), "import": IMPORT_OPTIONS}
-# The marks of an account in an answer, and how they are told.
+# The marks of an account in an answer, and the words for them.
 MARKS = {"~": "expired", "!": "locked"}
 # Answers to `check` that let nobody in; from other commands the same words mean success.
 NO_LOGIN = ("expired", "locked")
@@ -37,7 +37,7 @@ LISTS = ("list", "marks", "stats", "waits")  # commands whose answers are names,
 
 
 class Commands:
-    """The commands for a server, one method for each: it prints the answer, and returns the
+    """The commands for a server, one method for each, which prints the answer and returns the
     status."""
 
     def __init__(self, server: Server) -> None:
@@ -59,7 +59,7 @@ class Commands:
         return ANSWERS[said].ask if said in ANSWERS else 0
 
     def answer(self, command: str, names: list[str], is_whole: bool) -> str:
-        """The output of a command."""
+        """Returns the output of a command."""
         if command == "add":
             return self.add(names[0])
         if command in ("check", "reset"):
@@ -86,7 +86,7 @@ class Commands:
             return said
         try:
             return self.server.ask("enrol", name, field)
-        except SystemExit:  # a refused password leaves no account behind
+        except SystemExit:  # after a refused password, no account remains
             if known == "noaccount":
                 self.server.send("delete", name)
             raise
@@ -106,8 +106,8 @@ class Commands:
         return "!" in marks_of(self.server.send("show", name))
 
     def items(self, command: str) -> str:
-        """Prints a line for each item of an answer, and the number of omitted items on standard
-        error."""
+        """Returns a line for each item of an answer, and prints the number of omitted items on
+        standard error."""
         items = self.server.ask(command).split()[1:]
         if items and items[-1].startswith("more="):
             more = items.pop().removeprefix("more=")
@@ -115,7 +115,7 @@ class Commands:
         return "\n".join(items)
 
     def marks(self, names: list[str]) -> str:
-        """Prints the marks of all names, or of one name, one mark on each line."""
+        """Returns the marks of all names, or of one name, one mark on each line."""
         if not names:
             found = self.server.pages("marks")
         else:
@@ -127,7 +127,7 @@ class Commands:
         return "\n".join(f"{name}:{MARKS[mark]}" for name, mark in told)
 
     def show(self, name: str, is_whole: bool) -> str:
-        """Prints the marks, followed by the costs of a record or by the whole record."""
+        """Returns the marks, followed by the costs of a record or by the whole record."""
         said = self.server.ask("show", name)
         marks = marks_of(said)
         if said in ("none", marks):
@@ -171,7 +171,7 @@ class Commands:
 
 
 def marks_of(said: str) -> str:
-    """The marks before a record, in the answer to `show`."""
+    """Returns the marks before a record, in the answer to `show`."""
     return said[: len(said) - len(said.lstrip("!~"))]
 
 
@@ -185,7 +185,7 @@ def is_name(word: str) -> bool:
 
 
 def field_of(password: bytes) -> str:
-    """A password as a field of a line."""
+    """Returns a password as a field of a line."""
     if not password:
         end(6, "the password is empty")
     if len(password) > LONGEST_PASSWORD:

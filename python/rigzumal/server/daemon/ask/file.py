@@ -12,7 +12,7 @@ from typing import NoReturn, Optional
 from .terminal import NEW, PRESENT, end, read_passwords
 
 PROGRAM = os.environ.get("CREDKEEP", "credkeep")
-VALUED = ("--wait", "--setting")  # options that have a value behind them
+VALUED = ("--wait", "--setting")  # options that a value follows
 
 
 @dataclass(frozen=True)
@@ -59,7 +59,7 @@ def tell_left_out(file: str) -> None:
 def ask_credkeep(words: list[str]) -> int:
     """Runs credkeep with these arguments, and returns its status.
 
-    The call looks for the account before it asks for passwords. If no password would help, it
+    The call looks for the account before it asks for passwords. If no password would help, the call
     prints credkeep's answer at once.
     """
     meant = meaning_of(words)
@@ -75,7 +75,8 @@ def ask_credkeep(words: list[str]) -> int:
 
 
 def status_without_asking(meant: Words) -> Optional[int]:
-    """Prints credkeep's answer and returns its status if no password would help; otherwise None."""
+    """Prints credkeep's answer and returns its status if no password would help. Otherwise returns
+    None."""
     show = [PROGRAM, "--wait", meant.wait, meant.file, "show", meant.account]
     try:
         shown = subprocess.run(show, stdin=subprocess.DEVNULL, stdout=subprocess.PIPE)

@@ -24,13 +24,13 @@ HELP = frozenset({"-h", "--help"})
 
 
 def usage() -> str:
-    """The help text, with a line for each command for a server."""
+    """Returns the help text, with a line for each command for a server."""
     commands = [(f"{word} {command.words}", command.text) for word, command in COMMANDS.items()]
     return HEAD + "\n".join(f"  {words:{WIDTH}}{text}" for words, text in commands)
 
 
 def how_many(counts: range) -> str:
-    """The number of arguments of a command, spelled out."""
+    """Spells out the number of arguments of a command."""
     if len(counts) > 1:
         return "a name or none"
     if counts.start == 0:
@@ -39,7 +39,8 @@ def how_many(counts: range) -> str:
 
 
 def path_of(book: str) -> str:
-    """An administrator's socket: its path, or the name of its book."""
+    """Returns the path of an administrator's socket, from that path or from the name of its
+    book."""
     return book if "/" in book else f"/run/rigzumal/{book}/admin.sock"
 
 

@@ -11,11 +11,11 @@ from ..protocol import ANSWERS
 
 from .terminal import end, end_unwritten
 
-SECONDS = 60.0  # seconds until a line is answered
+SECONDS = 60.0  # seconds to wait for the answer to a line
 AT_ONCE = 1000  # names of a page
-PIECE = 65536  # bytes of a book that are written at a time
+PIECE = 65536  # bytes of a book to write at a time
 TAG = "1"
-# Refusals of which an administrator's command prints the word alone.
+# Refusals for which an administrator's command prints only the word.
 PLAIN = ("bad 1 exists", "bad 5 noaccount")
 
 
@@ -35,13 +35,13 @@ class Server:
         self.answers = self.socket.makefile("rb")
 
     def send(self, *words: str) -> str:
-        """The answer to a line, even if it is a refusal."""
+        """Sends a line, and returns the answer, even if the answer is a refusal."""
         with suppress(OSError):  # a server that has ended answers nothing
             self.socket.sendall(f"{TAG} {' '.join(words)}\n".encode())
         return self.answer()
 
     def answer(self) -> str:
-        """The next answer."""
+        """Returns the next answer."""
         line = b""
         with suppress(OSError):
             line = self.answers.readline()
@@ -52,7 +52,7 @@ class Server:
         return said
 
     def ask(self, *words: str) -> str:
-        """The answer to a line that must not be refused."""
+        """Sends a line, and returns the answer; a refusal ends the program."""
         said = self.send(*words)
         if said in PLAIN:
             return said.split(" ")[2]
@@ -67,7 +67,7 @@ class Server:
         return said
 
     def pages(self, operation: str) -> dict[str, str]:
-        """All names of a list, with their marks: each page begins with the last name of the
+        """Returns all names of a list, with their marks: each page begins with the last name of the
         previous one."""
         found, first = dict[str, str](), "-"
         while True:
@@ -81,7 +81,7 @@ class Server:
     # ---- whole books, which credkeep reads and writes beside the server
 
     def run(self, operation: str, output: BinaryIO) -> int:
-        """Requests an operation of credkeep, whose output goes to standard output. Returns its
+        """Requests an operation of credkeep, copies its output to standard output, and returns its
         status."""
         self.socket.settimeout(None)  # a large book takes long
         return self.copy_result(self.ask(operation), output)
@@ -118,7 +118,7 @@ class Server:
             end_unwritten()
 
     def piece(self, most: int) -> bytes:
-        """Some bytes from the server."""
+        """Returns some bytes from the server."""
         piece = b""
         with suppress(OSError):
             piece = self.answers.read(most)
@@ -128,5 +128,5 @@ class Server:
 
 
 def as_said_here(text: str) -> str:
-    """A sentence, preceded by the program's name."""
+    """Returns a sentence, preceded by the program's name."""
     return text[0].lower() + text[1:].rstrip(".")

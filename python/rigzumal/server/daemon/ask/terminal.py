@@ -31,14 +31,14 @@ def end_by(number: int, _: object) -> NoReturn:
 
 
 def end_in_order() -> None:
-    """Makes a signal from now on run the program's last steps before its end."""
+    """Makes each later signal run the program's last steps before the end."""
     for number in SIGNALS:
         signal.signal(number, end_by)
 
 
 @contextmanager
 def unseen() -> Iterator[int]:
-    """The terminal without echo; the echo is restored however the block ends."""
+    """Opens the terminal without echo, and restores the echo however the block ends."""
     end_in_order()
     try:
         terminal = os.open("/dev/tty", os.O_RDWR | os.O_NOCTTY)
@@ -56,7 +56,7 @@ def unseen() -> Iterator[int]:
 
 
 def read_line(terminal: int, prompt: str) -> bytes:
-    """The line that the user types, without its newline."""
+    """Reads the line that the user types, without its newline."""
     os.write(terminal, prompt.encode())
     line = b""
     while not line.endswith(b"\n"):
@@ -70,7 +70,7 @@ def read_line(terminal: int, prompt: str) -> bytes:
 
 
 def read_passwords(command: str) -> list[bytes]:
-    """The passwords that a command reads, the present one first."""
+    """Reads the passwords for a command, the present one first."""
     passwords = list[bytes]()
     with unseen() as terminal:
         if command in PRESENT:
@@ -88,7 +88,7 @@ def write_answer(said: str) -> None:
         return
     try:
         print(said, flush=True)
-    except OSError:  # a pipe's reader has gone, or a disk is full: what is done is done
+    except OSError:  # a pipe's reader has gone, or a disk is full: the operation stays done
         end_unwritten()
 
 
