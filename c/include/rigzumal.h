@@ -196,8 +196,7 @@ int rigzumal_record_with_secret(char *text, size_t text_size, size_t tag_size, c
 int rigzumal_check_with_secret(const char *record, const void *password, size_t password_size,
                                const void *secret, size_t secret_size) RIGZUMAL_CHECK_ANSWER;
 
-/* The fault of a text as a record, or as costs with a salt after them: OK, or SHAPE to TOO_LONG.
- */
+/* Returns the fault of a text as a record, or as costs with a salt: OK, or SHAPE to TOO_LONG. */
 int rigzumal_record_fault(const char *record) RIGZUMAL_CHECK_ANSWER;
 int rigzumal_setting_fault(const char *setting) RIGZUMAL_CHECK_ANSWER;
 
@@ -302,7 +301,7 @@ int rigzumal_argon2(void *tag, size_t tag_size, const struct rigzumal_argon2 *nu
                     size_t associated_size) RIGZUMAL_CHECK_ANSWER;
 
 /* Writes a record of these parts into text, as rigzumal_record does, without a hash.
- * Faults: NULL_SALT; NO_KIND, NO_VERSION; RANGE to TAG, which a null tag is; MEMORY; NO_ROOM. */
+ * Faults: NULL_SALT; NO_KIND, NO_VERSION; RANGE to TAG, also for a null tag; MEMORY; NO_ROOM. */
 int rigzumal_argon2_write(char *text, size_t text_size, const struct rigzumal_argon2 *numbers,
                           const void *salt, size_t salt_size, const void *tag,
                           size_t tag_size) RIGZUMAL_CHECK_ANSWER;
@@ -330,9 +329,9 @@ int rigzumal_scrypt(void *key, size_t key_size, const struct rigzumal_scrypt *nu
  *
  * Use threads to speed up one login on an idle machine. On four processors, a tag with 64 MiB,
  * three passes and four lanes took 64 ms on one thread and 23 ms on four (bench/RESULTS.md). A
- * service that has as many logins at once as processors gains nothing: four callers computed a tag
- * every 22 ms with one thread each, and every 23 ms with four; with 19 MiB and two passes, every 3
- * and 4 ms. */
+ * service that has as many logins at once as processors gains nothing. Four callers computed a tag
+ * every 22 ms with one thread each, and every 23 ms with four. With 19 MiB and two passes, these
+ * times were 3 and 4 ms. */
 int rigzumal_argon2_threads(void *tag, size_t tag_size, const struct rigzumal_argon2 *numbers,
                             const void *password, size_t password_size, const void *salt,
                             size_t salt_size, const void *secret, size_t secret_size,

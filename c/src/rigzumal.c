@@ -79,7 +79,7 @@ int rigzumal_argon2_write(char *text, size_t text_size, const struct rigzumal_ar
     if (fault != RIGZUMAL_OK)
         return fault;
     if (tag == NULL)
-        tag_size = 0; /* so it is a fault */
+        tag_size = 0; /* which is a fault */
     size_t written = 0;
     uint8_t answer = CALL(cred_write, numbers, BYTES(salt, salt_size), BYTES(tag, tag_size),
                           ROOM(text, text_size), &written);

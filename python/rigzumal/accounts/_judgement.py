@@ -181,7 +181,7 @@ class Judge:
         if copy is None:
             return self._stepped(request, copy)
         if request.kind is Kind.ENROL:
-            # Whatever the record's text: an enrolment doesn't read the text, and a step would.
+            # This holds for any record: an enrolment doesn't read its text, but a step would.
             return Reply.EXISTS, copy
         try:
             return self._at_record(request, copy)

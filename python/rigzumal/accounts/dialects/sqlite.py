@@ -18,7 +18,7 @@ from rigzumal.accounts.dialects._faults import warning
 _BUSY: Final = (5, 6)  # SQLITE_BUSY, SQLITE_LOCKED
 _FULL: Final = (13,)  # SQLITE_FULL
 _LOOKED_AT: Final = 1000  # rows in which to look for records that aren't text
-_NEEDED: Final = 8 << 20  # bytes: the log grows to 1,000 pages of 4 KiB, and then the file
+_NEEDED: Final = 8 << 20  # bytes: first the log grows, to 1,000 pages of 4 KiB, and then the file
 
 
 class Sqlite(Dialect):
