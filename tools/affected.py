@@ -48,6 +48,7 @@ READERS: Mapping[str, Collection[str]] = {
     "README.md": (*PAGES, "tests/packages/test_install"),
     "SECURITY.md": PAGES,
     "docs/": PAGES,
+    "docs/ARCHITECTURE.md": (*PAGES, "tests/tools/test_walks", "frameworks/test_django"),
     "crates/": (),  # read by the programs over the crate
     "crates.txt": ("tests/packages/test_without_rt",),
     "pyproject.toml": ("tests/tools/test_layout",),
