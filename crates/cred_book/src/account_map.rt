@@ -5,7 +5,8 @@ use crate::name::Name;
 use cred_phc::Record;
 use std::alloc::AllocError;
 
-/// A map from names to at most one record each, in which a book keeps its accounts.
+/// A map from names to at most one record each, in which a book keeps its accounts. Only this
+/// crate builds a book over a map.
 pub trait AccountMap: Drop {
     ghost use Rattle.std.specs.Prelude.{◌≡◌, ◌≤◌, ℕ, IfOk, true};
     ghost use Rattle.std.specs.FinMap as map;

@@ -54,9 +54,9 @@ impl<R: Threads + Sync, G: Gate + Sync> Hashing<'_, R, G> {
     pub fn is_right(&self, stored: &Record, pw: &Password) -> Result<bool, TagError>
         ensures { IfOk result (λ answer. answer ≡ right stored.now pw.now) }
     {
-        let tag = stored.tag();
-        let found = self.tag(&stored.setting(), tag.bytes().len() as u8, pw)?;
-        Ok(found == tag)
+        let expected = stored.tag();
+        let found = self.tag(&stored.setting(), expected.bytes().len() as u8, pw)?;
+        Ok(found == expected)
     }
 
     /// Returns the record of this password under this setting, with a tag of 32 bytes.
@@ -86,8 +86,8 @@ impl<R: Threads + Sync, G: Gate + Sync> Hashing<'_, R, G> {
     }
 }
 
-/// Computes tags of passwords, in threads or on the caller's thread alone. So the operations are
-/// written once for both.
+/// Computes tags of passwords, in threads or on the caller's thread alone, for the operations,
+/// which are written once.
 pub(crate) trait TagMaker {
     ghost ready: { Self → Type 0 };
 

@@ -14,11 +14,11 @@ use std::collections::{BTreeMap, btree_map};
 use std::marker::Model;
 
 /// The maximum number of names in a register.
-const CAPACITY: usize = 16_777_216;
+const MOST_NAMES: usize = 16_777_216;
 
 /// A map from at most 2^24 names to at most one record each.
 ///
-/// A register allocates memory only when a call adds a name.
+/// A register allocates memory only in `enter`, `admit` and `copy`.
 pub type Register = AccountBook<AccountTree>;
 
 impl Register {
@@ -43,7 +43,7 @@ impl Register {
     }
 }
 
-/// Accounts in a tree, which allocates memory when a call adds a name.
+/// Accounts in a tree, which allocates memory for each name.
 #[derive(Drop)]
 pub struct AccountTree {
     alloc: Global,
@@ -71,7 +71,7 @@ impl AccountMap for AccountTree {
 
     ghost accounts = { λ t. t };
 
-    const CAPACITY: usize = CAPACITY;
+    const CAPACITY: usize = MOST_NAMES;
 
     ghost CAPACITY = { register_capacity };
 
@@ -92,7 +92,7 @@ impl AccountMap for AccountTree {
     }
 
     fn enter(&mut self, name: Name, stored: Option<Record>) -> Result<(), BookError> {
-        if self.len() >= CAPACITY {
+        if self.len() >= MOST_NAMES {
             if self.get(&name).is_some() {
                 return Err(BookError::Exists);
             }

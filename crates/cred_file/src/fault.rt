@@ -16,7 +16,7 @@ use std::fmt;
 pub enum OpenFault {
     /// No book is created: the database has tables already.
     NotEmpty,
-    /// The database holds no book: it lacks a book's one table.
+    /// The database holds no book: its tables aren't those of a book.
     NoBook,
     /// This row has no valid name.
     NoName(i64),

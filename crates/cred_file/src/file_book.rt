@@ -90,7 +90,7 @@ impl<S: Alter> FileBook<S> {
 
     /// Opens the book that a database holds, and changes nothing.
     ///
-    /// Errors: `NoBook` if the database lacks the one table of a book; `NoName`, `NoRecord` and
+    /// Errors: `NoBook` if the database's tables aren't those of a book; `NoName`, `NoRecord` and
     /// `Twice` with the id of the faulty row; `TooMany` for more than 2^24 rows;
     /// `Memory`; `Database`. The connection comes back.
     pub fn open(

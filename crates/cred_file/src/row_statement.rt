@@ -4,8 +4,8 @@ ghost use Rattle.std.specs.Prelude.{◌≡◌};
 ghost use Rattle.cred_file.specs.Failures.{put_text};
 ghost use Rattle.cred_file.specs.Rows.{is_update};
 
-/// A statement that writes a record's text, or NULL, in the row of a name. Its parameters are the
-/// name and the value.
+/// A statement that writes an account's text, or NULL, in the row of a name. The name and the value
+/// are the statement's parameters.
 #[derive(Clone, Copy)]
 pub(crate) enum RowStatement {
     /// Adds the row of a new name.

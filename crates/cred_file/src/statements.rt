@@ -66,7 +66,7 @@ pub(crate) fn value_of<'a>(text: &'a [u8], stored: &Option<Record>, mark: Mark) 
     }
 }
 
-/// Writes a record's text, or NULL, in the row of a name, by this statement.
+/// Writes an account's text, or NULL, in the row of a name, by this statement.
 pub(crate) fn write_row<S: Alter>(
     conn: &mut Connection<S>,
     statement: RowStatement,

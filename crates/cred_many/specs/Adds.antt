@@ -30,7 +30,7 @@ abbrev pub AddsQuick : {J K W : Type 0} {j : OfService J} {k : OfKeeper K} {w : 
     → Scribe J K W j k w → Scribe J K W j k w → Type 0
 AddsQuick old new = AddsOne IsQuick (passed_of new.tries) (answered old) (answered new)
 
--- some lines are answered, none of which is sent away
-abbrev pub AddsJudged : {J K W : Type 0} {j : OfService J} {k : OfKeeper K} {w : OfWriter W}
+-- any number of lines are answered, and none of them is sent away
+abbrev pub AddsNotSentAway : {J K W : Type 0} {j : OfService J} {k : OfKeeper K} {w : OfWriter W}
     → Scribe J K W j k w → Scribe J K W j k w → Type 0
-AddsJudged old new = AddsSome IsNotSentAway (passed_of new.tries) (answered old) (answered new)
+AddsNotSentAway old new = AddsSome IsNotSentAway (passed_of new.tries) (answered old) (answered new)

@@ -75,7 +75,7 @@ impl Ask {
     }
 
     /// Whether the scribe does the operation when its line comes, without a hash.
-    pub(crate) fn is_quick(&self) -> bool {
+    pub(crate) fn needs_no_hash(&self) -> bool {
         matches!(self, Ask::Quick(_) | Ask::Forgive(_))
     }
 

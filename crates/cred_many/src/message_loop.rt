@@ -78,8 +78,8 @@ impl<J: ServiceId> MessageLoop<J> {
         unreachable!()
     }
 
-    /// While changes wait, handles the messages that have arrived, so that one commit makes the
-    /// changes of all. Ends after as many messages as changes may wait.
+    /// While changes wait, handles the messages that have arrived, so that one commit makes several
+    /// changes. Ends after as many messages as changes may wait.
     fn gather<T: Wait + Clock, K: Host, W: Write + Drop>(
         &mut self,
         rt: &T,
@@ -102,9 +102,10 @@ impl<J: ServiceId> MessageLoop<J> {
         }
     }
 
-    /// Commits the waiting changes if one of them concerns the account of this message. Also
-    /// commits them if the message is a line that needs no hash, since such a line may concern any
-    /// account. So no later line overtakes a change of its account.
+    /// Commits the waiting changes before a hashed line whose account one of them concerns. Also
+    /// commits them before a line that needs no hash, since such a line may concern any account,
+    /// and before a line whose hash lacked memory. So no later line overtakes a change of its
+    /// account.
     fn commit_before<T: Wait + Clock, K: Host, W: Write + Drop>(
         &mut self,
         rt: &T,
@@ -117,9 +118,10 @@ impl<J: ServiceId> MessageLoop<J> {
         ensures same_came { scribe.new.came ≡ scribe.old.came }
     {
         let is_behind = match message {
-            Message::Came(line) => line.ask().is_quick(),
+            Message::Came(line) => line.ask().needs_no_hash(),
             Message::Hashed(hashed) => self.has_change_of(&hashed.worked().request().name()),
-            Message::NoMemory(_) | Message::Ended => false,
+            Message::NoMemory(_) => true,
+            Message::Ended => false,
         };
         if is_behind {
             self.commit(rt, scribe);

@@ -1,7 +1,7 @@
 //! Changes of different accounts that the scribe makes together and answers at once.
 
 ghost use Rattle.std.specs.Prelude.{◌≡◌, ◌++◌, ◌∷◌, [], IfErr, None, OnErr, OnOk};
-ghost use Rattle.cred_many.specs.{Adds.AddsJudged, Scribe.IsGroup, Scribe.entries_of, Turns.HaveTurns, Turns.UseTurns};
+ghost use Rattle.cred_many.specs.{Adds.AddsNotSentAway, Scribe.IsGroup, Scribe.entries_of, Turns.HaveTurns, Turns.UseTurns};
 
 use super::commits::told_reply;
 use super::{Hashed, Scribe};
@@ -33,7 +33,7 @@ impl<J: ServiceId, K: Host, W: Write> Scribe<J, K, W> {
         ensures clock { self.new.tries ≡ self.old.tries }
         ensures going { self.new.output.fault ≡ None → self.old.output.fault ≡ None }
         ensures came { self.new.came ≡ self.old.came }
-        ensures adds { AddsJudged self.old self.new }
+        ensures adds { AddsNotSentAway self.old self.new }
     {
         let mut group = Group::new(alloc);
         let mut others = Vec::new(alloc);
@@ -96,7 +96,7 @@ impl<J: ServiceId, K: Host, W: Write> Scribe<J, K, W> {
             self.old.output.pending self.new.output.pending }
         ensures same_came { self.new.came ≡ self.old.came }
         ensures same_tries { self.new.tries ≡ self.old.tries }
-        ensures adds { AddsJudged self.old self.new }
+        ensures adds { AddsNotSentAway self.old self.new }
     {
         let Group {
             works,
@@ -124,7 +124,7 @@ impl<J: ServiceId, K: Host, W: Write> Scribe<J, K, W> {
             self.old.output.pending self.new.output.pending }
         ensures same_came { self.new.came ≡ self.old.came }
         ensures same_tries { self.new.tries ≡ self.old.tries }
-        ensures adds { AddsJudged self.old self.new }
+        ensures adds { AddsNotSentAway self.old self.new }
     {
         for hashed in works {
             let (line, _) = hashed.into_parts();

@@ -2,7 +2,7 @@
 
 ghost use Rattle.std.specs.List.{remove};
 ghost use Rattle.std.specs.Prelude.{◌≡◌, None};
-ghost use Rattle.cred_many.specs.{Adds.AddsJudged, Adds.AddsQuick, Scribe.HasTurn, Scribe.IsBusy, Scribe.IsReady, Served.NeedsMemory, Turns.UsesTurn};
+ghost use Rattle.cred_many.specs.{Adds.AddsNotSentAway, Adds.AddsQuick, Scribe.HasTurn, Scribe.IsBusy, Scribe.IsReady, Served.NeedsMemory, Turns.UsesTurn};
 
 use super::{Scribe, Starved};
 use crate::fault::ServiceFault;
@@ -22,7 +22,7 @@ impl<J: ServiceId, K: Host, W: Write> Scribe<J, K, W> {
         ensures clock { self.new.tries ≡ self.old.tries }
         ensures going { self.new.output.fault ≡ None → self.old.output.fault ≡ None }
         ensures came { self.new.came ≡ self.old.came }
-        ensures adds { AddsJudged self.old self.new }
+        ensures adds { AddsNotSentAway self.old self.new }
     {
         self.starve(starved.into_line());
     }
