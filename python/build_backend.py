@@ -13,6 +13,7 @@ import base64
 import hashlib
 import os
 import pathlib
+import platform
 import re
 import subprocess
 import sys
@@ -23,8 +24,8 @@ HERE = pathlib.Path(__file__).resolve().parent
 sys.path.insert(0, str(HERE.parent / "packaging"))
 # What a wheel's name and the library's head (e_machine, at 18) call a processor.
 MACHINES = {62: "x86_64", 183: "aarch64"}
-IS_ARM64 = os.environ.get("ARCH") == "arm64"
-OUT = HERE.parent / "c" / "out" / ("arm64" if IS_ARM64 else "")
+FOR_ARM64 = os.environ.get("ARCH") == "arm64" and platform.machine() != "aarch64"
+OUT = HERE.parent / "c" / "out" / ("arm64" if FOR_ARM64 else "")
 LIBRARY = OUT / "librigzumal.so.1"
 
 
