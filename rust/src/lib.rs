@@ -11,6 +11,7 @@
 //!
 //! let record: Record = stored().parse()?;
 //! match verify(b"correct horse", &record) {
+//!     // In SQL: UPDATE .. WHERE id = .. AND record = old; if no row changed, begin again.
 //!     Ok(()) if hasher.needs_rehash(&record) => store(&hasher.hash_password(b"correct horse")?),
 //!     Ok(()) => {}
 //!     Err(Error::Mismatch) => println!("it is another password"),
