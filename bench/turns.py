@@ -49,7 +49,7 @@ def take_turns(rows, times, warm=1):
                 if turn >= warm:
                     found[row][name].append(figures)
             if len(all_made) != 1:
-                sys.exit(f"they make different ones at {row}")
+                sys.exit(f"the results of {row} differ")
     return found
 
 

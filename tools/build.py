@@ -5,13 +5,13 @@ after `--`, if `--` is present.
     python3 tools/build.py [--cpu LEVEL] [--built] [--object] [--note] [PROGRAM] [-- WORD..]
                                                                           (PROGRAM: credbook)
 
-The program is compiled for LEVEL: x86-64, x86-64-v2 or x86-64-v3; without this option, for the
-highest level whose features this processor has. For the level arm64, Debian's gcc-aarch64-linux-gnu
-links the program, in the crate's out/arm64. If rt is missing, a C compiler links the program's
-object from c/proved/programs, which a tarball of `make dist` contains. On standard error the script
-prints every half minute, and after each library, how many libraries are proved and an estimate of
-the remaining time. Standard output contains only the program's output, and the script exits with
-the program's status. The script reuses earlier builds of unchanged sources; with --built it builds
+The script compiles the program for LEVEL: x86-64, x86-64-v2 or x86-64-v3; without this option, for
+the highest level whose features this processor has. For arm64, Debian's gcc-aarch64-linux-gnu links
+the program, in the crate's out/arm64. If rt is missing, a C compiler links the program's object
+from c/proved/programs, which a tarball of `make dist` contains. On standard error the script prints
+every half minute, and after each library, how many libraries are proved and an estimate of the
+remaining time. Standard output contains only the program's output, and the script exits with the
+program's status. The script reuses earlier builds of unchanged sources; with --built it builds
 nothing, and the status is 1 if the program isn't built for LEVEL. With --object, which `make dist`
 uses, the script builds the program again unless its object was kept (crates/NAME/out/objects). The
 time of each crate is the estimate for the next build (crates/NAME/out/seconds), and with --note
@@ -116,8 +116,8 @@ class Progress:
         return taken / foreseen
 
     def rest(self):
-        """Computes the seconds until all are done, AT_ONCE in parallel and each after those below
-        it, if each takes as long as estimated at the pace here."""
+        """Computes the seconds until all crates are done, AT_ONCE in parallel and each after those
+        below it, if each crate takes as long as estimated at the pace here."""
         now, done, begun = time.monotonic(), {**self.done}, {**self.running}
         pace, at = self.pace(done), 0
         left = {

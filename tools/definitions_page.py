@@ -84,7 +84,7 @@ class Printer:
     def place(self, name: str) -> Place:
         place = (*name.strip().split("."),)
         if place not in self.texts:
-            raise LookupError(f"the definition {name.strip()} isn't there")
+            raise LookupError(f"no file of specs/ has the definition {name.strip()}")
         return place
 
     def named_in(self, place: Place) -> Iterator[Place]:
@@ -136,7 +136,7 @@ class Printer:
 
 
 def printed(page: str) -> str:
-    """Returns a page with each of its blocks as in the tree."""
+    """Returns the page, with the text of each block printed again from the files of specs/."""
     printer = Printer()
 
     def block(found: re.Match[str]) -> str:

@@ -1,6 +1,6 @@
 #!/usr/bin/env python3
-"""Changes a file in one place at a time, runs tests, and prints each change that the tests let
-through.
+"""Changes a file in one place at a time, runs tests, and prints each change that no test
+refuses.
 
     python3 tools/mutate.py FILE [--sample N] [--seed S] [--jobs N] [--limit SECONDS]
                                  [--build COMMAND] --tests COMMAND..

@@ -117,7 +117,7 @@ def house() -> Facts:
         "lines that tools/english.txt finds": found_in_english(),
     }
     for what, count in counts.items():
-        wrong = f"{count} {what}, and {MOST[what]} at most are wanted"
+        wrong = f"{count} {what}: the limit is {MOST[what]}"
         yield wrong if count > MOST[what] else None
 
 

@@ -94,7 +94,7 @@ def link_packed(program, level, built):
         )
     if other := other_source(program, level, PACKED):
         raise SystemExit(
-            f"{program}: its object in {PACKED.relative_to(TOP)} was compiled from other sources "
-            f"({other} differs), and only the toolchain's rt compiles them, which isn't published"
+            f"{program}: its object in {PACKED.relative_to(TOP)} is from other sources ({other} "
+            "differs); only the toolchain's rt, which isn't published, compiles the present ones"
         )
     link(PACKED / level / f"{program}.o", built, level)

@@ -126,7 +126,7 @@ class Done:
             self.is_whole = True
             return
         if word == "skipped" and not needs.excuse(reason):
-            self.output += f"{name}: skipped, and nothing of that is missing: {reason}\n"
+            self.output += f"{name}: skipped, though this machine lacks nothing of that: {reason}\n"
             word, reason = "failed", ""
         if self.tests.get(name) != "failed":
             self.tests[name] = f"{word} {reason}".strip()

@@ -299,8 +299,8 @@ def check() -> list[str | None]:
         return [f"docs/STATEMENTS.txt: {wrong}"]
     if not found:
         return [None]
-    count = "1 promise isn't" if len(found) == 1 else f"{len(found)} promises aren't"
-    told = f"{count} as in docs/STATEMENTS.txt: if you mean that, `{WRITE}` brings it up to date"
+    count = "1 promise differs" if len(found) == 1 else f"{len(found)} promises differ"
+    told = f"{count} from docs/STATEMENTS.txt: if you mean that, run `{WRITE}`"
     return ["\n".join([*found, told])]
 
 

@@ -42,7 +42,7 @@ from wrong_body import Edit, groups
 SUMS = TOP / "tools/wrong_bodies.sums"
 EVERY = 30
 BYTES_OF_A_CHECK = 3 << 30
-NOT_ONCE = "its old text isn't in its file once, or the new one is the same"
+NOT_ONCE = "its file doesn't have the old text exactly once, or the new text is the same"
 PROVED = re.compile(r"rt: (\w+) (?:proved|is kept)\b")
 
 

@@ -49,7 +49,7 @@ def made(call, *given):
     """Returns the bytes that a call writes into its ROOM."""
     room = ctypes.create_string_buffer(SIZE)
     if call(*(room if it is ROOM else it for it in given)) != 0:
-        sys.exit(f"{call.__name__} refuses")
+        sys.exit(f"{call.__name__} refused its inputs")
     return room.raw
 
 

@@ -300,7 +300,7 @@ def main():
     words.add_argument("--other", type=ctypes.CDLL, metavar="LIBRARY")
     asked = words.parse_args()
     if asked.small and not asked.callers:
-        words.error("--small goes with --callers")
+        words.error("--small needs --callers")
     before = os.getloadavg()[0]
     have_pages(asked.pages)
     print(f"{PAGES[asked.pages]}.\n")

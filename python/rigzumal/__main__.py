@@ -58,7 +58,7 @@ def _words() -> argparse.ArgumentParser:
     calibrate.set_defaults(act=_calibrate)
     add = calibrate.add_argument
     add("--target-ms", type=_target, default=250, help="milliseconds for one hash")
-    most = "the most memory, such as 64M, or in KiB"
+    most = "the most memory, with a unit such as 64M, or in KiB"
     add("--memory", type=memory, default=65536, help=most)
     add("--lanes", type=int, default=4)
     threads = "threads of one hash; 1 for a service with many logins"

@@ -150,8 +150,8 @@ class _Hasher(Frozen):
     def check_needs_rehash(self, hash: Secret) -> bool:
         """Whether the record has another scheme, other costs or other sizes than a new one.
 
-        The record doesn't show its secret: only `verify_and_rehash` can determine which one it
-        needs. Raises InvalidRecordError for a text that isn't a record.
+        The record doesn't show its secret: only `verify_and_rehash` can determine which secret the
+        record needs. Raises InvalidRecordError for a text that isn't a record.
         """
         parts = _library.parts(hash)
         found = (parts.scheme, parts.version, parts.memory, parts.passes, parts.lanes)

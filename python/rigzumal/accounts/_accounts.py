@@ -41,7 +41,8 @@ class Accounts(Operations[Pool]):
             answer depends on the primary's record. If the replica is down or refuses, operations
             read copies from the primary too.
         foreign: a function that checks passwords against records of other schemes, as (text,
-            password) -> bool or None. Any other answer raises a TypeError, and nothing is stored.
+            password) -> bool or None. After any other answer the operation raises a TypeError, and
+            stores nothing.
         upgrade_from: costs such as "$argon2i$v=19$m=65536,t=3,p=4" that an upgrade replaces even if
             the new costs aren't higher.
         tries: how often to try an operation whose commit finds a different record; 1 or more.
@@ -49,7 +50,7 @@ class Accounts(Operations[Pool]):
             more. This limit doesn't end a statement that hangs, or a pool's wait for a connection:
             set separate limits of some seconds for both.
         confirm: whether to confirm an answer without a change, such as a verify's, by writing the
-            record again. Use this with servers that show a change before the change is safe
+            record again. Use `confirm` with servers that show a change before the change is safe
             (MariaDB without a binary log). A login then costs as much as a change.
         least_length: the minimum length of a new password; logins have no such bound.
         prepare: a function, such as `rigzumal.opaque_string`, that turns a password that is text,
@@ -75,12 +76,12 @@ class Accounts(Operations[Pool]):
             bytes nor text; the operation read no row. A hook returned a wrong answer,
             or `also` has ended the transaction; the operation wrote no record.
         ValueError: a new password is too short, isn't UTF-8 or has over 256 bytes, or `prepare`
-            refuses it. An enrolment also raises this if the name is empty, or begins or ends with a
+            refuses it. An enrolment also refuses a name that is empty, or begins or ends with a
             blank. The operation read no row. A present password of such a form counts as wrong,
             after one hash.
         StoreFault: the table, the server or the connection has a fault.
         InvalidRecordError: the record has another scheme, and no hook accepts it.
-        Unavailable: no server completed the operation in time, and nothing was stored.
+        Unavailable: no server completed the operation in time, and the operation stored nothing.
         OutcomeUnknown: after a change, or with `also`, COMMIT had no answer, and the row doesn't
             show whether the server stored the change.
         OutOfMemoryError: the free memory was too small for the costs.
@@ -96,7 +97,8 @@ class Accounts(Operations[Pool]):
 
     @hidden
     def enrol(self, key: Key, password: Secret, *, also: Hook = None) -> Reply:
-        """Gives an account its first record. Returns ENROLLED, EXISTS if it has one, or NO_ACCOUNT.
+        """Gives an account its first record. Returns ENROLLED, EXISTS if the account has a record,
+        or NO_ACCOUNT.
 
         Use this operation only for rows whose owner is known; for a sign-up use `new_record`.
         """
@@ -121,7 +123,7 @@ class Accounts(Operations[Pool]):
     def change(
         self, key: Key, password: Secret, new_password: Secret, *, also: Hook = None
     ) -> Reply:
-        """Replaces the password. Returns REPLACED, WRONG if the old one is wrong, ABSENT,
+        """Replaces the password. Returns REPLACED, WRONG if the old password is wrong, ABSENT,
         NO_ACCOUNT or CHANGED.
 
         CHANGED, a reply of every operation, means that the commit found a different record `tries`
@@ -163,8 +165,8 @@ class Accounts(Operations[Pool]):
     def examine(self, *used: Kind) -> list[Fault]:
         """Returns the faults of the table, the server and the replica, or an empty list.
 
-        The trial writes a record into a new row, or into an existing one if a new row is
-        impossible, in a transaction that it rolls back. Pass Kind.REMOVE if the service removes
+        A trial writes a record into a new row, or into an existing one if it can't add a row,
+        and then rolls its transaction back. Pass Kind.REMOVE if the service removes
         records: then a NOT NULL column is an error, and the trial also removes a record. On SQLite
         `examine` warns of a full disk if the filesystem reports it, but not of a user's quota.
 

@@ -33,7 +33,7 @@ NESTED: Final = (
 
 
 class Lost(Exception):
-    """The connection is broken, and nothing was stored; the cause gives the reason."""
+    """The connection is broken, and the job stored nothing; the cause gives the reason."""
 
 
 class Broken(Exception):
@@ -42,7 +42,7 @@ class Broken(Exception):
 
 @dataclass(frozen=True)
 class Undone:
-    """Nothing was stored, and the job may be repeated."""
+    """The job stored nothing, and the caller may repeat it."""
 
     cause: Optional[BaseException]
     reason: str = ""  # the reason for a missing connection, in words that quote no row
@@ -240,7 +240,7 @@ class Table:
         return Answer(worked.reply, copy, worked.after)
 
     async def examine(self, session: Session, record: str, used: Container[Kind]) -> list[Fault]:
-        """Returns the faults that only the engine or a trial shows: no catalogue shows a role that
+        """Returns the faults that only the engine or a trial shows. No catalogue shows a role that
         may not update, a rule that does nothing, or a CHECK that no record passes."""
         self.dialect.fresh(session.conn)
         found = await self.dialect.examine(session)

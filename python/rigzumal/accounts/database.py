@@ -104,7 +104,7 @@ class Database:
         more = dict(parse_qsl(options or "", keep_blank_values=True))
         unknown = more.keys() - {*_OPTIONS}
         if unknown:
-            raise ValueError(f"{min(unknown)} is none of {', '.join(_OPTIONS)}")
+            raise ValueError(f"the URL may set {', '.join(_OPTIONS)}, not {min(unknown)}")
         settings = {
             "user": unquote(user or ""),
             "password": unquote(password or "") or os.environ.get("MYSQL_PWD", ""),

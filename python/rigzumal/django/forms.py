@@ -20,7 +20,7 @@ from django.utils.translation import gettext_lazy as _
 from rigzumal._hidden import hidden_below
 from rigzumal.django import passwords
 
-CHANGED = _("The password was changed meanwhile. Nothing was saved; please begin again.")
+CHANGED = _("The password has changed meanwhile. This form saved nothing: please begin again.")
 
 
 @contextlib.contextmanager

@@ -242,7 +242,7 @@ class Dialect:
         raise NotImplementedError
 
     async def commit(self, session: Session) -> None:
-        """Commits; raises an exception if the change may be lost."""
+        """Commits the transaction, and raises an exception if the change may be lost."""
         await session.execute(self.commit_sql)
 
     async def hold(self, session: Session) -> None:
@@ -343,9 +343,9 @@ class Dialect:
         return bool(re.search(form, "".join(indexed.split()), re.I))
 
     def after_triggers(self, rows: Iterable[Sequence[object]]) -> Iterator[Fault]:
-        """Reports triggers that run after the write: the trial shows the effect of the others."""
+        """Reports triggers that run after the write: a trial shows the effect of other triggers."""
         for (name,) in rows:
-            text = f"the trigger {name} may change what was written"
+            text = f"the trigger {name} may change a record after its UPDATE"
             yield warning("after-trigger", text)
 
     def key_faults(self, kind: str, fits: bool) -> Iterator[Fault]:

@@ -166,7 +166,7 @@ def of_disk(path: str) -> Iterator[Fault]:
         return
     free = found.f_bavail * found.f_frsize
     if found.f_blocks and free < _NEEDED:
-        yield warning("disk-full", f"the disk has {free >> 10} KiB free: changes may be refused")
+        yield warning("disk-full", f"the disk has {free >> 10} KiB free: changes may fail")
 
 
 def of_connection(seen: dict[str, Any]) -> Iterator[Fault]:
@@ -178,5 +178,5 @@ def of_connection(seen: dict[str, Any]) -> Iterator[Fault]:
     if seen["journal_mode"] != "wal":
         yield warning("no-wal", "journal_mode isn't WAL: logins fail while another client writes")
     if seen["read_uncommitted"]:
-        text = "read_uncommitted is on: uncommitted records are read"
+        text = "read_uncommitted is on: operations would read uncommitted records"
         yield error("read-uncommitted", text)

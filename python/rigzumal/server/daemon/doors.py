@@ -115,7 +115,7 @@ class Door:
         return listener
 
     async def accept(self, service: Service, listener: socket.socket) -> None:
-        """Admits clients; if the admitted ones don't stay, the queue of the socket is short."""
+        """Admits clients, and shortens the socket's queue while the admitted ones don't stay."""
         with listener:
             while True:
                 try:

@@ -56,9 +56,9 @@ class Options:
     least_length: int = option("the least length of a new password", "N", 0)
     setting: str = option("for credkeep: the costs of new records", "TEXT")
     at_once: int = option(
-        "lines of a user hashed at once; 0: one per processor", "N", 0, MOST_AT_ONCE
+        "the most lines of a user to hash at once; 0: one per processor", "N", 0, MOST_AT_ONCE
     )
-    memory: str = option("for credkeep: the memory of all hashes, such as 512M", "SIZE")
+    memory: str = option("for credkeep: the most memory of all hashes, such as 512M", "SIZE")
     most_memory: str = option(f"the most memory {LINE}", "SIZE")
     most_work: str = option(f"the most work {LINE}", "SIZE")
     wait: int = option("for credkeep: the longest wait for FILE", "SECONDS", 30, 3600)
@@ -129,7 +129,7 @@ def parser() -> Parser:
     made.add_argument("file", metavar="FILE", nargs="?", default="", help=text)
     made.add_argument("--version", action="version", version=f"credkeep-server {VERSION}")
     words = ("NAME", "PATH", "MODE", "GROUP", "OPERATIONS")
-    text = "a socket instead of the login and the admin socket; repeat for each"
+    text = "a socket instead of the login and the admin socket; repeat the option for more"
     made.add_argument("--socket", nargs=5, action="append", metavar=words, help=text)
     for it in fields(Options):
         if it.metadata:

@@ -49,8 +49,8 @@ ANSWERS = {
         pam="SUCCESS",
     ),
     "expired": Answer(
-        "the password is right, and must be changed: by `change`, or `reset`. Of `expire`: it must"
-        " be changed from now on",
+        "the password is right, but the user must replace it (`change` or `reset`); after `expire`:"
+        " a login now needs a new password",
         tried=RIGHT,
         changed=True,
         reply="EXPIRED",
@@ -103,7 +103,7 @@ ANSWERS = {
     "renamed": done("RENAMED", "the account has the new name"),
     "locked": done("LOCKED", "every password is wrong until `unlock`"),
     "unlocked": done("UNLOCKED", "the lock is removed, and the record counts again"),
-    "forgiven": Answer("its failed tries no longer count"),
+    "forgiven": Answer("the name's failed tries no longer count"),
     "exists": Answer(
         "the account already has a record; of `rename`: an account already has the new name",
         reply="EXISTS",
@@ -131,13 +131,13 @@ ANSWERS = {
     ),
     "later": Answer(
         "too many tries at this name failed, so this one had no effect: wait (1 s to 15 minutes),"
-        " or `credkeep-ask --server forgive NAME`",
+        " or run `credkeep-ask --server forgive NAME`",
         http=429,
         pam="MAXTRIES",
         ask=4,
     ),
     "denied": Answer(
-        "the socket doesn't allow this operation, or not with a setting: ask at the admin socket",
+        "the socket doesn't allow this operation, or no setting with it: ask at the admin socket",
         http=403,
         ask=1,
     ),
@@ -154,7 +154,7 @@ ANSWERS = {
     "bad 11 line": refused("no such line exists"),
     "bad 13 password": refused("the password isn't base64 of at most 256 bytes", ask=6, http=401),
     "bad 14 busy": refused(
-        "others changed the account meanwhile, or another import is running: try again", ask=5
+        "other clients changed the account, or another import is running: try again", ask=5
     ),
     "bad 16 long": refused(
         "the line has over 960 bytes, or the import over 128 MiB; the connection stays open",

@@ -33,7 +33,7 @@ PIECE = 65536  # bytes to read or send at a time
 ROOM_FOR_TEXT = 4
 BUSY = b"bad 14 busy"
 DATABASE_FAILED = 5  # a status of credkeep
-ENDING = b"credkeep-server: the book is ending: nothing was done\n"
+ENDING = b"credkeep-server: the book is ending: the server did nothing\n"
 KILLED_FIRST = "1000"  # of proc(5), oom_score_adj
 
 
@@ -90,7 +90,7 @@ class Incoming:
 
 
 class Transfers:
-    """The imports, exports and backups of a server. Runs credkeep for one request at a time."""
+    """Runs credkeep for the imports, exports and backups of a server, one request at a time."""
 
     def __init__(self, service: Service) -> None:
         self.service = service

@@ -29,6 +29,6 @@ class Command(changepassword.Command):
                 return super().handle(*args, **options)
         except records.RecordChanged:
             raise CommandError(
-                "The password was changed meanwhile, perhaps by a login with an old"
-                " record. Nothing was saved; please run the command again."
+                "The password has changed meanwhile, perhaps at a login with an old"
+                " record. This command saved nothing: please run it again."
             ) from None

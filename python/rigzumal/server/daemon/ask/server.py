@@ -61,7 +61,7 @@ class Server:
         if said.startswith("bad "):
             status = ANSWERS[said].ask if said in ANSWERS else 1
             _, number, word = said.split(" ", 2)
-            end(status, f"{words[0]} is refused: {word} ({number}; see docs/ERRORS.md)")
+            end(status, f"the server refused {words[0]}: {word} ({number}; see docs/ERRORS.md)")
         if said in ANSWERS and ANSWERS[said].text:
             end(ANSWERS[said].ask, as_said_here(ANSWERS[said].text))
         return said
