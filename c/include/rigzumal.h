@@ -21,8 +21,8 @@
  *
  * Any number of threads may call at the same time. Each call works only on its own thread, except
  * for the calls at the end, with which several threads may work the lanes of one tag. After a call
- * the library keeps only cleared memory, for the next calls. It keeps as much as calls used at one
- * time, and at most 64 MiB, or the bound of rigzumal_keep or of RIGZUMAL_KEEP in the environment.
+ * the library keeps only cleared memory, for the next calls: as much as calls used at one time. The
+ * bound is 64 MiB, or that of rigzumal_keep, or that of RIGZUMAL_KEEP in the environment.
  * Tools count this memory as the process's own until the system is short of memory and reclaims it;
  * rigzumal_trim returns this memory at once.
  *
@@ -94,7 +94,7 @@ enum rigzumal_scheme {
 /* The versions of Argon2. For new records use 0x13, which records write as v=19. */
 enum rigzumal_argon2_version { RIGZUMAL_VERSION_10 = 0x10, RIGZUMAL_VERSION_13 = 0x13 };
 
-/* Costs for rigzumal_record: RFC 9106's second recommendation, with 64 MiB, or scrypt, 128 MiB. */
+/* Costs for rigzumal_record: RFC 9106's second recommendation, 64 MiB; or scrypt with 128 MiB. */
 #define RIGZUMAL_ARGON2_COSTS "$argon2id$v=19$m=65536,t=3,p=4"
 #define RIGZUMAL_SCRYPT_COSTS "$scrypt$ln=17,r=8,p=1"
 
@@ -266,10 +266,11 @@ enum rigzumal_reply {
  *
  * Let the store update a row only if the row still has the copy, and compare the copy and write the
  * record in one step. The replies are then those of one history, in which each whole operation
- * happens at its update. This holds beside any other changes that compare and write in this way: a
- * reset, a record of another scheme, or a new row, whose copy is no row. If an update changes no
- * row, answer CHANGED, or begin again with the row's record. For a reply that makes no change, read
- * the row again instead of the update, and compare it with the copy.
+ * happens at its update. This also holds beside other changes that compare the row with a copy and
+ * write the row in one step: a reset, a record of another scheme, or a new row, whose copy is no
+ * row. If an update changes no row, answer CHANGED, or begin again with the row's record. For a
+ * reply that makes no change, read the row again instead of the update, and compare the row with
+ * the copy.
  *
  * copy is the record's text, or null if the account has none. password is the new password of an
  * ENROL, and otherwise the judged one. A CHANGE reads new_password; an ENROL, a CHANGE and an

@@ -113,7 +113,10 @@ class WrongBodies(Case):
         ("file: src/lib.rt\nold: { 2 }\nnew: { 1 + 1 }\n", "it is proved with it"),
         ("old: { 2 }\nnew: { wrong }\n", "doesn't have the old text exactly once"),
         ("old: { 5 }\nnew: { wrong }\n", "doesn't have the old text exactly once"),
-        ("file: src/other.rt\nold: { 1 }\nnew: { wrong }\n", "doesn't have the old text exactly once"),
+        (
+            "file: src/other.rt\nold: { 1 }\nnew: { wrong }\n",
+            "doesn't have the old text exactly once",
+        ),
         ("file: src/lib.rt\nold: { 2 }\nnew: { 2 }\n", "or the new text is the same"),
     )
     def test_not_refused(self, text, why):

@@ -66,10 +66,10 @@ class Accounts(Operations[Pool]):
     calls `also` in the operation's transaction, while it holds the lock of the account's row and
     before it writes the record. The server therefore commits your own rows, such as a session, with
     the reply or not at all. If the server undoes the transaction, the library calls `also` again in
-    the next one; it doesn't call `also` for CHANGED. An exception in `also` undoes everything and
-    reaches the caller, unless the exception is an error of the connection that calls for a retry.
-    `also` must leave the transaction open, must not write the record, and must not call an
-    operation on the same table.
+    the next one. The library doesn't call `also` for CHANGED. An exception in `also` undoes
+    everything and reaches the caller, unless the exception is an error of the connection that calls
+    for a retry. `also` must leave the transaction open, must not write the record, and must not
+    call an operation on the same table.
 
     Every operation may raise:
         TypeError: the key's type differs from its column's, or a password is neither

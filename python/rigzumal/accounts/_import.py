@@ -206,7 +206,7 @@ class Import:
         return words if len({*words}) == 1 else _as_they_came(batch, words)
 
     def _put_at_once(self, session: Session, share: Sequence[Line]) -> list[str]:
-        """Writes some lines with a few statements; raises StoreFault if their rows hold other
+        """Writes some lines with a few statements. Raises StoreFault if their rows have other
         records afterwards."""
         keys = [] if self.are_new else [key for key, _ in share]
         stands = dict(self._standing(session, keys))

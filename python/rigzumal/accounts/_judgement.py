@@ -109,7 +109,7 @@ class Passwords:
 
 
 class Judge:
-    """Carries out requests on copies of records; the hasher of Accounts creates new records.
+    """Carries out requests on copies of records. The hasher of Accounts creates new records.
 
     Attributes:
         sample: a record with the hasher's costs for which no password is right.

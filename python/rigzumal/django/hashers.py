@@ -2,7 +2,7 @@
 
 The hashers read and write the strings of Django's own hashers with the same names. The costs are
 class attributes, as in Django's hashers: write a subclass for other costs. A subclass may wrap old
-hashes as Django's page "Password management" shows; it only needs its own `algorithm` and `encode`.
+hashes as Django's page "Password management" shows, with its own `algorithm` and `encode`.
 """
 
 # mypy: allow-subclassing-any

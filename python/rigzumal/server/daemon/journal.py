@@ -40,7 +40,7 @@ def log_seldom(key: Hashable, text: str, *values: object) -> None:
 
 
 def forget_message(key: Hashable) -> bool:
-    """Makes `log_seldom` log the key's next message at once; returns False if no message was
+    """Makes `log_seldom` log the key's next message at once. Returns False if no message was
     logged."""
     return logged_at.pop(key, None) is not None
 
@@ -75,7 +75,7 @@ class Journal(GrowingFile):
         return len(self.lines) >= MOST_LINES
 
     def add(self, line: bytes) -> asyncio.Future[bool]:
-        """Appends a line, together with others that arrive meanwhile; returns whether it is on the
+        """Appends a line, with others that arrive meanwhile. Returns whether the line is on the
         disk."""
         if self.is_full():
             text = "%s: its disk hangs: %d lines wait, and the server drops further lines"

@@ -53,7 +53,7 @@ def main() -> int:
 
 
 async def serve(options: Options) -> int:
-    """Answers clients until the book ends or a signal arrives; returns the status."""
+    """Answers clients until the book ends or a signal arrives. Returns the status."""
     for door in options.doors:
         door.prepare()
     service = Service(options)
@@ -139,7 +139,7 @@ def end_idle_clients(service: Service, idle: float) -> None:
 
 
 async def end(service: Service) -> int:
-    """Ends the clients, each after its answers, and then the book; returns the book's status."""
+    """Ends the clients, each after its answers, and then the book. Returns the book's status."""
     began = time.monotonic()
     notify("STOPPING=1")
     for task in service.accepting:
@@ -170,7 +170,7 @@ async def wait_for_answers(service: Service, began: float) -> None:
 
 
 async def end_book(book: Book, seconds: float) -> int:
-    """Lets the book end in order, or kills it after this many seconds; returns its status."""
+    """Lets the book end in order, or kills the book after this many seconds. Returns its status."""
     book.end()
     await asyncio.wait([book.ended], timeout=seconds)
     if not book.ended.done():

@@ -252,7 +252,7 @@ class Service:
         return answer
 
     async def ask_besides(self, request: Request, *words: bytes) -> bytes:
-        """Sends the book an additional line of a request, and returns the answer; the audit log
+        """Sends the book an additional line of a request, and returns the answer. The audit log
         gets that line too."""
         answer = await self.book.ask(*words)
         await self.note(replace(request, words=list(words)), answer)

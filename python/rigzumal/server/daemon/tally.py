@@ -122,7 +122,7 @@ class Tally:
             log.info("%s no longer has to wait: %s", name, why)
 
     def end_waits(self, staying: Callable[[str], int]) -> None:
-        """Ends all waits, since a new process of the book knows no failed tries; only waits of
+        """Ends all waits, since a new process of the book knows no failed tries. Only waits of
         names for which `staying` returns seconds remain."""
         ended = [name for name in self.early if not staying(name)]
         for name in ended:

@@ -19,7 +19,7 @@ from rigzumal.django import records, users
 
 
 class Command(changepassword.Command):
-    """Django's command; the user model compares while it runs."""
+    """Django's command, with a user model that compares while the command runs."""
 
     @hidden_below
     def handle(self, *args: Any, **options: Any) -> Any:

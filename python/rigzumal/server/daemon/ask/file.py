@@ -1,4 +1,4 @@
-"""A book's file: runs credkeep with the same arguments, and passes it the passwords through a
+"""Runs credkeep for a book's file, with the same arguments, and passes the passwords through a
 pipe."""
 
 from __future__ import annotations

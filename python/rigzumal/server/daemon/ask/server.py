@@ -1,4 +1,4 @@
-"""The server at an administrator's socket: sends lines, and reads the answers."""
+"""Sends lines to the server at an administrator's socket, and reads the answers."""
 
 from __future__ import annotations
 

@@ -1,4 +1,4 @@
-"""The terminal: prints texts, and reads passwords without echo."""
+"""Prints texts at the terminal, and reads passwords without echo."""
 
 from __future__ import annotations
 
