@@ -16,9 +16,9 @@ nothing, and the status is 1 if the program isn't built for LEVEL. With --object
 uses, the script builds the program again unless its object was kept (crates/NAME/out/objects). The
 time of each crate is the estimate for the next build (crates/NAME/out/seconds), and with --note
 also for those who build it first: tools/build_seconds.json, for four idle processors. `rt run`
-alone needs more time for this build: only one rt at a time may work above a library, so the script
-builds independent libraries in two copies of the sources, and copies the results back. The variable
-RT selects another rt.
+alone needs more time for this build, since only one rt at a time may work above a library. The
+script therefore builds independent libraries in two copies of the sources, and copies the results
+back. The variable RT selects another rt.
 """
 
 import argparse
@@ -105,8 +105,8 @@ class Progress:
 
     def pace(self, done):
         """Computes the ratio of a crate's time here to the estimate. The most recent times count
-        most, since the first ones of a build also prepare the needs of all crates; a minute at the
-        estimated pace precedes them."""
+        most, since the first ones of a build also prepare the needs of all crates. The sum begins
+        with a minute at the estimated pace."""
         taken = foreseen = 60
         weight = 1
         for name in reversed(done):
@@ -228,8 +228,8 @@ def is_built(program, level):
 
 
 def best_level(program):
-    """Returns the highest level for which a program can be built and that this processor has: if rt
-    is missing, among the levels of its objects."""
+    """Returns the highest level that this processor has, among the levels for which a program can
+    be built. If rt is missing, these are the levels of its objects."""
     here = level_here()
     if has_rt():
         return here

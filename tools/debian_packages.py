@@ -4,7 +4,7 @@
     python3 tools/debian_packages.py
 
 The script needs root on Debian, starts no services of these packages, and makes no requests if
-nothing is missing. The script always exits with status 0: if a package isn't available, or if
+nothing is missing. The script always exits with status 0. If a package isn't available, or if
 INSTALL=no is in the environment, the script says so, and the tests that need the package skip
 themselves by name.
 """

@@ -8,10 +8,10 @@ A line of the page requests the block of text after it:
     <!-- definitions of CRATE.MODULE.NAME, .. up to CRATE.MODULE.NAME, .. -->
 
 A block contains the definitions that the line names first, and all of our definitions on which they
-depend, each with the comment above it, in the order of their first mention. The definitions after
-`up to` are its chapters: they come last, without those on which they depend. A block doesn't repeat
-the definitions of earlier blocks. A block ends with the names of code and of the toolchain's
-libraries that it uses, except those of Rattle.std.specs.Prelude.
+depend. Each has the comment above it, and their order is that of their first mention. The
+definitions after `up to` are its chapters: they come last, without those on which they depend. A
+block doesn't repeat the definitions of earlier blocks. A block ends with the names of code and of
+the toolchain's libraries that it uses, except those of Rattle.std.specs.Prelude.
 
 --write prints the blocks again. Without --write the tool lists the blocks that differ from the
 tree, and the status is 1 if any differs.

@@ -3,7 +3,7 @@
 
     python3 tools/promises.py
 
-The page names a call by its path, `cred_argon::argon::argon2` (`input_len`, `err`): the function
+The page names a call by its path, `cred_argon::argon::argon2` (`input_len`, `err`). The function
 must be in that file, within the type that the path names, if it names one. Its contract must have
 the clauses in brackets, or be a record of specs/ with these fields. Each test `CRATE::TEST`, each
 file, and each definition that a file "has" must exist. The list of trusted code must contain each

@@ -23,8 +23,8 @@ no `mod` names, and an attribute that may hide an item, such as a condition othe
 
 A comment, the layout, the order of imports, a proof, a different body, or the file of an item
 changes no line. Renaming a bound variable or a definition does change lines, since the script
-compares words. No line shows the toolchain's own definitions, which its logic identifies; private
-parts of a type, or the crates of tests and examples, which promise nothing.
+compares words. No line shows the toolchain's own definitions, which its logic identifies. Private
+parts of a type have no line, nor have the crates of tests and examples, which promise nothing.
 
 --write writes the file again. Without --write the script prints the names whose lines differ, and
 the status is 1 if any differs.

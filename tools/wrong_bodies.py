@@ -5,21 +5,22 @@ function that it changes.
     python3 tools/wrong_bodies.py [--all] [CRATE..] [-- COMMAND..]
 
 A wrong body is crates/CRATE/wrong-bodies/NAME.edit. A line `fn: PATH` names the function that the
-prover must refuse. Pairs of lines `old: TEXT`, `new: TEXT` change it: the old TEXT, one line,
-occurs once in one file of the crate, or in the file that a line `file: PATH` before them names.
+prover must refuse. Pairs of lines `old: TEXT`, `new: TEXT` change that function. The old TEXT, one
+line, occurs once in one file of the crate, or in the file that a line `file: PATH` before them
+names.
 
 The script tries the wrong bodies that the first table of docs/PLANTED.md names, and all those of
-each crate that differs from tools/wrong_bodies.sums: in its files, its wrong bodies, or what it can
-cite from the crates below. With --all it tries all, and with a CRATE all of that crate. The sums
-file gets the line of each crate whose wrong bodies were all tried and refused. COMMAND, `rt ci`,
-runs in parallel: a crate's turn comes when COMMAND has proved the crate. Without a COMMAND the
-libraries below are those that `rt lib` builds.
+each crate that differs from tools/wrong_bodies.sums. A crate differs in its files, its wrong
+bodies, or the items that it can cite from the crates below. With --all the script tries all, and
+with a CRATE all of that crate. The sums file gets the line of each crate whose wrong bodies were
+all tried and refused. COMMAND, `rt ci`, runs in parallel: a crate's turn comes when COMMAND has
+proved the crate. Without a COMMAND the libraries below are those that `rt lib` builds.
 
 The script first proves the unchanged functions, and reuses what `rt check` kept in the crate's
-out/, or an earlier run in .git/wrong-bodies. Then the prover must refuse each wrong body at a goal:
-the search doesn't prove the goal, or its written answer is no longer a proof. A refusal is weaker
-evidence if an answer only names what the edit removed, or if only a caller is refused, with no
-other plant. The status is 1 if the prover doesn't refuse a wrong body, or the script can't judge
+out/, or an earlier run in .git/wrong-bodies. Then the prover must refuse each wrong body at a goal.
+At this goal the search finds no proof, or the written answer is no longer a proof. A refusal is
+weaker evidence if an answer only names what the edit removed, or if only a caller is refused, with
+no other plant. The status is 1 if the prover doesn't refuse a wrong body, or the script can't judge
 one.
 """
 

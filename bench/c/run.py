@@ -6,12 +6,12 @@ settings.
                                     [--callers N [N ..]] [--small] [--other LIBRARY]
 
 One process calls all of them in turn, N times over. The script prints the best wall time of each,
-and the least processor time if libargon2 has threads. libargon2 gets as many threads as lanes;
-libsodium has one lane only; ours works on the caller's thread. The run compares their tags, which
-must be equal. A library that isn't installed has an empty column. Ours clears its stack, and its
-memory before it frees that memory. --other names another librigzumal.so.1, such as one that was
-built before a
-change: the run prints the ratio of both, by the best times and by the median of the turns.
+and the least processor time if libargon2 has threads. libargon2 gets as many threads as lanes,
+libsodium has one lane only, and ours works on the caller's thread. The run compares their tags,
+which must be equal. A library that isn't installed has an empty column. Ours clears its stack, and
+its memory before it frees that memory. --other names another librigzumal.so.1, such as one that was
+built before a change: the run prints the ratio of both, by the best times and by the median of the
+turns.
 
 WHOSE chooses who gets huge pages: `own`, a library that asks for them, as ours does; `none`, as on
 a system that allows none; or `all`, by a shim before mmap and malloc's own setting. At the end the

@@ -37,8 +37,8 @@
  * The caller must meet these conditions:
  * - A pointer with a size reaches that many bytes. The pointer may be null if the size is 0, and
  *   some calls accept a null salt. Any other null input with a size over 0 is a fault,
- *   NULL_PASSWORD to NULL_ASSOCIATED, so a secret that failed to load makes no record and checks
- *   none. Other pointers are never null.
+ *   NULL_PASSWORD to NULL_ASSOCIATED. A secret that failed to load therefore makes no record and
+ *   checks none. Other pointers are never null.
  * - The output of a call doesn't overlap its inputs.
  * - The stack has RIGZUMAL_STACK_SIZE bytes left below the call: threads with a stack of 32 KiB may
  *   call. The memory of a hash is not on the stack, whatever its costs.
@@ -149,8 +149,8 @@ const char *rigzumal_version(void);
  * and clears the memory of the next call again, which takes longer. */
 size_t rigzumal_trim(void);
 
-/* Bounds the bytes that the library keeps from now on, in whole huge pages of 2 MiB: 0 keeps none,
- * and 134217728 keeps the table of RIGZUMAL_SCRYPT_COSTS, or the memory of two callers at once with
+/* Bounds the bytes that the library keeps from now on, in whole huge pages of 2 MiB. 0 keeps none.
+ * 134217728 keeps the table of RIGZUMAL_SCRYPT_COSTS, or the memory of two callers at once with
  * RIGZUMAL_ARGON2_COSTS. The call releases the kept memory, and returns the old bound. The first
  * bound is RIGZUMAL_KEEP of the environment, or 64 MiB. */
 size_t rigzumal_keep(size_t most);
@@ -217,7 +217,7 @@ struct rigzumal_parts {
 int rigzumal_parts(struct rigzumal_parts *parts, const char *text) RIGZUMAL_CHECK_ANSWER;
 
 /* Whether a record needs a rehash: OTHER_COSTS if its scheme, its costs, or the sizes of its salt
- * and tag differ from a new one's, otherwise OK. Rehash after a right login, when you have the
+ * and tag differ from a new record's, otherwise OK. Rehash after a right login, when you have the
  * password. If the costs have a salt, salt_size is 0.
  * Faults: SHAPE to TOO_LONG, of the record, and then of the costs. */
 int rigzumal_needs_rehash(const char *record, const char *costs, size_t salt_size,
@@ -267,14 +267,14 @@ enum rigzumal_reply {
  * Let the store update a row only if the row still has the copy, and compare the copy and write the
  * record in one step. The replies are then those of one history, in which each whole operation
  * happens at its update. This also holds beside other changes that compare the row with a copy and
- * write the row in one step: a reset, a record of another scheme, or a new row, whose copy is no
- * row. If an update changes no row, answer CHANGED, or begin again with the row's record. For a
- * reply that makes no change, read the row again instead of the update, and compare the row with
+ * write the row in one step, such as a reset, a record of another scheme, or a new row, whose copy
+ * is no row. If an update changes no row, answer CHANGED, or begin again with the row's record. For
+ * a reply that makes no change, read the row again instead of the update, and compare the row with
  * the copy.
  *
  * copy is the record's text, or null if the account has none. password is the new password of an
- * ENROL, and otherwise the judged one. A CHANGE reads new_password; an ENROL, a CHANGE and an
- * UPGRADE read setting, which is costs with a fresh salt; for other operations these may be null. A
+ * ENROL, and otherwise the judged one. Only a CHANGE reads new_password. Only an ENROL, a CHANGE
+ * and an UPGRADE read setting, which is costs with a fresh salt. Other operations accept null. A
  * new tag has 32 bytes. With OK, reply is one of rigzumal_reply. After ENROLLED, REPLACED and
  * UPGRADED text is the new record; otherwise text is empty, and text_size may be 0. A step refuses
  * a password of over 256 bytes; rigzumal_check accepts one of any size. Faults, in this order:
@@ -320,7 +320,7 @@ int rigzumal_scrypt(void *key, size_t key_size, const struct rigzumal_scrypt *nu
                     const void *password, size_t password_size, const void *salt,
                     size_t salt_size) RIGZUMAL_CHECK_ANSWER;
 
-/* The calls below answer like those of the same names without _threads, but up to `threads` threads
+/* The calls below answer like those of the same names without _threads. Up to `threads` threads
  * work the lanes of Argon2, the caller's among them; 0 means 1. The call uses at most one thread
  * for each lane, and for each processor that the caller may run on. Below 4 MiB of memory, and for
  * scrypt, the call uses only one. If the system refuses a thread, the others do its work. The

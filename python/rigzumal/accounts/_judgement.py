@@ -64,8 +64,8 @@ class Passwords:
     def new(self, password: Secret) -> bytes:
         """Returns the bytes of a new password.
 
-        Raises TypeError if the password is neither bytes nor text, and ValueError if it is too
-        short or too long, if UTF-8 can't encode it, or if `prepare` refuses it.
+        Raises TypeError if the password is neither bytes nor text. Raises ValueError for a length
+        out of bounds, for a text that UTF-8 can't encode, and if `prepare` refuses the password.
         """
         made = self._prepared(bytes_of_password(password))
         if len(made.decode(errors="replace")) < self.least_length:

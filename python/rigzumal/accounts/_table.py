@@ -109,8 +109,8 @@ class Table:
     def _is_of_one_statement(self, worked: Worked) -> bool:
         """Whether one statement can write the change, if the engine has such a statement.
 
-        If a record is added or removed, the row doesn't show afterwards who changed it. The library
-        must therefore know whether a connection broke before COMMIT.
+        If a change adds or removes a record, the row doesn't show afterwards who changed it. The
+        library must therefore know whether a connection broke before COMMIT.
         """
         copy, after = worked.ticket.copy, worked.after
         both = isinstance(copy, str) and isinstance(after, str)

@@ -60,7 +60,8 @@ def check_connect(connect: object, of: str) -> None:
 
 
 def lent(pool: Any, enter: str) -> Any:
-    """Returns the context manager of a pool's connection, and raises TypeError if it lacks `enter`.
+    """Returns the context manager of a pool's connection, and raises TypeError if the manager lacks
+    `enter`.
 
     A connection of psycopg or sqlite3 is also a context manager, but its exit doesn't close the
     connection.

@@ -113,8 +113,7 @@ async def serve_clients(service: Service) -> None:
 
 async def notify_once_answered(book: Book, beat: float) -> None:
     """Waits for the book's answer to a line. Reports to systemd that the server is alive when the
-    answer has arrived, and at each interval before that during which an import has the book's
-    file."""
+    answer has arrived, and meanwhile at each interval in which an import has the book's file."""
     answer = book.ask(b"show", b"-")
     while not answer.done():
         await asyncio.wait([answer], timeout=beat)

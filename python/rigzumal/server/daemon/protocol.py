@@ -192,9 +192,9 @@ class Command:
 class Operation:
     """An operation that a line requests, and its cost for the book.
 
-    Its fields are called NAME, OTHER (a new name), PW (the present password, so that the line may
-    be a guess), NEW (a new password), RECORD, SETTING (costs and a salt, which a line may lack),
-    FROM and COUNT (of a page), SIZE.
+    Its fields are NAME, OTHER (a new name), PW (the present password), NEW (a new password),
+    RECORD, SETTING (costs and a salt), FROM and COUNT (of a page), and SIZE. A line with PW may be
+    a guess. A line may lack SETTING.
     """
 
     fields: str = "NAME"

@@ -87,7 +87,8 @@ class Server:
         return self.copy_result(self.ask(operation), output)
 
     def run_with(self, text: bytes, *words: str) -> int:
-        """Requests an operation of credkeep that reads a text; standard output gets the answer."""
+        """Requests an operation of credkeep that reads a text, and copies the answer to standard
+        output."""
         self.socket.settimeout(None)
         said = self.ask(*words)
         if said != f"send {len(text)}":
