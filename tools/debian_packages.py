@@ -96,19 +96,19 @@ def install(names: list[str]) -> str:
 
 def main() -> int:
     if shutil.which("dpkg-query") is None or shutil.which("apt-get") is None:
-        print("packages: this isn't Debian: tests skip by name what they lack")
+        print("packages: this isn't Debian: tests without their packages skip themselves by name")
         return 0
     names = missing()
     if not names:
         return 0
     if os.getuid() or os.environ.get("INSTALL") == "no":
-        print(f"packages: not installed, so their tests are skipped: {' '.join(names)}")
+        print(f"packages: not installed, so their tests skip themselves: {' '.join(names)}")
         return 0
     print(f"packages: installing {len(names)} of tools/debian-packages.txt", flush=True)
     if fault := install(names):
         print(f"packages: {fault[-2000:]}")
     if left := missing():
-        print(f"packages: not available, so their tests are skipped: {' '.join(left)}")
+        print(f"packages: not available, so their tests skip themselves: {' '.join(left)}")
     return 0
 
 

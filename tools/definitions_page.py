@@ -168,7 +168,7 @@ def main() -> int:
         PAGE.write_text(printed(source(PAGE)))
         return 0
     wrong = [it for it in check() if it]
-    print("\n".join(wrong) or "docs/DEFINITIONS.md has the definitions as they are")
+    print("\n".join(wrong) or "docs/DEFINITIONS.md has the definitions of specs/")
     return 1 if wrong else 0
 
 

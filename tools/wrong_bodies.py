@@ -193,7 +193,7 @@ class Trial:
             say(f"{edit}: refused, in {edit.function}: {verdict}")
         else:
             errors = (it for it in output.splitlines() if re.search(r"\berror[:\[]", it))
-            why = next(errors, "it is proved with it")
+            why = next(errors, "the prover proves the changed function")
             say(f"{edit}: NOT REFUSED, in {edit.function}: {why}")
 
     def try_group(self, bench, seed, group, planted):
@@ -299,7 +299,7 @@ class Trial:
         for name, it in self.crates.items():
             if it.exception():
                 self.failed.append(name)
-                say(f"{name}: its wrong bodies weren't tried: {it.exception()}")
+                say(f"{name}: the script couldn't try its wrong bodies: {it.exception()}")
         for it in self.failed:
             say(f"NOT REFUSED: {it}")
         say(f"wrong bodies: {len(self.refused)} refused, {len(self.failed)} not")

@@ -218,7 +218,7 @@ int rigzumal_parts(struct rigzumal_parts *parts, const char *text) RIGZUMAL_CHEC
 
 /* Whether a record needs a rehash: OTHER_COSTS if its scheme, its costs, or the sizes of its salt
  * and tag differ from a new record's, otherwise OK. Rehash after a right login, when you have the
- * password. If the costs have a salt, salt_size is 0.
+ * password. If the costs have a salt, pass 0 as salt_size.
  * Faults: SHAPE to TOO_LONG, of the record, and then of the costs. */
 int rigzumal_needs_rehash(const char *record, const char *costs, size_t salt_size,
                           size_t tag_size) RIGZUMAL_CHECK_ANSWER;

@@ -41,8 +41,8 @@ def _target(text: str) -> float:
 def _words() -> argparse.ArgumentParser:
     words = Words(
         prog="python3 -m rigzumal",
-        description="Hashes and verifies a password, which it asks for at a terminal"
-        " and otherwise reads from standard input.",
+        description="Hashes and verifies a password. The command asks for the password at a"
+        " terminal, and otherwise reads it from standard input.",
     )
     words.add_argument("--version", action="version", version=_library.version())
     commands = words.add_subparsers(dest="command", required=True)

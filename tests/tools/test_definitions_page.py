@@ -98,7 +98,7 @@ abbrev pub limit : ℕ
 limit = 64
 ```
 """
-AS_THEY_ARE = ["docs/DEFINITIONS.md has the definitions as they are"]
+AS_THEY_ARE = ["docs/DEFINITIONS.md has the definitions of specs/"]
 ANEW = "differs from specs/: `python3 tools/definitions_page.py --write` corrects it"
 
 

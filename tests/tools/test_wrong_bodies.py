@@ -110,7 +110,10 @@ class WrongBodies(Case):
                 self.assertEqual(self.tried()[1], self.refused("one"))
 
     @each(
-        ("file: src/lib.rt\nold: { 2 }\nnew: { 1 + 1 }\n", "it is proved with it"),
+        (
+            "file: src/lib.rt\nold: { 2 }\nnew: { 1 + 1 }\n",
+            "the prover proves the changed function",
+        ),
         ("old: { 2 }\nnew: { wrong }\n", "doesn't have the old text exactly once"),
         ("old: { 5 }\nnew: { wrong }\n", "doesn't have the old text exactly once"),
         (

@@ -45,7 +45,7 @@ class Accounts(Operations[Pool]):
             stores nothing.
         upgrade_from: costs such as "$argon2i$v=19$m=65536,t=3,p=4" that an upgrade replaces even if
             the new costs aren't higher.
-        tries: how often to try an operation whose commit finds a different record; 1 or more.
+        tries: the most tries of an operation whose commit finds a different record; 1 or more.
         patience: the seconds to wait for a new connection, a busy server, or a lost answer; 0 or
             more. This limit doesn't end a statement that hangs, or a pool's wait for a connection:
             set separate limits of some seconds for both.
@@ -250,7 +250,8 @@ def _awaited(
 class AsyncAccounts(Operations[AsyncPool]):
     """`Accounts` with coroutines, over psycopg's AsyncConnection.
 
-    Arguments, replies and exceptions are the same; `also` and `foreign` may be coroutine functions.
+    Arguments, replies and exceptions are as in `Accounts`. `also` and `foreign` may be coroutine
+    functions.
     Hashes, and a `foreign` that is a plain function, run in threads of the executor, so that other
     tasks continue. If a task is cancelled during a change, the change may or may not be stored, as
     after `OutcomeUnknown`.

@@ -167,7 +167,8 @@ class Table:
         return await self._undone(session, caught)
 
     async def _answer(self, session: Session, worked: Worked, also: Hook) -> Answer:
-        """Calls a caller's hook with the reply, and then compares the record and writes the change.
+        """Calls a caller's hook with the reply, compares the record with the copy, and writes the
+        change.
 
         The transaction locks the row during the hook. The method writes the record last, so that it
         writes nothing if the hook has ended the transaction.

@@ -126,7 +126,7 @@ def backends(**_: Any) -> Messages:
     for backend in found:
         if issubclass(backend, ModelBackend) and not issubclass(backend, judging_none):
             text = f"{_path(backend)} upgrades records at login without a comparison."
-            hint = "Remove it, or derive it from CompareAndSetBackend."
+            hint = "Remove this backend, or derive it from CompareAndSetBackend."
             yield _message("W002", text, hint)
 
 

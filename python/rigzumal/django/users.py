@@ -179,7 +179,7 @@ del CompareAndSetMixin.Meta
 def make_comparing(model: Any) -> None:
     """Puts the mixin before a model's bases, as if the model's source had it there.
 
-    If RIGZUMAL_USER_COMPARES is True, the app calls this for the user model.
+    If RIGZUMAL_USER_COMPARES is True, the app calls this function for the user model.
     """
     if not issubclass(model, CompareAndSetMixin):
         model.__bases__ = (CompareAndSetMixin, *model.__bases__)

@@ -18,11 +18,11 @@ LONGEST_WRITTEN: Final = 152  # bytes of a record of accounts, with the longest 
 NOT_NULL: Final = "record-not-null"
 CRASH_LOSES: Final = "a crash loses acknowledged changes"
 POWER_CUT_LOSES: Final = "a power cut loses acknowledged changes"
-ANOTHER_RECORD: Final = "the row's record differs from the one that was written"
+ANOTHER_RECORD: Final = "the row's record differs from the one that the UPDATE wrote"
 NO_TRANSACTION: Final = "no transaction is open on the connection"
 LEFT_OPEN: Final = (
-    "a transaction is open on the connection: after any exception, a pool closes what it"
-    " gave out, or rolls it back"
+    "a transaction is open on the connection: after any exception, the pool must close the"
+    " connection, or roll it back"
 )
 _BIGINT: Final = 2**63
 Line = tuple[Key, str]
@@ -324,7 +324,7 @@ class Dialect:
         """
         if not nullable:
             text = f"{self.record_name} is NOT NULL: no account can be without a record"
-            yield warning(NOT_NULL, f"{text}, so `remove` is refused")
+            yield warning(NOT_NULL, f"{text}, so each `remove` fails")
         if "" in unique:
             return
         if any(self._is_of_one_case(it) for it in unique):

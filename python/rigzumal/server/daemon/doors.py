@@ -160,7 +160,7 @@ class Door:
         with suppress(OSError):
             sock.send(client.no_room)
         sock.close()
-        log_seldom(client.user, "refused a connection at %s of %s, which has %d", *client.user, own)
+        log_seldom(client.user, "refused a connection at %s: %s already has %d", *client.user, own)
         service.tally.counts["refused"] += 1
         return False
 

@@ -178,5 +178,5 @@ async def end_book(book: Book, seconds: float) -> int:
         await asyncio.wait([book.ended], timeout=KILLED_SECONDS)
     if book.ended.done():
         return book.ended.result()
-    log.error("the book's process can't be killed: its disk hangs")
+    log.error("the server can't kill the book's process: its disk hangs")
     return 128 + signal.SIGKILL

@@ -73,7 +73,7 @@ ANSWERS = {
         ask=4,
     ),
     "absent": Answer(
-        "the account has no record; after `known`: it has none, or it is locked",
+        "the account has no record; after `known`: the account has none, or is locked",
         tried=ABSENT,
         reply="ABSENT",
         http=401,
@@ -99,7 +99,7 @@ ANSWERS = {
     "ok": done("OK", "the operation took effect"),
     "enrolled": done("ENROLLED", "the account has its first record"),
     "disabled": done("DISABLED", "the record is removed, and the name stays"),
-    "deleted": done("DELETED", "the name and the record are removed"),
+    "deleted": done("DELETED", "the book no longer has the name and the record"),
     "renamed": done("RENAMED", "the account has the new name"),
     "locked": done("LOCKED", "every password is wrong until `unlock`"),
     "unlocked": done("UNLOCKED", "the lock is removed, and the record counts again"),
@@ -142,8 +142,8 @@ ANSWERS = {
         ask=1,
     ),
     "unavailable": Answer(
-        "the book's process has ended, or is ending: a change may be stored or not, so check the"
-        " account",
+        "the book's process has ended, or is ending, and may or may not have stored a change: check"
+        " the account",
         ask=5,
     ),
     "bad 1 exists": refused("the book, or the file of `--foreign`, already has the name", ask=4),
