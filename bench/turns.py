@@ -19,7 +19,7 @@ def timed(work, *given):
 
 
 def rate(work, seconds, at_once):
-    """Measures calls a second of this many threads, each with one call after another."""
+    """Measures calls a second of this many threads, each of which repeats its call."""
     start = time.perf_counter()
 
     def works(_):

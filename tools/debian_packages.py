@@ -80,7 +80,7 @@ def get(*words: str) -> str:
 
 
 def known(names: list[str]) -> list[str]:
-    """Returns the packages that this Debian offers, by the fetched lists."""
+    """Returns the packages that this Debian offers, according to the fetched lists."""
     show = ["apt-cache", "show"]
     return [it for it in names if not subprocess.run([*show, it], capture_output=True).returncode]
 

@@ -31,8 +31,8 @@ def library(path):
 
 
 def libsodium():
-    """Loads libsodium, which chooses its code for this processor in sodium_init, and until then
-    runs slow code for any processor."""
+    """Loads libsodium. sodium_init chooses the code for this processor; until then libsodium runs
+    slow code for any processor."""
     found = library("libsodium.so.23")
     if found is not None and found.sodium_init() < 0:
         sys.exit("libsodium can't be initialised")

@@ -70,7 +70,7 @@ SMALL = [(256, 2, 4), (1024, 2, 4), (2048, 2, 4), (4096, 2, 4), (8192, 2, 4), (1
 SCRYPT = [(14, 8, 1), (15, 8, 1), (16, 8, 1), (17, 8, 1), (14, 8, 4), (14, 1, 16)]
 WALL, CPU = 0, 1
 PAGES = {
-    "own": "Huge pages where a library asks for them",
+    "own": "Huge pages for a library that asks for them",
     "none": "No huge pages",
     "all": "Huge pages for all",
 }

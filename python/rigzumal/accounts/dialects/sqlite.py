@@ -120,8 +120,8 @@ class Sqlite(Dialect):
         return Findings(faults + [it for path in paths for it in of_disk(path)])
 
     def _others(self) -> str:
-        """Builds a query that finds records other than text in the first rows: SQLite allows them
-        in a column of any type."""
+        """Builds a query that finds records other than text in the first rows. SQLite allows such
+        records in a column of any type."""
         rows = f"SELECT typeof({self.record}) AS type FROM {self.table} LIMIT {_LOOKED_AT}"
         return f"SELECT DISTINCT type FROM ({rows}) WHERE type NOT IN ('text', 'null')"
 

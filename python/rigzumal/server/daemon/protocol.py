@@ -213,17 +213,17 @@ class Operation:
 
     @cached_property
     def names(self) -> int:
-        """The number of names among its fields, which come first."""
+        """The number of names among the operation's fields; the names come first."""
         return sum(field in ("NAME", "OTHER") for field in self.fields.split())
 
     @cached_property
     def new(self) -> int:
-        """The position of a new password among its fields; 0 if it has none."""
+        """The position of a new password among the operation's fields, or 0."""
         return self.place("NEW")
 
     @cached_property
     def setting(self) -> int:
-        """The position of a setting among its fields; 0 if it has none."""
+        """The position of a setting among the operation's fields, or 0."""
         return self.place("[SETTING]")
 
     @cached_property

@@ -31,8 +31,8 @@ class Metric:
     counts: tuple[str, ...]
 
     def lines(self, counted: dict[str, str]) -> Iterator[str]:
-        """Yields the metric in Prometheus' text format: if it has several samples, each one has its
-        answer as a label."""
+        """Yields the metric in Prometheus' text format. If the metric has several samples, each has
+        its answer as a label."""
         kind = "counter" if self.name.endswith("_total") else "gauge"
         yield f"# HELP credkeep_{self.name} {self.text}"
         yield f"# TYPE credkeep_{self.name} {kind}"
