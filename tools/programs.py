@@ -1,4 +1,4 @@
-"""The objects of the programs, as rt compiled the proved code, and how a C compiler links them.
+"""Keeps the programs' objects, which rt compiled from the proved code, and has cc link them.
 
 An object is in LEVEL/NAME.o of a folder, beside NAME.sum with the checksum of each of its sources.
 tools/build.py keeps the objects that it builds in crates/NAME/out/objects, and `make dist` packs

@@ -208,7 +208,7 @@ def user_model(**_: Any) -> Messages:
 
 
 def _outcome() -> str:
-    return "a lost write ends in an error page" if _compares() else "it may undo a change"
+    return "a late write ends in an error page" if _compares() else "it may undo a change"
 
 
 def admin_sites(**_: Any) -> Messages:

@@ -47,7 +47,7 @@ class _Comparing:
 
     @hidden_below
     def save(self: Any, commit: bool = True) -> Any:
-        """Writes the new password, unless the record was changed meanwhile."""
+        """Writes the new password, unless the record has changed meanwhile."""
         if not commit:
             fault = "the comparison writes the record"
             raise ValueError(f"{fault}: commit=False is impossible")

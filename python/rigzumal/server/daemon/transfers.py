@@ -1,6 +1,6 @@
 """Transfers of whole books through a socket: an import, an export and a backup.
 
-credkeep carries out each of them. An import needs exclusive use of the book's file: the book's
+credkeep carries out each transfer. An import needs exclusive use of the book's file: the book's
 process ends in order, lines wait, and the next process starts after the import. An export, a backup
 and a trial import use a copy, which credkeep writes beside the file while the server uses the book.
 """
