@@ -19,7 +19,7 @@ def timed(work, *given):
 
 
 def rate(work, seconds, at_once):
-    """Measures calls a second of this many threads, each with one call after another."""
+    """Measures calls a second of this many threads, each of which repeats its call."""
     start = time.perf_counter()
 
     def works(_):
@@ -49,7 +49,7 @@ def take_turns(rows, times, warm=1):
                 if turn >= warm:
                     found[row][name].append(figures)
             if len(all_made) != 1:
-                sys.exit(f"they make different ones at {row}")
+                sys.exit(f"the results of {row} differ")
     return found
 
 

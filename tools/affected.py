@@ -4,9 +4,9 @@
     python3 tools/affected.py [COMMIT]
 
 The change is the difference from COMMIT, or from the last commit, including files that aren't
-committed. Each part is printed with the command that runs it and an estimate of its minutes on this
-machine's processors, from tools/build_seconds.json and tools/job_seconds.json. The gate, `.ci/run`,
-runs all of these.
+committed. The script prints each part with the command that runs it, and estimates its minutes on
+this machine's processors, from tools/build_seconds.json and tools/job_seconds.json. The gate,
+`.ci/run`, runs all parts of the tree.
 """
 
 from __future__ import annotations

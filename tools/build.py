@@ -5,20 +5,20 @@ after `--`, if `--` is present.
     python3 tools/build.py [--cpu LEVEL] [--built] [--object] [--note] [PROGRAM] [-- WORD..]
                                                                           (PROGRAM: credbook)
 
-The program is compiled for LEVEL: x86-64, x86-64-v2 or x86-64-v3; without this option, for the
-highest level whose features this processor has. For the level arm64, Debian's gcc-aarch64-linux-gnu
-links the program, in the crate's out/arm64. If rt is missing, a C compiler links the program's
-object from c/proved/programs, which a tarball of `make dist` contains. On standard error the script
-prints every half minute, and after each library, how many libraries are proved and an estimate of
-the remaining time. Standard output contains only the program's output, and the script exits with
-the program's status. The script reuses earlier builds of unchanged sources; with --built it builds
+The script compiles the program for LEVEL: x86-64, x86-64-v2 or x86-64-v3; without this option, for
+the highest level whose features this processor has. For arm64, Debian's gcc-aarch64-linux-gnu links
+the program, in the crate's out/arm64. If rt is missing, a C compiler links the program's object
+from c/proved/programs, which a tarball of `make dist` contains. On standard error the script prints
+every half minute, and after each library, how many libraries are proved and an estimate of the
+remaining time. Standard output contains only the program's output, and the script exits with the
+program's status. The script reuses earlier builds of unchanged sources; with --built it builds
 nothing, and the status is 1 if the program isn't built for LEVEL. With --object, which `make dist`
 uses, the script builds the program again unless its object was kept (crates/NAME/out/objects). The
 time of each crate is the estimate for the next build (crates/NAME/out/seconds), and with --note
 also for those who build it first: tools/build_seconds.json, for four idle processors. `rt run`
-alone needs more time for this build: only one rt at a time may work above a library, so the script
-builds independent libraries in two copies of the sources, and copies the results back. The variable
-RT selects another rt.
+alone needs more time for this build, since only one rt at a time may work above a library. The
+script therefore builds independent libraries in two copies of the sources, and copies the results
+back. The variable RT selects another rt.
 """
 
 import argparse
@@ -105,8 +105,8 @@ class Progress:
 
     def pace(self, done):
         """Computes the ratio of a crate's time here to the estimate. The most recent times count
-        most, since the first ones of a build also prepare the needs of all crates; a minute at the
-        estimated pace precedes them."""
+        most, since the first ones of a build also prepare the needs of all crates. The sum begins
+        with a minute at the estimated pace."""
         taken = foreseen = 60
         weight = 1
         for name in reversed(done):
@@ -116,8 +116,8 @@ class Progress:
         return taken / foreseen
 
     def rest(self):
-        """Computes the seconds until all are done, AT_ONCE in parallel and each after those below
-        it, if each takes as long as estimated at the pace here."""
+        """Computes the seconds until all crates are done, AT_ONCE in parallel and each after those
+        below it, if each crate takes as long as estimated at the pace here."""
         now, done, begun = time.monotonic(), {**self.done}, {**self.running}
         pace, at = self.pace(done), 0
         left = {
@@ -228,8 +228,8 @@ def is_built(program, level):
 
 
 def best_level(program):
-    """Returns the highest level for which a program can be built and that this processor has: if rt
-    is missing, among the levels of its objects."""
+    """Returns the highest level that this processor has, among the levels for which a program can
+    be built. If rt is missing, these are the levels of its objects."""
     here = level_here()
     if has_rt():
         return here

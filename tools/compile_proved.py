@@ -62,7 +62,7 @@ def with_prefetches(text):
     """Returns the module with prefetches at the places that request a block."""
     found = EMPTY_BODY.findall(text)
     if len(found) != 1 or text.count(f'define internal void @"{PREFETCHES}"') != 1:
-        sys.exit(f"the module has {len(found)} empty functions {PREFETCHES}, and not one")
+        sys.exit(f"the module has {len(found)} empty functions {PREFETCHES} instead of one")
     lines = [f'define internal void @"{PREFETCHES}"(ptr noundef %block) alwaysinline nounwind {{']
     for at in OFFSETS:
         lines += [f"  %line{at} = getelementptr i8, ptr %block, i64 {at}"]

@@ -27,8 +27,8 @@ OPTION = re.compile(
 
 
 class Command(NamedTuple):
-    """The options in the help of a program, or of one of its commands: for each, its name, the name
-    of its value and its text."""
+    """The options in the help of a program, or of one of its commands. Each has its name, the name
+    of its value, and its text."""
 
     word: str
     text: str

@@ -4,7 +4,7 @@
     python3 tools/debian_packages.py
 
 The script needs root on Debian, starts no services of these packages, and makes no requests if
-nothing is missing. The script always exits with status 0: if a package isn't available, or if
+nothing is missing. The script always exits with status 0. If a package isn't available, or if
 INSTALL=no is in the environment, the script says so, and the tests that need the package skip
 themselves by name.
 """
@@ -80,7 +80,7 @@ def get(*words: str) -> str:
 
 
 def known(names: list[str]) -> list[str]:
-    """Returns the packages that this Debian offers, by the fetched lists."""
+    """Returns the packages that this Debian offers, according to the fetched lists."""
     show = ["apt-cache", "show"]
     return [it for it in names if not subprocess.run([*show, it], capture_output=True).returncode]
 
@@ -96,19 +96,19 @@ def install(names: list[str]) -> str:
 
 def main() -> int:
     if shutil.which("dpkg-query") is None or shutil.which("apt-get") is None:
-        print("packages: this isn't Debian: tests skip by name what they lack")
+        print("packages: this isn't Debian: tests without their packages skip themselves by name")
         return 0
     names = missing()
     if not names:
         return 0
     if os.getuid() or os.environ.get("INSTALL") == "no":
-        print(f"packages: not installed, so their tests are skipped: {' '.join(names)}")
+        print(f"packages: not installed, so their tests skip themselves: {' '.join(names)}")
         return 0
     print(f"packages: installing {len(names)} of tools/debian-packages.txt", flush=True)
     if fault := install(names):
         print(f"packages: {fault[-2000:]}")
     if left := missing():
-        print(f"packages: not available, so their tests are skipped: {' '.join(left)}")
+        print(f"packages: not available, so their tests skip themselves: {' '.join(left)}")
     return 0
 
 

@@ -1,9 +1,9 @@
 """The definitions in the crates' `specs/`, and those on which a text of antt depends.
 
-A definition is identified by its place, ("cred_many", "Served", "HasCause"): its crate, its module,
+A definition's identity is its place, ("cred_many", "Served", "HasCause"): its crate, its module,
 its name. The checksum covers the words of the text, and the sources of those names that we don't
 define. A comment, the layout, the order of imports, and the file of a definition therefore change
-nothing.
+no checksum.
 """
 
 from __future__ import annotations

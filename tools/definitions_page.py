@@ -8,10 +8,10 @@ A line of the page requests the block of text after it:
     <!-- definitions of CRATE.MODULE.NAME, .. up to CRATE.MODULE.NAME, .. -->
 
 A block contains the definitions that the line names first, and all of our definitions on which they
-depend, each with the comment above it, in the order of their first mention. The definitions after
-`up to` are its chapters: they come last, without those on which they depend. A block doesn't repeat
-the definitions of earlier blocks. A block ends with the names of code and of the toolchain's
-libraries that it uses, except those of Rattle.std.specs.Prelude.
+depend. Each has the comment above it, and their order is that of their first mention. The
+definitions after `up to` are its chapters: they come last, without those on which they depend. A
+block doesn't repeat the definitions of earlier blocks. A block ends with the names of code and of
+the toolchain's libraries that it uses, except those of Rattle.std.specs.Prelude.
 
 --write prints the blocks again. Without --write the tool lists the blocks that differ from the
 tree, and the status is 1 if any differs.
@@ -84,7 +84,7 @@ class Printer:
     def place(self, name: str) -> Place:
         place = (*name.strip().split("."),)
         if place not in self.texts:
-            raise LookupError(f"the definition {name.strip()} isn't there")
+            raise LookupError(f"no file of specs/ has the definition {name.strip()}")
         return place
 
     def named_in(self, place: Place) -> Iterator[Place]:
@@ -136,7 +136,7 @@ class Printer:
 
 
 def printed(page: str) -> str:
-    """Returns a page with each of its blocks as in the tree."""
+    """Returns the page, with the text of each block printed again from the files of specs/."""
     printer = Printer()
 
     def block(found: re.Match[str]) -> str:
@@ -168,7 +168,7 @@ def main() -> int:
         PAGE.write_text(printed(source(PAGE)))
         return 0
     wrong = [it for it in check() if it]
-    print("\n".join(wrong) or "docs/DEFINITIONS.md has the definitions as they are")
+    print("\n".join(wrong) or "docs/DEFINITIONS.md has the definitions of specs/")
     return 1 if wrong else 0
 
 

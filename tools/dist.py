@@ -3,8 +3,8 @@
 
     python3 tools/dist.py
 
-The tarball contains each committed file, the objects of the programs that tools/build.py --object
-kept (see tools/programs.py), and a list of its compiled code with the licences. Without rt, a C
+The tarball contains each committed file, the objects of programs that tools/build.py --object kept
+(see tools/programs.py), and a list of its compiled code with the licences. Without rt, a C
 compiler, make and Python can build and install the tarball. One commit and its objects always give
 the same bytes, wherever, whenever and by whomever they are packed.
 """

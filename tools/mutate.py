@@ -1,6 +1,6 @@
 #!/usr/bin/env python3
-"""Changes a file in one place at a time, runs tests, and prints each change that the tests let
-through.
+"""Changes a file in one place at a time, runs tests, and prints each change that no test
+refuses.
 
     python3 tools/mutate.py FILE [--sample N] [--seed S] [--jobs N] [--limit SECONDS]
                                  [--build COMMAND] --tests COMMAND..
@@ -13,7 +13,7 @@ the contents of its `out` folders:
     python3 tools/mutate.py c/src/base64.c --sample 40 --tests make -s -C c test
 
 Without --sample the script tries all changes. First the tests must pass in each copy, with nothing
-changed; the time limit of a mutant is five times their time, unless --limit sets another. A mutant
+changed. The time limit of a mutant is five times their time, unless --limit sets another. A mutant
 survives if its run ends in time with status 0. A mutant that Python can't compile, or that --build
 refuses (for C `make` and for Rust `cargo test --no-run` in the nearest folder with a Makefile or
 Cargo.toml), doesn't count as refused. The status is 1 if the tests fail with nothing changed, and

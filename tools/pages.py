@@ -5,7 +5,7 @@
 
 The tool compares the figures, times, versions and places that pages name, their links and pictures,
 the code that they include from files, the names in docs/PROMISES.md and docs/PLANTED.md, and the
-promises in docs/STATEMENTS.txt: each check below says what it compares. Each link must lead to a
+promises in docs/STATEMENTS.txt. Each check below says what it compares. Each link must lead to a
 file, and each picture must have a text for readers who can't see it.
 
 Without rt the tool omits the checks that need the toolchain, and says so on a line. The last line
@@ -117,7 +117,7 @@ def house() -> Facts:
         "lines that tools/english.txt finds": found_in_english(),
     }
     for what, count in counts.items():
-        wrong = f"{count} {what}, and {MOST[what]} at most are wanted"
+        wrong = f"{count} {what}: the limit is {MOST[what]}"
         yield wrong if count > MOST[what] else None
 
 
@@ -180,8 +180,8 @@ def stands(place: str) -> bool:
 
 
 def planted() -> Facts:
-    """Checks the wrong bodies in docs/PLANTED.md: the third column of its tables names the place of
-    each in the gate, or the tests that refuse it."""
+    """Checks the wrong bodies in docs/PLANTED.md. The third column of its tables names the place of
+    each wrong body in the gate, or the tests that refuse that body."""
     page = (TOP / "docs/PLANTED.md").read_text()
     rows = re.findall(r"^\| .*", re.sub(r"^\| .*\n\|-.*\n", "", page, flags=re.M), re.M)
     yield None if rows else "docs/PLANTED.md has no table of named wrong bodies"
@@ -247,7 +247,7 @@ def plain(code: str) -> str:
 
 
 def callers(page: pathlib.Path) -> Facts:
-    """Checks code after a line `<!-- from FILE -->`: the file must contain the code word for word,
+    """Checks code after a line `<!-- from FILE -->`. The file must contain the code word for word,
     except for the part that a line of two dots omits."""
     form = r"^<!-- from (\S+) -->\n```\w+\n(.*?)^```$"
     for name, code in re.findall(form, page.read_text(), re.S | re.M):

@@ -39,7 +39,8 @@ def looked_at(ending, word, kib):
     [test] = tests_of("hash_tests", ending)
     done, counted = counts(test)
     found = counted.get(word, 0)
-    print(f"hash_tests {test[1]}: {kib} KiB wanted, {found / 1024:.0f} KiB {HOW[word]}", flush=True)
+    said = f"{kib} KiB expected, {found / 1024:.0f} KiB {HOW[word]}"
+    print(f"hash_tests {test[1]}: {said}", flush=True)
     is_well = done.status == 0 and 1024 * kib <= found <= 1024 * (kib + SOME_KIB)
     return None if is_well else f"hash_tests {test[1]}: FAILED"
 

@@ -1,4 +1,4 @@
-"""The objects of the programs, as rt compiled the proved code, and how a C compiler links them.
+"""Keeps the programs' objects, which rt compiled from the proved code, and has cc link them.
 
 An object is in LEVEL/NAME.o of a folder, beside NAME.sum with the checksum of each of its sources.
 tools/build.py keeps the objects that it builds in crates/NAME/out/objects, and `make dist` packs
@@ -94,7 +94,7 @@ def link_packed(program, level, built):
         )
     if other := other_source(program, level, PACKED):
         raise SystemExit(
-            f"{program}: its object in {PACKED.relative_to(TOP)} was compiled from other sources "
-            f"({other} differs), and only the toolchain's rt compiles them, which isn't published"
+            f"{program}: its object in {PACKED.relative_to(TOP)} is from other sources ({other} "
+            "differs); only the toolchain's rt, which isn't published, compiles the present ones"
         )
     link(PACKED / level / f"{program}.o", built, level)

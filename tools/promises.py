@@ -3,12 +3,13 @@
 
     python3 tools/promises.py
 
-Each call is named by its path, `cred_argon::argon::argon2` (`input_len`, `err`): the function must
-be in that file, within the type that the path names, if it names one. Its contract must have the
-clauses in brackets, or be a record of specs/ with these fields. Each test `CRATE::TEST`, each file,
-and each definition that a file "has" must exist. The list of trusted code must contain each crate
-of the toolchain that our crates use, and no others. No table cell may have over 120 characters. The
-last line is `N passed, M failed`, and the status is 1 if anything failed."""
+The page names a call by its path, `cred_argon::argon::argon2` (`input_len`, `err`). The function
+must be in that file, within the type that the path names, if it names one. Its contract must have
+the clauses in brackets, or be a record of specs/ with these fields. Each test `CRATE::TEST`, each
+file, and each definition that a file "has" must exist. The list of trusted code must contain each
+crate of the toolchain that our crates use, and no others. No table cell may have over 120
+characters. The last line is `N passed, M failed`, and the status is 1 if anything failed.
+"""
 
 import fnmatch
 import re

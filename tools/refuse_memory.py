@@ -5,12 +5,12 @@ on.
     python3 tools/refuse_memory.py [CRATE [WORD]]
 
 The script runs the tests with the word in their names, `::refused` by default, in the program that
-`rt test` or `rt ci` built last (crates/CRATE/out/CRATE_tests); without a crate, in those of all
-test crates. Each test runs with its Nth memory request refused, for N from 1 to the first N that
-refuses nothing. A line for each test has the number of refused requests, and the numbers at which
-the test failed; the last line is `N passed, M failed`. `rt try --test --fail-alloc N` refuses
-memory for a single N, and builds each time. The script needs only the toolchain, whose compiler
-builds the shim that refuses memory.
+`rt test` or `rt ci` built last (crates/CRATE/out/CRATE_tests). Without a crate, the script runs
+those of all test crates. Each test runs with its Nth memory request refused, for N from 1 to the
+first N that refuses nothing. A line for each test has the number of refused requests, and the
+numbers at which the test failed; the last line is `N passed, M failed`. `rt try --test --fail-alloc
+N` refuses memory for a single N, and builds each time. The script needs only the toolchain, whose
+compiler builds the shim that refuses memory.
 """
 
 import pathlib

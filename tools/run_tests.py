@@ -3,7 +3,7 @@
 
     python3 tools/run_tests.py [--long] [--note] [--first] [WORD..]
 
-The script runs the jobs of tools/jobs.py that have one of the words in their names: each test
+The script runs the jobs of tools/jobs.py that have one of the words in their names. Each test
 module is a separate process, and so are some tools. Meanwhile `make` builds the library and the PAM
 module from the proved code, or from c/proved if rt is missing, and the jobs that need them wait.
 The script prints the output of failed jobs. Every half minute a line lists the running jobs. A test
@@ -126,7 +126,7 @@ class Done:
             self.is_whole = True
             return
         if word == "skipped" and not needs.excuse(reason):
-            self.output += f"{name}: skipped, and nothing of that is missing: {reason}\n"
+            self.output += f"{name}: skipped, though this machine lacks nothing of that: {reason}\n"
             word, reason = "failed", ""
         if self.tests.get(name) != "failed":
             self.tests[name] = f"{word} {reason}".strip()

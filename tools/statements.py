@@ -23,8 +23,8 @@ no `mod` names, and an attribute that may hide an item, such as a condition othe
 
 A comment, the layout, the order of imports, a proof, a different body, or the file of an item
 changes no line. Renaming a bound variable or a definition does change lines, since the script
-compares words. No line shows the toolchain's own definitions, which its logic identifies; private
-parts of a type, or the crates of tests and examples, which promise nothing.
+compares words. No line shows the toolchain's own definitions, which its logic identifies. Private
+parts of a type have no line, nor have the crates of tests and examples, which promise nothing.
 
 --write writes the file again. Without --write the script prints the names whose lines differ, and
 the status is 1 if any differs.
@@ -299,8 +299,8 @@ def check() -> list[str | None]:
         return [f"docs/STATEMENTS.txt: {wrong}"]
     if not found:
         return [None]
-    count = "1 promise isn't" if len(found) == 1 else f"{len(found)} promises aren't"
-    told = f"{count} as in docs/STATEMENTS.txt: if you mean that, `{WRITE}` brings it up to date"
+    count = "1 promise differs" if len(found) == 1 else f"{len(found)} promises differ"
+    told = f"{count} from docs/STATEMENTS.txt: if you mean that, run `{WRITE}`"
     return ["\n".join([*found, told])]
 
 

@@ -5,21 +5,22 @@ function that it changes.
     python3 tools/wrong_bodies.py [--all] [CRATE..] [-- COMMAND..]
 
 A wrong body is crates/CRATE/wrong-bodies/NAME.edit. A line `fn: PATH` names the function that the
-prover must refuse. Pairs of lines `old: TEXT`, `new: TEXT` change it: the old TEXT, one line,
-occurs once in one file of the crate, or in the file that a line `file: PATH` before them names.
+prover must refuse. Pairs of lines `old: TEXT`, `new: TEXT` change that function. The old TEXT, one
+line, occurs once in one file of the crate, or in the file that a line `file: PATH` before them
+names.
 
 The script tries the wrong bodies that the first table of docs/PLANTED.md names, and all those of
-each crate that differs from tools/wrong_bodies.sums: in its files, its wrong bodies, or what it can
-cite from the crates below. With --all it tries all, and with a CRATE all of that crate. The sums
-file gets the line of each crate whose wrong bodies were all tried and refused. COMMAND, `rt ci`,
-runs in parallel: a crate's turn comes when COMMAND has proved the crate. Without a COMMAND the
-libraries below are those that `rt lib` builds.
+each crate that differs from tools/wrong_bodies.sums. A crate differs in its files, its wrong
+bodies, or the items that it can cite from the crates below. With --all the script tries all, and
+with a CRATE all of that crate. The sums file gets the line of each crate whose wrong bodies were
+all tried and refused. COMMAND, `rt ci`, runs in parallel: a crate's turn comes when COMMAND has
+proved the crate. Without a COMMAND the libraries below are those that `rt lib` builds.
 
 The script first proves the unchanged functions, and reuses what `rt check` kept in the crate's
-out/, or an earlier run in .git/wrong-bodies. Then the prover must refuse each wrong body at a goal:
-the search doesn't prove the goal, or its written answer is no longer a proof. A refusal is weaker
-evidence if an answer only names what the edit removed, or if only a caller is refused, with no
-other plant. The status is 1 if the prover doesn't refuse a wrong body, or the script can't judge
+out/, or an earlier run in .git/wrong-bodies. Then the prover must refuse each wrong body at a goal.
+At this goal the search finds no proof, or the written answer is no longer a proof. A refusal is
+weaker evidence if an answer only names what the edit removed, or if only a caller is refused, with
+no other plant. The status is 1 if the prover doesn't refuse a wrong body, or the script can't judge
 one.
 """
 
@@ -42,7 +43,7 @@ from wrong_body import Edit, groups
 SUMS = TOP / "tools/wrong_bodies.sums"
 EVERY = 30
 BYTES_OF_A_CHECK = 3 << 30
-NOT_ONCE = "its old text isn't in its file once, or the new one is the same"
+NOT_ONCE = "its file doesn't have the old text exactly once, or the new text is the same"
 PROVED = re.compile(r"rt: (\w+) (?:proved|is kept)\b")
 
 
@@ -192,7 +193,7 @@ class Trial:
             say(f"{edit}: refused, in {edit.function}: {verdict}")
         else:
             errors = (it for it in output.splitlines() if re.search(r"\berror[:\[]", it))
-            why = next(errors, "it is proved with it")
+            why = next(errors, "the prover proves the changed function")
             say(f"{edit}: NOT REFUSED, in {edit.function}: {why}")
 
     def try_group(self, bench, seed, group, planted):
@@ -298,7 +299,7 @@ class Trial:
         for name, it in self.crates.items():
             if it.exception():
                 self.failed.append(name)
-                say(f"{name}: its wrong bodies weren't tried: {it.exception()}")
+                say(f"{name}: the script couldn't try its wrong bodies: {it.exception()}")
         for it in self.failed:
             say(f"NOT REFUSED: {it}")
         say(f"wrong bodies: {len(self.refused)} refused, {len(self.failed)} not")

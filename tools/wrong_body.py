@@ -64,8 +64,8 @@ class Edit:
         return True
 
     def judge(self, output):
-        """Returns the goal at which a check refuses its function, False if the function is proved,
-        or None if the function waits for the proof of another."""
+        """Returns the goal at which a check refuses the edit's function. Returns False if the
+        function is proved, or None if the function waits for the proof of another."""
         name = re.escape(f"{self.crate}::{self.function}")
         # the lines above its own, up to another function's, and the check's words about it
         line = re.search(rf"((?:^(?!fn ).*\n)*)^fn {name}: (.*)", output, re.M)

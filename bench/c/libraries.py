@@ -31,8 +31,8 @@ def library(path):
 
 
 def libsodium():
-    """Loads libsodium, which chooses its code for this processor in sodium_init, and until then
-    runs slow code for any processor."""
+    """Loads libsodium. sodium_init chooses the code for this processor; until then libsodium runs
+    slow code for any processor."""
     found = library("libsodium.so.23")
     if found is not None and found.sodium_init() < 0:
         sys.exit("libsodium can't be initialised")
@@ -49,7 +49,7 @@ def made(call, *given):
     """Returns the bytes that a call writes into its ROOM."""
     room = ctypes.create_string_buffer(SIZE)
     if call(*(room if it is ROOM else it for it in given)) != 0:
-        sys.exit(f"{call.__name__} refuses")
+        sys.exit(f"{call.__name__} refused its inputs")
     return room.raw
 
 

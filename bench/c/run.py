@@ -6,12 +6,12 @@ settings.
                                     [--callers N [N ..]] [--small] [--other LIBRARY]
 
 One process calls all of them in turn, N times over. The script prints the best wall time of each,
-and the least processor time if libargon2 has threads. libargon2 gets as many threads as lanes;
-libsodium has one lane only; ours works on the caller's thread. The run compares their tags, which
-must be equal. A library that isn't installed has an empty column. Ours clears its stack, and its
-memory before it frees that memory. --other names another librigzumal.so.1, such as one that was
-built before a
-change: the run prints the ratio of both, by the best times and by the median of the turns.
+and the least processor time if libargon2 has threads. libargon2 gets as many threads as lanes,
+libsodium has one lane only, and ours works on the caller's thread. The run compares their tags,
+which must be equal. A library that isn't installed has an empty column. Ours clears its stack, and
+its memory before it frees that memory. --other names another librigzumal.so.1, such as one that was
+built before a change: the run prints the ratio of both, by the best times and by the median of the
+turns.
 
 WHOSE chooses who gets huge pages: `own`, a library that asks for them, as ours does; `none`, as on
 a system that allows none; or `all`, by a shim before mmap and malloc's own setting. At the end the
@@ -70,7 +70,7 @@ SMALL = [(256, 2, 4), (1024, 2, 4), (2048, 2, 4), (4096, 2, 4), (8192, 2, 4), (1
 SCRYPT = [(14, 8, 1), (15, 8, 1), (16, 8, 1), (17, 8, 1), (14, 8, 4), (14, 1, 16)]
 WALL, CPU = 0, 1
 PAGES = {
-    "own": "Huge pages where a library asks for them",
+    "own": "Huge pages for a library that asks for them",
     "none": "No huge pages",
     "all": "Huge pages for all",
 }
@@ -300,7 +300,7 @@ def main():
     words.add_argument("--other", type=ctypes.CDLL, metavar="LIBRARY")
     asked = words.parse_args()
     if asked.small and not asked.callers:
-        words.error("--small goes with --callers")
+        words.error("--small needs --callers")
     before = os.getloadavg()[0]
     have_pages(asked.pages)
     print(f"{PAGES[asked.pages]}.\n")

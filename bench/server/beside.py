@@ -1,5 +1,5 @@
 #!/usr/bin/python3
-"""Times credkeep-server over credkeep beside those of another tree, such as an earlier version.
+"""Times this tree's credkeep-server beside another tree's, such as that of an earlier version.
 
     /usr/bin/python3 bench/server/beside.py OTHER [--seconds S] [--turns N] [--clients N [N ..]]
                                             [--accounts N] [--setting COSTS]
@@ -7,9 +7,9 @@
 OTHER is the top of a checkout with its built credkeep. Both servers run, and take turns. The script
 prints verifies and changes a second for each number of clients. Each client has its own account,
 and sends a line after each answer. Then the script prints the seconds of a start over this many
-accounts, from the server's process to its first answer. A figure is the best turn's; the ratios are
+accounts, from the server's process to its first answer. A figure is the best turn's. The ratios are
 of this tree over the other one, by the best turns and as the median of the turns. The files are in
-TMPDIR: changes include the syncs of that disk. Run it on a machine that does nothing else.
+TMPDIR: changes include the syncs of that disk. Run this script on a machine that does nothing else.
 """
 
 import argparse

@@ -3,11 +3,11 @@
 
     /usr/bin/python3 bench/server/run.py [--seconds S] [--clients N [N ..]] [--fast]
 
-The script measures 64 MiB and 4 MiB (Argon2id, t=1, p=1) and 1, 4 and 16 clients: verifies a second
-at the socket, each client with a connection that it keeps; through pam_rigzumal, each login with
-its own connection; and through pam_unix with yescrypt at its default costs. The script needs root,
-the built credkeep, libpam0g-dev and pamtester, and runs in its own namespaces. `--fast` uses the
-tests' book, whose hashes cost nothing: the rest is the time of the path. Run it on a machine that
+The script measures verifies a second with 64 MiB and 4 MiB (Argon2id, t=1, p=1), for 1, 4 and 16
+clients. At the socket, each client keeps its connection. Through pam_rigzumal, each login has its
+own connection. pam_unix uses yescrypt at its default costs. The script needs root, the built
+credkeep, libpam0g-dev and pamtester, and runs in its own namespaces. `--fast` uses the tests' book,
+whose hashes cost nothing, so the figures show the path alone. Run this script on a machine that
 does nothing else.
 """
 

@@ -17,14 +17,14 @@
  *     }
  *
  * Every call returns RIGZUMAL_OK or the number of a fault, and writes no output after a fault. All
- * sizes are in bytes, except those of a memory cost. Strings end with a zero byte.
+ * sizes are in bytes, except memory costs, which are in KiB. Strings end with a zero byte.
  *
  * Any number of threads may call at the same time. Each call works only on its own thread, except
  * for the calls at the end, with which several threads may work the lanes of one tag. After a call
- * the library keeps only cleared memory, for the next calls: as much as calls used at one time, and
- * at most 64 MiB or the bound of rigzumal_keep or of RIGZUMAL_KEEP in the environment. Tools count
- * this memory as the process's own until the system is short of memory and reclaims it;
- * rigzumal_trim returns it at once.
+ * the library keeps only cleared memory, for the next calls: as much as calls used at one time. The
+ * bound is 64 MiB, or that of rigzumal_keep, or that of RIGZUMAL_KEEP in the environment.
+ * Tools count this memory as the process's own until the system is short of memory and reclaims it;
+ * rigzumal_trim returns this memory at once.
  *
  * A call clears its memory before it frees or keeps it. At its end the call clears 22 KiB of the
  * stack below it and all vector registers of the processor. Blocks of 64 KiB and more are in no
@@ -35,10 +35,10 @@
  * registers. The library for ARM64 is one build for any such processor.
  *
  * The caller must meet these conditions:
- * - A pointer with a size reaches that many bytes; it may be null if the size is 0, and so may a
- *   salt of some calls. Any other null input with a size over 0 is a fault, NULL_PASSWORD to
- *   NULL_ASSOCIATED, so a secret that failed to load makes no record and checks none. Other
- *   pointers are never null.
+ * - A pointer with a size reaches that many bytes. The pointer may be null if the size is 0, and
+ *   some calls accept a null salt. Any other null input with a size over 0 is a fault,
+ *   NULL_PASSWORD to NULL_ASSOCIATED. A secret that failed to load therefore makes no record and
+ *   checks none. Other pointers are never null.
  * - The output of a call doesn't overlap its inputs.
  * - The stack has RIGZUMAL_STACK_SIZE bytes left below the call: threads with a stack of 32 KiB may
  *   call. The memory of a hash is not on the stack, whatever its costs.
@@ -94,7 +94,7 @@ enum rigzumal_scheme {
 /* The versions of Argon2. For new records use 0x13, which records write as v=19. */
 enum rigzumal_argon2_version { RIGZUMAL_VERSION_10 = 0x10, RIGZUMAL_VERSION_13 = 0x13 };
 
-/* Costs for rigzumal_record. RFC 9106's second recommendation, 64 MiB; and scrypt with 128 MiB. */
+/* Costs for rigzumal_record: RFC 9106's second recommendation, 64 MiB; or scrypt with 128 MiB. */
 #define RIGZUMAL_ARGON2_COSTS "$argon2id$v=19$m=65536,t=3,p=4"
 #define RIGZUMAL_SCRYPT_COSTS "$scrypt$ln=17,r=8,p=1"
 
@@ -136,7 +136,7 @@ enum rigzumal_fault {
     RIGZUMAL_OTHER_COSTS = 27, /* the record has other costs, or another salt or tag size */
     /* Of an input that is null, though its size isn't 0. */
     RIGZUMAL_NULL_PASSWORD = 28, /* or the new password of a change */
-    RIGZUMAL_NULL_SALT = 29,     /* a new record gets a random one instead */
+    RIGZUMAL_NULL_SALT = 29,     /* a new record gets a random salt instead */
     RIGZUMAL_NULL_SECRET = 30,   /* such as a pepper that failed to load */
     RIGZUMAL_NULL_ASSOCIATED = 31
 };
@@ -149,8 +149,8 @@ const char *rigzumal_version(void);
  * and clears the memory of the next call again, which takes longer. */
 size_t rigzumal_trim(void);
 
-/* Bounds the bytes that the library keeps from now on, in whole huge pages of 2 MiB: 0 keeps none,
- * and 134217728 keeps the table of RIGZUMAL_SCRYPT_COSTS, or the memory of two callers at once with
+/* Bounds the bytes that the library keeps from now on, in whole huge pages of 2 MiB. 0 keeps none.
+ * 134217728 keeps the table of RIGZUMAL_SCRYPT_COSTS, or the memory of two callers at once with
  * RIGZUMAL_ARGON2_COSTS. The call releases the kept memory, and returns the old bound. The first
  * bound is RIGZUMAL_KEEP of the environment, or 64 MiB. */
 size_t rigzumal_keep(size_t most);
@@ -217,8 +217,8 @@ struct rigzumal_parts {
 int rigzumal_parts(struct rigzumal_parts *parts, const char *text) RIGZUMAL_CHECK_ANSWER;
 
 /* Whether a record needs a rehash: OTHER_COSTS if its scheme, its costs, or the sizes of its salt
- * and tag differ from a new one's, otherwise OK. Rehash after a right login, when you have the
- * password. If the costs have a salt, salt_size is 0.
+ * and tag differ from a new record's, otherwise OK. Rehash after a right login, when you have the
+ * password. If the costs have a salt, pass 0 as salt_size.
  * Faults: SHAPE to TOO_LONG, of the record, and then of the costs. */
 int rigzumal_needs_rehash(const char *record, const char *costs, size_t salt_size,
                           size_t tag_size) RIGZUMAL_CHECK_ANSWER;
@@ -262,22 +262,23 @@ enum rigzumal_reply {
  * whatever the column's collation.
  *
  * Without a copy a step computes no hash, except an ENROL. Make a record then, and discard it, so
- * that the answer takes as long.
+ * that the answer takes as long as with a copy.
  *
  * Let the store update a row only if the row still has the copy, and compare the copy and write the
  * record in one step. The replies are then those of one history, in which each whole operation
- * happens at its update. This holds beside any other changes that compare and write in this way: a
- * reset, a record of another scheme, or a new row, whose copy is no row. If an update changes no
- * row, answer CHANGED, or begin again with the row's record. A reply that makes no change needs a
- * second look instead of the update.
+ * happens at its update. This also holds beside other changes that compare the row with a copy and
+ * write the row in one step, such as a reset, a record of another scheme, or a new row, whose copy
+ * is no row. If an update changes no row, answer CHANGED, or begin again with the row's record. For
+ * a reply that makes no change, read the row again instead of the update, and compare the row with
+ * the copy.
  *
  * copy is the record's text, or null if the account has none. password is the new password of an
- * ENROL, and otherwise the judged one. A CHANGE reads new_password; an ENROL, a CHANGE and an
- * UPGRADE read setting, which is costs with a fresh salt; others may pass null. A new tag has 32
- * bytes. With OK, reply is one of rigzumal_reply. After ENROLLED, REPLACED and UPGRADED text is the
- * new record; otherwise text is empty, and text_size may be 0. A step refuses a password of over
- * 256 bytes; rigzumal_check accepts one of any size. Faults, in this order: NO_OPERATION; COPY;
- * LONG_PASSWORD; SHAPE to TOO_LONG, of the setting; MEMORY; NO_ROOM. */
+ * ENROL, and otherwise the judged one. Only a CHANGE reads new_password. Only an ENROL, a CHANGE
+ * and an UPGRADE read setting, which is costs with a fresh salt. Other operations accept null. A
+ * new tag has 32 bytes. With OK, reply is one of rigzumal_reply. After ENROLLED, REPLACED and
+ * UPGRADED text is the new record; otherwise text is empty, and text_size may be 0. A step refuses
+ * a password of over 256 bytes; rigzumal_check accepts one of any size. Faults, in this order:
+ * NO_OPERATION; COPY; LONG_PASSWORD; SHAPE to TOO_LONG, of the setting; MEMORY; NO_ROOM. */
 int rigzumal_step(char *text, size_t text_size, uint32_t *reply, uint32_t operation,
                   const char *copy, const void *password, size_t password_size,
                   const void *new_password, size_t new_password_size,
@@ -292,7 +293,7 @@ struct rigzumal_argon2 {
     uint32_t lanes;   /* 1 to 255 */
 };
 
-/* Writes the tag over the tag_size bytes at tag: 4 or more, below 2^32. Most tags have no secret
+/* Writes the tag into the tag_size bytes at tag: 4 or more, below 2^32. Most tags have no secret
  * and no associated data.
  * Faults: NO_KIND to INPUT_SIZE; MEMORY. */
 int rigzumal_argon2(void *tag, size_t tag_size, const struct rigzumal_argon2 *numbers,
@@ -313,19 +314,19 @@ struct rigzumal_scrypt {
     uint32_t p;  /* the parallelization: 1 to 255 */
 };
 
-/* Writes the key over the key_size bytes at key: 1 or more, below 2^32.
+/* Writes the key into the key_size bytes at key: 1 or more, below 2^32.
  * Faults: SCRYPT_COST to KEY_SIZE; MEMORY. */
 int rigzumal_scrypt(void *key, size_t key_size, const struct rigzumal_scrypt *numbers,
                     const void *password, size_t password_size, const void *salt,
                     size_t salt_size) RIGZUMAL_CHECK_ANSWER;
 
-/* The calls below answer like those of the same names without _threads, but up to `threads` threads
+/* The calls below answer like those of the same names without _threads. Up to `threads` threads
  * work the lanes of Argon2, the caller's among them; 0 means 1. The call uses at most one thread
- * for each lane, and for each processor that the caller may run on, and only one below 4 MiB of
- * memory and for scrypt. If the system refuses a thread, the others do its work. The threads end
- * before the call does; meanwhile they handle no signal, and nothing can cancel the caller. The
- * call clears and unmaps their stacks. A core dump has only the highest page of each stack, and a
- * child forked meanwhile reads the stacks as zero.
+ * for each lane, and for each processor that the caller may run on. Below 4 MiB of memory, and for
+ * scrypt, the call uses only one. If the system refuses a thread, the others do its work. The
+ * threads end before the call does; meanwhile they handle no signal, and nothing can cancel the
+ * caller. The call clears and unmaps their stacks. A core dump has only the highest page of each
+ * stack, and a child forked meanwhile reads the stacks as zero.
  *
  * Use threads to speed up one login on an idle machine. On four processors, a tag with 64 MiB,
  * three passes and four lanes took 64 ms on one thread and 23 ms on four (bench/RESULTS.md). A
@@ -370,8 +371,9 @@ struct rigzumal_inputs {
     uint32_t threads; /* as in the calls above; 0 means 1 */
 };
 
-/* rigzumal_argon2_threads, and rigzumal_record_threads and rigzumal_check_threads with a secret and
- * associated data too. Scrypt has neither, so these calls refuse scrypt as SCHEME. */
+/* These calls do the work of rigzumal_argon2_threads, rigzumal_record_threads and
+ * rigzumal_check_threads. Records may have a secret and associated data too. Scrypt has neither, so
+ * these calls refuse scrypt as SCHEME. */
 int rigzumal_argon2_from(void *tag, size_t tag_size, const struct rigzumal_argon2 *numbers,
                          const struct rigzumal_inputs *inputs) RIGZUMAL_CHECK_ANSWER;
 int rigzumal_record_from(char *text, size_t text_size, size_t tag_size, const char *costs,
@@ -393,9 +395,9 @@ struct rigzumal_step_inputs {
     uint32_t threads; /* 0 means 1 */
 };
 
-/* rigzumal_step with a secret and threads. With either, C chooses the reply, and only the hashing
- * is proved; without both the proved code chooses the reply. Scrypt has no secret, so with one the
- * call refuses scrypt as SCHEME, in the copy and in the setting. */
+/* Does a step as rigzumal_step does, with a secret and threads. With either, C chooses the reply,
+ * and only the hashing is proved; without both the proved code chooses the reply. Scrypt has no
+ * secret, so with a secret the call refuses scrypt as SCHEME, in the copy and in the setting. */
 int rigzumal_step_from(char *text, size_t text_size, uint32_t *reply,
                        const struct rigzumal_step_inputs *inputs) RIGZUMAL_CHECK_ANSWER;
 

@@ -1,6 +1,5 @@
-/* Base64 (RFC 4648, section 4) without padding, of bytes and letters that may be secret: by
- * arithmetic alone, with no table, and with no branch on a letter except to tell whether it is one.
- * */
+/* Base64 (RFC 4648, section 4) without padding, of bytes and letters that may be secret. The calls
+ * use arithmetic alone, no table, and no branch on a letter except to tell whether it is one. */
 #pragma once
 
 #include <stddef.h>

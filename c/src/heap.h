@@ -16,8 +16,8 @@ struct tried rattle_alloc(size_t size, size_t align);
 struct tried rattle_realloc(void *old, size_t kept, size_t size, size_t align);
 void rattle_dealloc(void *start);
 
-/* Allocates this many bytes of zeros, or returns null if memory is short: large ones in huge pages,
- * in no core dump, and zero in a forked child. */
+/* Allocates this many bytes of zeros, or returns null if memory is short. Large blocks are in huge
+ * pages, in no core dump, and zero in a forked child. */
 void *heap_take_zeros(size_t size);
 
 /* Frees such bytes, on the thread that allocated them, once all are zero again. */

@@ -70,9 +70,10 @@ int argon2_verify(const char *encoded, const void *pwd, size_t pwdlen, argon2_ty
 /* Returns the original's fault of the inputs: the first in its order. */
 int fault_of_context(const argon2_context *context);
 
-/* Reads a string after its type's name, by the original's rules: the numbers, and the salt and tag
- * into the context's room for them, of as many bytes as the string. A string without a version has
- * 0x10. Returns the place where the reading ended, or null if a field is missing. */
+/* Reads a string after its type's name, by the original's rules. Stores the numbers in the context,
+ * and the salt and the tag in its room for them, which has as many bytes as the string. A string
+ * without a version has 0x10. Returns the place where the reading ended, or null if a field is
+ * missing. */
 const char *read_string(argon2_context *read, const char *text);
 
 /* Writes the string of a context and its tag, or returns false if it doesn't fit. */

@@ -8,5 +8,5 @@ uint64_t process_number(void);
 
 /* Ends this process, with a message on standard error, if it had another number when the call
  * began. The process is then a child, forked in a signal handler, that went on with its parent's
- * call, and has neither the call's memory nor its threads. */
+ * call. The child has neither the call's memory nor its threads. */
 void process_end_child_of(uint64_t number);

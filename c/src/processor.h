@@ -1,5 +1,5 @@
-/* The part that each processor has in its own file, such as x86_64.c, which has processor_build of
- * builds.h too. */
+/* The calls that each processor has in its own file, such as x86_64.c. That file also has
+ * processor_build of builds.h. */
 #pragma once
 
 #include <stddef.h>

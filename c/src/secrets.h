@@ -18,8 +18,8 @@ static inline int cleared(int answer) {
     return answer;
 }
 
-/* Clears the traces of a call and ends the text that an export wrote, which left room for the zero
- * byte. */
+/* Clears the traces of a call, and ends an export's text with a zero byte, for which the export
+ * left room. */
 static inline int ended(int answer, char *text, size_t written) {
     if (answer == 0)
         text[written] = '\0';

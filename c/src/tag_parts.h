@@ -14,7 +14,7 @@
  *   wrote.
  * - C calls end once, with the last slice, after the work on all segments.
  * - Only then does C clear the slices, all four of them, whatever the answer was.
- * - After an answer that isn't 0 there is no further call. */
+ * - After an answer that isn't 0, C makes no further call. */
 #pragma once
 
 #include "rigzumal.h"

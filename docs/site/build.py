@@ -3,9 +3,10 @@
 
     /usr/bin/python3 docs/site/build.py [FOLDER]                 (FOLDER: out)
 
-The tool writes the input of Sphinx to FOLDER/site: the pages in their folders, with README.md as
-index.md; a page for each manual; and the references for C, from its header, and for Python, from
-docstrings. The last line of output is the path of the first page. A warning is an error.
+The tool writes the input of Sphinx to FOLDER/site. The input is the pages in their folders, with
+README.md as index.md, a page for each manual, and the references for C, from its header, and for
+Python, from docstrings. The last line of output is the path of the first page. A warning is an
+error.
 """
 
 import pathlib

@@ -1,4 +1,5 @@
-"""The directive `manual:: FILE`, for a manual page with the macros of man(7) that ours use."""
+"""The directive `manual:: FILE`, for a manual page with the macros of man(7) that our manuals
+use."""
 
 import pathlib
 import re

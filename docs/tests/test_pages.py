@@ -244,7 +244,7 @@ assert hasher.check_needs_rehash(record) is {is_old}
             with self.subTest(is_old=is_old, typed=typed):
                 _, *said = run(program, OLD_RECORD if is_old else new, typed, env=env).splitlines()
                 if typed == GUESS:
-                    self.assertEqual(said, ["it is another password"])
+                    self.assertEqual(said, ["the password is wrong"])
                 else:
                     self.assertEqual(len(said), is_old)
 

@@ -41,8 +41,8 @@ def _target(text: str) -> float:
 def _words() -> argparse.ArgumentParser:
     words = Words(
         prog="python3 -m rigzumal",
-        description="Hashes and verifies a password, which it asks for at a terminal"
-        " and otherwise reads from standard input.",
+        description="Hashes and verifies a password. The command asks for the password at a"
+        " terminal, and otherwise reads it from standard input.",
     )
     words.add_argument("--version", action="version", version=_library.version())
     commands = words.add_subparsers(dest="command", required=True)
@@ -58,7 +58,7 @@ def _words() -> argparse.ArgumentParser:
     calibrate.set_defaults(act=_calibrate)
     add = calibrate.add_argument
     add("--target-ms", type=_target, default=250, help="milliseconds for one hash")
-    most = "the most memory, such as 64M, or in KiB"
+    most = "the most memory, with a unit such as 64M, or in KiB"
     add("--memory", type=memory, default=65536, help=most)
     add("--lanes", type=int, default=4)
     threads = "threads of one hash; 1 for a service with many logins"

@@ -185,7 +185,7 @@ def hasher_of(given: argparse.Namespace) -> Union[PasswordHasher, ScryptHasher]:
 def read_password(prompt: str = "Password", *, is_new: bool = False) -> bytes:
     """Reads the password: all of standard input, or the user's typing, twice for a new password.
 
-    Raises Refusal if the two differ, if the user types none, or if reading fails.
+    Raises Refusal if the two differ, if the user types nothing, or if reading fails.
     """
     if sys.stdin is None:
         raise Refusal("standard input is closed", Status.STREAM)

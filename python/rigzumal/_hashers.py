@@ -150,8 +150,8 @@ class _Hasher(Frozen):
     def check_needs_rehash(self, hash: Secret) -> bool:
         """Whether the record has another scheme, other costs or other sizes than a new one.
 
-        The record doesn't show its secret: only `verify_and_rehash` can determine which one it
-        needs. Raises InvalidRecordError for a text that isn't a record.
+        The record doesn't show its secret: only `verify_and_rehash` can determine which secret the
+        record needs. Raises InvalidRecordError for a text that isn't a record.
         """
         parts = _library.parts(hash)
         found = (parts.scheme, parts.version, parts.memory, parts.passes, parts.lanes)
@@ -180,9 +180,9 @@ class PasswordHasher(_Hasher):
             be empty, so that an unset variable causes an error. No repr shows the secret.
         threads: the number of threads that may compute the lanes of one record, including the
             caller's; records don't show this number. Use 1 in a service, where other logins use the
-            other processors. Use `parallelism` in a program that hashes one password at a time: 64
-            MiB and four lanes take a third of the time on four idle processors. The library starts
-            at most one thread for each processor, and none below 4 MiB.
+            other processors. Use `parallelism` in a program that hashes one password at a time. On
+            four idle processors, 64 MiB and four lanes then take a third of the time. The library
+            starts at most one thread for each processor, and none below 4 MiB.
         secrets: the new pepper and older ones, instead of `secret`, to rotate peppers. A new
             record uses the first, which is then `secret`. `verify` tries all of them, so a wrong
             password costs a hash for each. `verify_and_rehash` replaces records with older peppers.

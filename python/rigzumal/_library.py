@@ -181,8 +181,8 @@ NAME: Final = "librigzumal.so.1"
 def _path() -> str:
     """Returns the library's path: the file that RIGZUMAL_LIBRARY names.
 
-    If the variable is unset, the library is that of the package, of make, of the folder lib in the
-    package's prefix, or of the system.
+    If the variable is unset, the path is that of the first library found: in the package, in make's
+    output, in the folder lib of the package's prefix, or in the system.
     """
     named = os.environ.get("RIGZUMAL_LIBRARY")
     if named:

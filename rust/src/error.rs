@@ -62,7 +62,7 @@ errors! {
     NoKind = 12,
     /// A number names no version of Argon2.
     NoVersion = 13,
-    /// Not 1 to 255 lanes.
+    /// The number of lanes isn't 1 to 255.
     Lanes = 14,
     /// The memory isn't 8 KiB a lane to 2 GiB.
     Cost = 15,

@@ -97,7 +97,7 @@ impl Hasher {
     /// Returns the hasher with random salts of this many bytes: 8 to 48, or for scrypt 1 to 48.
     ///
     /// # Errors
-    /// [`Error::Salt`] for fewer or more.
+    /// [`Error::Salt`] for any other number.
     pub fn salt_len(self, bytes: usize) -> Result<Hasher, Error> {
         Hasher { salt_len: Some(bytes), ..self }.readable()
     }
@@ -105,14 +105,15 @@ impl Hasher {
     /// Returns the hasher with tags of this many bytes: 4 to 64.
     ///
     /// # Errors
-    /// [`Error::Tag`] for fewer or more.
+    /// [`Error::Tag`] for any other number.
     pub fn tag_len(self, bytes: usize) -> Result<Hasher, Error> {
         Hasher { tag_len: Some(bytes), ..self }.readable()
     }
 
-    /// Returns the hasher with a secret beside each password, which a program keeps apart from its
-    /// records: K of RFC 9106, section 3.1. Such a hasher verifies only records with this secret,
-    /// and refuses those of scrypt with [`Error::Scheme`]. A drop of the hasher clears its copy.
+    /// Returns the hasher with a secret beside each password: a pepper that a program keeps apart
+    /// from its records, K of RFC 9106, section 3.1. Such a hasher verifies only records with this
+    /// secret, and refuses those of scrypt with [`Error::Scheme`]. A drop of the hasher clears its
+    /// copy.
     ///
     /// # Errors
     /// [`Error::Scheme`] if the hasher's own costs are scrypt's; [`Error::InputSize`].

@@ -14,8 +14,8 @@
 //!     // In SQL: UPDATE .. WHERE id = .. AND record = old; if no row changed, begin again.
 //!     Ok(()) if hasher.needs_rehash(&record) => store(&hasher.hash_password(b"correct horse")?),
 //!     Ok(()) => {}
-//!     Err(Error::Mismatch) => println!("it is another password"),
-//!     Err(fault) => println!("it can't be said: {fault}"),
+//!     Err(Error::Mismatch) => println!("the password is wrong"),
+//!     Err(fault) => println!("the check failed: {fault}"),
 //! }
 //! # fn store(_: &Record) {}
 //! # fn stored() -> String {
@@ -99,7 +99,7 @@ pub fn verify(password: &[u8], record: &Record) -> Result<(), Error> {
 /// size.
 ///
 /// The library keeps as much as hashes took at one time, and at most the bound of [`keep`]. A
-/// system that is short of memory reclaims it without this call.
+/// system that is short of memory reclaims this memory without this call.
 #[allow(clippy::must_use_candidate)] // it is called for what it does
 pub fn trim() -> usize {
     ffi::trim()

@@ -91,7 +91,7 @@ impl Argon2<'_> {
         [self.algorithm as u32, version, self.memory, self.passes, self.lanes]
     }
 
-    /// Fills the room, of 4 bytes or more, with the tag.
+    /// Fills `out`, of 4 bytes or more, with the tag.
     ///
     /// # Errors
     /// [`Error::Lanes`] to [`Error::InputSize`] for the numbers and sizes; [`Error::Memory`].
@@ -122,7 +122,7 @@ impl Scrypt {
         [self.log2_n, self.r, self.p]
     }
 
-    /// Fills the room, of 1 byte or more, with the key.
+    /// Fills `out`, of 1 byte or more, with the key.
     ///
     /// # Errors
     /// [`Error::ScryptCost`] to [`Error::KeySize`] for the numbers and sizes;

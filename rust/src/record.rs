@@ -58,7 +58,7 @@ impl Record {
 impl FromStr for Record {
     type Err = Error;
 
-    /// Reads a record: the first fault from the left is one of [`Error::Shape`] to
+    /// Reads a record, or returns the text's first fault from the left, one of [`Error::Shape`] to
     /// [`Error::TooLong`].
     fn from_str(text: &str) -> Result<Record, Error> {
         let text = CString::new(text).map_err(|_| Error::Shape)?;

@@ -205,5 +205,6 @@ class CredkeepAsk(Case):
     def test_no_terminal(self) -> None:
         """Without a terminal there is nobody to ask: its input is no password."""
         said = self.without_a_terminal("users.db|check|ada", "old\n")
-        self.assertEqual(said, (2, "", "credkeep-ask: no terminal is available to ask at\n"))
+        fault = "credkeep-ask: no terminal is available for the passwords\n"
+        self.assertEqual(said, (2, "", fault))
         self.assertEqual((self.noted("words"), self.noted("given")), (f"{SHOW}\n", ""))

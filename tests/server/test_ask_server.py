@@ -163,7 +163,8 @@ class AskServer(Case):
                 if b"\0" not in name:
                     with self.subTest(name=what):
                         said, status = self.check(path, name)
-                        self.assertRegex(said, "^credkeep-ask: (a name has|known is refused: name)")
+                        refused = "^credkeep-ask: (a name has|the server refused known: name)"
+                        self.assertRegex(said, refused)
                         self.assertEqual(status, 1)
                         self.assertEqual(self.check(path, b"ada", b"secret"), ("yes", 0))
             for what, password in PASSWORDS.items():
@@ -185,7 +186,8 @@ class AskServer(Case):
                 with self.subTest(what, command=words[0]):
                     status, said, faults = ended([str(ASK), "--server", admin, *words])
                     self.assertEqual((status, said), (1, ""))
-                    self.assertRegex(faults, r"^credkeep-ask: (a name has|\w+ is refused: name)")
+                    refused = r"^credkeep-ask: (a name has|the server refused \w+: name)"
+                    self.assertRegex(faults, refused)
         service.client("admin").talk("list - 9 -> names ada")
         self.assertEqual(service.client("admin").ask("show ada"), record)
 
@@ -232,7 +234,8 @@ class AskServer(Case):
         self.assertEqual(ended(words), (0, "no\n", ""))
         with open("/dev/full", "w") as full:
             done = ended(words, stdout=full)
-        self.assertEqual(done, (2, "", "credkeep-ask: the output couldn't be written\n"))
+        said = "credkeep-ask: the answer arrived, but writing the output failed\n"
+        self.assertEqual(done, (2, "", said))
 
     @each(b"", b"1 del", b"2 deleted\n", b"* unavailable\n", b"1 unavailable\n")
     def test_a_server_that_ends(self, said: bytes) -> None:

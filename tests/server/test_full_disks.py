@@ -70,7 +70,7 @@ class FullDisks(Case):
         self.assertEqual(service.stats()["disk"], 2 * len(CHANGES.split("\n")[1:-1]))
         self.assertEqual(service.log().count("its disk has less than 8192 KiB left"), 1)
         ask = [str(TOP / "bin/credkeep-ask"), "--server", str(service.path("admin"))]
-        refused = "credkeep-ask: disable is refused: disk (19; see docs/ERRORS.md)\n"
+        refused = "credkeep-ask: the server refused disable: disk (19; see docs/ERRORS.md)\n"
         self.assertEqual(ended([*ask, "disable", "ada"]), (5, "", refused))
         (folder / "filler").unlink()
         service.talk("login change ada {secret} {fresh} -> replaced")

@@ -107,7 +107,7 @@ class HungDisks(Case):
         service.process.terminate()
         status, log = service.ended()
         self.assertEqual(status, 128 + signal.SIGKILL)
-        self.assertIn("the book's process can't be killed: its disk hangs", log)
+        self.assertIn("the server can't kill the book's process: its disk hangs", log)
         self.assertEqual(client.line(), b"")
 
     def test_a_killed_writer(self) -> None:

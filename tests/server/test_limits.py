@@ -202,7 +202,7 @@ class Limits(Case):
         for _ in range(1200):
             with Client(room / "s") as client:
                 self.assertEqual(client.ask("known ada"), "noaccount")
-        text = "refused a connection at a of uid 0, which has 512"
+        text = "refused a connection at a: uid 0 already has 512"
         self.assertEqual(service.log().count(text), 1)
 
     def test_idle_clients(self) -> None:

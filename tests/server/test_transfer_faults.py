@@ -129,7 +129,7 @@ class Faults(TransferCase):
         os.kill(book, signal.SIGKILL)
         self.assertEqual(client.line(), b"a unavailable")
         self.assertRegex(admin.line(), rb"t1 ended 137 0 \d+")
-        self.assertIn(b"nothing was done", admin.line())
+        self.assertIn(b"the server did nothing", admin.line())
         self.assertEqual(self.names(service), ["ada"])
         self.serves(service)
 

@@ -307,7 +307,8 @@ class Copies(TransferCase):
         service = self.over()
         with open("/dev/full", "w") as full:
             done = ended([ASK, "--server", str(service.path("admin")), "export"], stdout=full)
-        self.assertEqual(done, Ended(2, "", "credkeep-ask: the output couldn't be written\n"))
+        said = "credkeep-ask: the answer arrived, but writing the output failed\n"
+        self.assertEqual(done, Ended(2, "", said))
         path = self.room() / "peer"
         whole = b"1 ended 0 5 0\nada:\n"
         for said in (whole[:-1], whole.replace(b"5", b"x"), b"1 ended 0 5\nada:\n", b"1 ok\n"):

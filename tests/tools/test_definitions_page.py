@@ -98,7 +98,7 @@ abbrev pub limit : ℕ
 limit = 64
 ```
 """
-AS_THEY_ARE = ["docs/DEFINITIONS.md has the definitions as they are"]
+AS_THEY_ARE = ["docs/DEFINITIONS.md has the definitions of specs/"]
 ANEW = "differs from specs/: `python3 tools/definitions_page.py --write` corrects it"
 
 
@@ -170,8 +170,8 @@ class DefinitionsPage(Case):
         self.assertEqual(self.told(), (1, [f"docs/DEFINITIONS.md: {block} {ANEW}"]))
 
     @each(
-        ("low.Sizes.limit", "low.Sizes.least", "the definition low.Sizes.least isn't there"),
-        ("low.Sizes.most", "low.most", "the definition low.most isn't there"),
+        ("low.Sizes.limit", "low.Sizes.least", "has the definition low.Sizes.least"),
+        ("low.Sizes.most", "low.most", "has the definition low.most"),
         ("definitions of", "names of", "docs/DEFINITIONS.md has no block of definitions"),
     )
     def test_lost(self, old: str, new: str, wrong: str) -> None:

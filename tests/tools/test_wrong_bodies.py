@@ -110,11 +110,17 @@ class WrongBodies(Case):
                 self.assertEqual(self.tried()[1], self.refused("one"))
 
     @each(
-        ("file: src/lib.rt\nold: { 2 }\nnew: { 1 + 1 }\n", "it is proved with it"),
-        ("old: { 2 }\nnew: { wrong }\n", "its old text isn't in its file once"),
-        ("old: { 5 }\nnew: { wrong }\n", "its old text isn't in its file once"),
-        ("file: src/other.rt\nold: { 1 }\nnew: { wrong }\n", "its old text isn't in its file once"),
-        ("file: src/lib.rt\nold: { 2 }\nnew: { 2 }\n", "or the new one is the same"),
+        (
+            "file: src/lib.rt\nold: { 2 }\nnew: { 1 + 1 }\n",
+            "the prover proves the changed function",
+        ),
+        ("old: { 2 }\nnew: { wrong }\n", "doesn't have the old text exactly once"),
+        ("old: { 5 }\nnew: { wrong }\n", "doesn't have the old text exactly once"),
+        (
+            "file: src/other.rt\nold: { 1 }\nnew: { wrong }\n",
+            "doesn't have the old text exactly once",
+        ),
+        ("file: src/lib.rt\nold: { 2 }\nnew: { 2 }\n", "or the new text is the same"),
     )
     def test_not_refused(self, text, why):
         """A body that is right, one whose text no file has or several have, and one that changes

@@ -8,9 +8,9 @@
     if accounts.login(user_id, password) is Reply.YES: ...
 
 An operation reads the account's record, hashes without a lock, and commits by an UPDATE that
-compares the row's record with the one that it read. If the row has a different record by then, the
-operation starts again. The replies are therefore those of one legal history, however operations
-overlap.
+compares the row's record with the record that the operation read. If the row has a different record
+by then, the operation starts again. The replies are therefore those of one legal history, however
+operations overlap.
 
 The package runs on SQLite (sqlite3), PostgreSQL (psycopg 3), MariaDB and MySQL (PyMySQL), and
 imports no driver itself. `AsyncAccounts` is the class for asyncio. Use `rigzumal.accounts.types`

@@ -41,15 +41,16 @@ class Accounts(Operations[Pool]):
             answer depends on the primary's record. If the replica is down or refuses, operations
             read copies from the primary too.
         foreign: a function that checks passwords against records of other schemes, as (text,
-            password) -> bool or None. Any other answer raises a TypeError, and nothing is stored.
+            password) -> bool or None. After any other answer the operation raises a TypeError, and
+            stores nothing.
         upgrade_from: costs such as "$argon2i$v=19$m=65536,t=3,p=4" that an upgrade replaces even if
             the new costs aren't higher.
-        tries: how often to try an operation whose commit finds a different record; 1 or more.
+        tries: the most tries of an operation whose commit finds a different record; 1 or more.
         patience: the seconds to wait for a new connection, a busy server, or a lost answer; 0 or
             more. This limit doesn't end a statement that hangs, or a pool's wait for a connection:
             set separate limits of some seconds for both.
         confirm: whether to confirm an answer without a change, such as a verify's, by writing the
-            record again. Use this with servers that show a change before the change is safe
+            record again. Use `confirm` with servers that show a change before the change is safe
             (MariaDB without a binary log). A login then costs as much as a change.
         least_length: the minimum length of a new password; logins have no such bound.
         prepare: a function, such as `rigzumal.opaque_string`, that turns a password that is text,
@@ -65,22 +66,22 @@ class Accounts(Operations[Pool]):
     calls `also` in the operation's transaction, while it holds the lock of the account's row and
     before it writes the record. The server therefore commits your own rows, such as a session, with
     the reply or not at all. If the server undoes the transaction, the library calls `also` again in
-    the next one; it doesn't call `also` for CHANGED. An exception in `also` undoes everything and
-    reaches the caller, unless the exception is an error of the connection that calls for a retry.
-    `also` must leave the transaction open, must not write the record, and must not call an
-    operation on the same table.
+    the next one. The library doesn't call `also` for CHANGED. An exception in `also` undoes
+    everything and reaches the caller, unless the exception is an error of the connection that calls
+    for a retry. `also` must leave the transaction open, must not write the record, and must not
+    call an operation on the same table.
 
     Every operation may raise:
         TypeError: the key's type differs from its column's, or a password is neither
             bytes nor text; the operation read no row. A hook returned a wrong answer,
             or `also` has ended the transaction; the operation wrote no record.
         ValueError: a new password is too short, isn't UTF-8 or has over 256 bytes, or `prepare`
-            refuses it. An enrolment also raises this if the name is empty, or begins or ends with a
+            refuses it. An enrolment also refuses a name that is empty, or begins or ends with a
             blank. The operation read no row. A present password of such a form counts as wrong,
             after one hash.
         StoreFault: the table, the server or the connection has a fault.
         InvalidRecordError: the record has another scheme, and no hook accepts it.
-        Unavailable: no server completed the operation in time, and nothing was stored.
+        Unavailable: no server completed the operation in time, and the operation stored nothing.
         OutcomeUnknown: after a change, or with `also`, COMMIT had no answer, and the row doesn't
             show whether the server stored the change.
         OutOfMemoryError: the free memory was too small for the costs.
@@ -96,7 +97,8 @@ class Accounts(Operations[Pool]):
 
     @hidden
     def enrol(self, key: Key, password: Secret, *, also: Hook = None) -> Reply:
-        """Gives an account its first record. Returns ENROLLED, EXISTS if it has one, or NO_ACCOUNT.
+        """Gives an account its first record. Returns ENROLLED, EXISTS if the account has a record,
+        or NO_ACCOUNT.
 
         Use this operation only for rows whose owner is known; for a sign-up use `new_record`.
         """
@@ -121,7 +123,7 @@ class Accounts(Operations[Pool]):
     def change(
         self, key: Key, password: Secret, new_password: Secret, *, also: Hook = None
     ) -> Reply:
-        """Replaces the password. Returns REPLACED, WRONG if the old one is wrong, ABSENT,
+        """Replaces the password. Returns REPLACED, WRONG if the old password is wrong, ABSENT,
         NO_ACCOUNT or CHANGED.
 
         CHANGED, a reply of every operation, means that the commit found a different record `tries`
@@ -163,8 +165,8 @@ class Accounts(Operations[Pool]):
     def examine(self, *used: Kind) -> list[Fault]:
         """Returns the faults of the table, the server and the replica, or an empty list.
 
-        The trial writes a record into a new row, or into an existing one if a new row is
-        impossible, in a transaction that it rolls back. Pass Kind.REMOVE if the service removes
+        A trial writes a record into a new row, or into an existing one if it can't add a row,
+        and then rolls its transaction back. Pass Kind.REMOVE if the service removes
         records: then a NOT NULL column is an error, and the trial also removes a record. On SQLite
         `examine` warns of a full disk if the filesystem reports it, but not of a user's quota.
 
@@ -248,7 +250,8 @@ def _awaited(
 class AsyncAccounts(Operations[AsyncPool]):
     """`Accounts` with coroutines, over psycopg's AsyncConnection.
 
-    Arguments, replies and exceptions are the same; `also` and `foreign` may be coroutine functions.
+    Arguments, replies and exceptions are as in `Accounts`. `also` and `foreign` may be coroutine
+    functions.
     Hashes, and a `foreign` that is a plain function, run in threads of the executor, so that other
     tasks continue. If a task is cancelled during a change, the change may or may not be stored, as
     after `OutcomeUnknown`.

@@ -111,7 +111,7 @@ class Connections:
             await self.runtime.pause(waits.next(is_dead))
 
     async def _once(self, pool: Any, job: Job[Any]) -> Any:
-        """Runs a job once; returns Undone if the job stored nothing and may be repeated."""
+        """Runs a job once. Returns Undone if the job stored nothing and may run again."""
         self.table.refuse_nested()
         try:
             return await self.runtime.use(pool, job)

@@ -1,4 +1,4 @@
-"""The rows of a table, for the shell command: reads all rows, and adds rows in batches."""
+"""Reads all rows of a table, and adds rows in batches, for the shell command."""
 
 from __future__ import annotations
 
@@ -206,7 +206,7 @@ class Import:
         return words if len({*words}) == 1 else _as_they_came(batch, words)
 
     def _put_at_once(self, session: Session, share: Sequence[Line]) -> list[str]:
-        """Writes some lines with a few statements; raises StoreFault if their rows hold other
+        """Writes some lines with a few statements. Raises StoreFault if their rows have other
         records afterwards."""
         keys = [] if self.are_new else [key for key, _ in share]
         stands = dict(self._standing(session, keys))
@@ -262,7 +262,7 @@ class Import:
         if isinstance(answer.after, str):
             return "there" if answer.after == record else "another"
         kept = "no record of" if answer.after is None else "another name than"
-        raise Refusal(f"the server keeps {kept} {shown(key)}", Status.DATABASE)
+        raise Refusal(f"the server stored {kept} {shown(key)}", Status.DATABASE)
 
 
 def _as_they_came(batch: Sequence[Line], words: Sequence[str]) -> list[str]:

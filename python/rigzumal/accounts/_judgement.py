@@ -21,7 +21,7 @@ Foreign = Callable[[str, bytes], Union[Optional[bool], Awaitable[Optional[bool]]
 """Returns whether a password is right for a record of another scheme, as True or False.
 
 None means that no password is right and that the hook hashed nothing, as for a locked
-login: Rigzumal then computes a hash, so that the answer takes equally long. Any other answer
+login. Rigzumal then computes a hash, so that the answer takes equally long. Any other answer
 raises a TypeError. AsyncAccounts awaits a coroutine function, and calls any other function in
 its executor.
 """
@@ -64,8 +64,8 @@ class Passwords:
     def new(self, password: Secret) -> bytes:
         """Returns the bytes of a new password.
 
-        Raises TypeError if the password is neither bytes nor text, and ValueError if it is too
-        short or too long, if UTF-8 can't encode it, or if `prepare` refuses it.
+        Raises TypeError if the password is neither bytes nor text. Raises ValueError for a length
+        out of bounds, for a text that UTF-8 can't encode, and if `prepare` refuses the password.
         """
         made = self._prepared(bytes_of_password(password))
         if len(made.decode(errors="replace")) < self.least_length:
@@ -109,7 +109,7 @@ class Passwords:
 
 
 class Judge:
-    """Carries out requests on copies of records; the hasher of Accounts creates new records.
+    """Carries out requests on copies of records. The hasher of Accounts creates new records.
 
     Attributes:
         sample: a record with the hasher's costs for which no password is right.
@@ -127,7 +127,7 @@ class Judge:
             found = f"{kind.__module__}.{kind.__qualname__}".removeprefix("builtins.")
             raise TypeError(f"pass rigzumal's PasswordHasher or ScryptHasher, not {found}")
         if hasher.hash_len != _TAG_SIZE:
-            raise ValueError(f"records of accounts have tags of {_TAG_SIZE} bytes")
+            raise ValueError(f"the hasher's tags must have {_TAG_SIZE} bytes: set its hash_len")
         if foreign is not None and not callable(foreign):
             kind = type(foreign).__name__
             raise TypeError(f"`foreign` must be a function, not a {kind}")
@@ -270,7 +270,7 @@ class Judge:
 
         A chain of upgrades never leads back: within one scheme, neither version, memory nor work
         decreases, and one of them increases. Two versions of a service with different costs
-        therefore never replace records back and forth.
+        therefore never replace each other's records in turn.
         """
         if found.costs in self._old:
             return True

@@ -2,9 +2,9 @@
 
 An operation reads the record (the copy), hashes without a connection, and commits by an UPDATE that
 compares the row's record with the copy. Its reply is that of the whole operation on a single
-record, which the row had between the call and the answer: at the commit, or, without a change, when
-the operation read the primary. The operation compares a replica's copy with the primary's record at
-the end.
+record, which the row had between the call and the answer. The row had this record at the commit,
+or, without a change, when the operation read the primary. The operation compares a replica's copy
+with the primary's record at the end.
 """
 
 from __future__ import annotations
@@ -257,5 +257,5 @@ def _as_a_verify(also: Callable[[Any, Reply], Any]) -> Hook:
 
 def _unknown(worked: Worked, why: str = "") -> OutcomeUnknown:
     request = worked.ticket.request
-    what = f"the {request.kind.value} of {request.key!r} may have been done"
+    what = f"the server may or may not have stored the {request.kind.value} of {request.key!r}"
     return OutcomeUnknown(f"COMMIT had no answer: {what}{why}")

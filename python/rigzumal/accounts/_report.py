@@ -1,4 +1,4 @@
-"""A report on a table for the shell command: groups similar records by the effect of a login on
+"""Groups a table's records, for the shell command's report, by the effect of a login on
 them."""
 
 from __future__ import annotations

@@ -24,8 +24,8 @@ Hook = Optional[Callable[[Any, Reply], Any]]
 
 
 class HookFailed(Exception):
-    """A caller's hook raised `error`, which the library passes to the caller; nothing was
-    stored."""
+    """A caller's hook raised `error`; the library passes `error` to the caller, and stores
+    nothing."""
 
     def __init__(self, error: Exception) -> None:
         super().__init__()
@@ -52,7 +52,7 @@ class Result(NamedTuple):
 
 
 class Session:
-    """A connection of the DB-API (PEP 249), and how a statement runs on it.
+    """Runs statements on a connection of the DB-API (PEP 249).
 
     `options` are keywords of the driver's `execute`.
     """
@@ -118,7 +118,7 @@ def run(coroutine: Coroutine[Any, Any, T]) -> T:
         error = failed.error
     else:
         coroutine.close()
-        error = TypeError("a blocking operation has awaited: use AsyncAccounts")
+        error = TypeError("a blocking operation can't await: use AsyncAccounts")
     raise error
 
 

@@ -33,7 +33,7 @@ NESTED: Final = (
 
 
 class Lost(Exception):
-    """The connection is broken, and nothing was stored; the cause gives the reason."""
+    """The connection is broken, and the job stored nothing; the cause gives the reason."""
 
 
 class Broken(Exception):
@@ -42,7 +42,7 @@ class Broken(Exception):
 
 @dataclass(frozen=True)
 class Undone:
-    """Nothing was stored, and the job may be repeated."""
+    """The job stored nothing, and the caller may repeat it."""
 
     cause: Optional[BaseException]
     reason: str = ""  # the reason for a missing connection, in words that quote no row
@@ -109,8 +109,8 @@ class Table:
     def _is_of_one_statement(self, worked: Worked) -> bool:
         """Whether one statement can write the change, if the engine has such a statement.
 
-        If a record is added or removed, the row doesn't show afterwards who changed it. The library
-        must therefore know whether a connection broke before COMMIT.
+        If a change adds or removes a record, the row doesn't show afterwards who changed it. The
+        library must therefore know whether a connection broke before COMMIT.
         """
         copy, after = worked.ticket.copy, worked.after
         both = isinstance(copy, str) and isinstance(after, str)
@@ -167,7 +167,8 @@ class Table:
         return await self._undone(session, caught)
 
     async def _answer(self, session: Session, worked: Worked, also: Hook) -> Answer:
-        """Calls a caller's hook with the reply, and then compares the record and writes the change.
+        """Calls a caller's hook with the reply, compares the record with the copy, and writes the
+        change.
 
         The transaction locks the row during the hook. The method writes the record last, so that it
         writes nothing if the hook has ended the transaction.
@@ -240,7 +241,7 @@ class Table:
         return Answer(worked.reply, copy, worked.after)
 
     async def examine(self, session: Session, record: str, used: Container[Kind]) -> list[Fault]:
-        """Returns the faults that only the engine or a trial shows: no catalogue shows a role that
+        """Returns the faults that only the engine or a trial shows. No catalogue shows a role that
         may not update, a rule that does nothing, or a CHECK that no record passes."""
         self.dialect.fresh(session.conn)
         found = await self.dialect.examine(session)

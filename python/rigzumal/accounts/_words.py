@@ -25,16 +25,16 @@ def _options() -> Words:
     words.add_argument("--json", action="store_true", help="write lines of JSON")
     confirm = "confirm each answer by a write (docs/SCALE.md)"
     words.add_argument("--confirm", action="store_true", help=confirm)
-    opaque = "hash RFC 8265's form of passwords, as prepare=rigzumal.opaque_string"
+    opaque = "hash RFC 8265's form of passwords, like prepare=rigzumal.opaque_string"
     words.add_argument("--opaque", action="store_true", help=opaque)
-    secret = "a file with the pepper; repeat it for older ones"
+    secret = "a file with the pepper; repeat the option for older peppers"
     words.add_argument("--secret", metavar="FILE", action="append", help=secret)
     add_costs(words)
     return words
 
 
 def parser(description: str, texts: Mapping[str, str]) -> argparse.ArgumentParser:
-    """Builds the command's parser, with a text for each of its commands."""
+    """Builds the command's parser, with a help text for each subcommand."""
     words = Words(
         prog="python3 -m rigzumal accounts",
         description=description,

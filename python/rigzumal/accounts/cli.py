@@ -199,7 +199,7 @@ class _Command:
         return self.say(reply, Reply.YES)
 
     def change(self) -> int:
-        """Replace a password; asks for the old one too"""
+        """Replace a password, after asking for the old one"""
         accounts, key, (old, new) = self.accounts, self.name, old_and_new()
         with _password_judged(), self.record_judged(key):
             reply = accounts.change(key, old, new)
@@ -286,7 +286,7 @@ class _Command:
         return Status.DONE
 
     def report(self) -> int:
-        """Count records by scheme and costs, and those to rehash"""
+        """Count records by the effect of a login, scheme and costs"""
         counts = report(self.rows.every(), self.accounts._judge.goes_up)
         if self.args.prometheus:
             print(*as_prometheus(counts), sep="\n")

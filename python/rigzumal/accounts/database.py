@@ -104,7 +104,7 @@ class Database:
         more = dict(parse_qsl(options or "", keep_blank_values=True))
         unknown = more.keys() - {*_OPTIONS}
         if unknown:
-            raise ValueError(f"{min(unknown)} is none of {', '.join(_OPTIONS)}")
+            raise ValueError(f"the URL may set {', '.join(_OPTIONS)}, not {min(unknown)}")
         settings = {
             "user": unquote(user or ""),
             "password": unquote(password or "") or os.environ.get("MYSQL_PWD", ""),
@@ -126,8 +126,8 @@ class Database:
 
 
 def _check_people(rest: str) -> None:
-    """Refuses a user name or password with characters that end this part of a URL: a driver would
-    treat the rest as a host or a port, and show it."""
+    """Refuses a user name or password with characters that end this part of a URL. A driver would
+    treat the rest as a host or a port, and show the rest."""
     front, _, path = rest.partition("?")[0].partition("/")
     people, _, hosts = front.rpartition("@")
     is_port = not _NO_PORT.search(re.sub(r"\[[^]]*]?", "", hosts))

@@ -42,8 +42,8 @@ _MAKERS: Final = {
 
 
 def check_pool(pool: object, enter: str) -> None:
-    """Raises TypeError for a connection, an engine or a single use instead of a pool, and for a
-    PerThread or a PerUse of the other kind of accounts."""
+    """Raises TypeError for a connection, an engine or a pool's context manager instead of a pool,
+    and for a PerThread or a PerUse of the other kind of accounts."""
     is_other = isinstance(pool, PerThread if enter == "__aenter__" else PerUse)
     # contextlib's context managers are callables too, since they are decorators.
     is_use = isinstance(pool, (AbstractContextManager, AbstractAsyncContextManager))
@@ -60,7 +60,8 @@ def check_connect(connect: object, of: str) -> None:
 
 
 def lent(pool: Any, enter: str) -> Any:
-    """Returns the context manager of a pool's connection, and raises TypeError if it lacks `enter`.
+    """Returns the context manager of a pool's connection, and raises TypeError if the manager lacks
+    `enter`.
 
     A connection of psycopg or sqlite3 is also a context manager, but its exit doesn't close the
     connection.
@@ -228,8 +229,8 @@ def of_engine(engine: Any) -> Any:
 
     An Engine becomes a pool for Accounts, and an AsyncEngine a pool for AsyncAccounts. The engine
     must have isolation_level="AUTOCOMMIT", or be
-    `engine.execution_options(isolation_level="AUTOCOMMIT")`. If its pool has no free connection in
-    time, an operation raises Unavailable.
+    `engine.execution_options(isolation_level="AUTOCOMMIT")`. If the engine has no free connection
+    in time, an operation raises Unavailable.
     """
     if not hasattr(engine, "connect"):
         raise TypeError(f"of_engine needs an engine of SQLAlchemy, not a {type(engine).__name__}")

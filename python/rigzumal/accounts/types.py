@@ -72,7 +72,7 @@ class Kind(enum.Enum):
 
 
 def check_kind(kind: object) -> None:
-    """Raises TypeError for a string instead of a Kind, since it would equal no Kind."""
+    """Raises TypeError for a string instead of a Kind, since a string equals no Kind."""
     if not isinstance(kind, Kind):
         raise TypeError(f"pass a Kind, such as Kind.CHANGE, not a {type(kind).__name__}")
 
@@ -86,7 +86,7 @@ class NoRow(enum.Enum):
 NO_ROW: Final = NoRow.NO_ROW
 
 Copy = Union[str, None, NoRow]
-"""An account's record as it was read; None for no record, NO_ROW for no account."""
+"""An account's record when it was read; None for no record, NO_ROW for no account."""
 
 
 def bytes_of_password(password: Secret) -> bytes:
@@ -155,7 +155,7 @@ class Worked:
 
 @dataclass
 class Answer:
-    """A reply, the record against which it was decided, and the record afterwards."""
+    """A reply, the record on which the reply depends, and the record afterwards."""
 
     reply: Reply
     before: Copy = field(repr=False)
@@ -167,11 +167,11 @@ class AccountsError(Exception):
 
 
 class StoreFault(AccountsError):
-    """The table, the server or a connection has a fault; nothing was stored."""
+    """The table, the server or a connection has a fault; the operation stored nothing."""
 
 
 class Unavailable(AccountsError):
-    """No server completed the operation in time; nothing was stored."""
+    """No server completed the operation in time; the operation stored nothing."""
 
 
 class NoConnection(Unavailable):
@@ -181,6 +181,6 @@ class NoConnection(Unavailable):
 class OutcomeUnknown(AccountsError):
     """The operation sent COMMIT, no answer arrived, and the row doesn't show the outcome.
 
-    The server may have stored the change, another client may have replaced it since, or it may
-    still take effect.
+    The server may have stored the change, another client may have replaced the new record since,
+    or the change may still take effect.
     """

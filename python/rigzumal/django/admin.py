@@ -24,7 +24,7 @@ from rigzumal.django.users import CompareAndSetMixin
 
 
 class UserAdmin(admin.UserAdmin):
-    """Django's UserAdmin, whose form reports an error if the password was changed meanwhile."""
+    """Django's UserAdmin, whose form reports an error if the password has changed meanwhile."""
 
     change_password_form = forms.AdminPasswordChangeForm
 

@@ -22,7 +22,7 @@ class CompareAndSetBackend(ModelBackend):
     """Django's ModelBackend, which never undoes a change of a password.
 
     - After a right login the backend rehashes a record with old costs, by an UPDATE that compares
-      the row's record; if the record has changed, the backend checks the password against the new
+      the row's record. If the record has changed, the backend checks the password against the new
       one.
     - The backend reads the user from the database that it writes to, so a replica may lag.
     - An unknown name or an inactive user costs one hash and two queries, like a wrong password; the

@@ -126,7 +126,7 @@ def backends(**_: Any) -> Messages:
     for backend in found:
         if issubclass(backend, ModelBackend) and not issubclass(backend, judging_none):
             text = f"{_path(backend)} upgrades records at login without a comparison."
-            hint = "Remove it, or derive it from CompareAndSetBackend."
+            hint = "Remove this backend, or derive it from CompareAndSetBackend."
             yield _message("W002", text, hint)
 
 
@@ -149,7 +149,7 @@ def hashers_listed(**_: Any) -> Messages:
     yield from faults
     if listed and not issubclass(listed[0][1], OURS):
         maker = "The first of PASSWORD_HASHERS, which hashes new passwords,"
-        hint = "Put 'rigzumal.django.hashers.Argon2PasswordHasher' before the others."
+        hint = "Put 'rigzumal.django.hashers.Argon2PasswordHasher' before all other hashers."
         hint += _misspelt("PASSWORD_HASHERS")
         yield _message("W004", f"{maker} isn't from Rigzumal.", hint)
     judges = {getattr(it, "algorithm", None): it for _, it in listed}
@@ -157,7 +157,7 @@ def hashers_listed(**_: Any) -> Messages:
         judge = judges[getattr(ours, "algorithm", None)]
         if issubclass(ours, OURS) and not issubclass(judge, OURS):
             text = f"{_path(judge)} comes after {path}, so Django uses it instead."
-            hint = f"Remove {_path(judge)}: Rigzumal's reads its records."
+            hint = f"Remove {_path(judge)}: Rigzumal's hasher reads its records."
             yield _message("E013", text, hint)
 
 
@@ -208,7 +208,7 @@ def user_model(**_: Any) -> Messages:
 
 
 def _outcome() -> str:
-    return "a lost write answers with an error page" if _compares() else "it may undo a change"
+    return "a late write ends in an error page" if _compares() else "it may undo a change"
 
 
 def admin_sites(**_: Any) -> Messages:

@@ -20,7 +20,7 @@ from django.utils.translation import gettext_lazy as _
 from rigzumal._hidden import hidden_below
 from rigzumal.django import passwords
 
-CHANGED = _("The password was changed meanwhile. Nothing was saved; please begin again.")
+CHANGED = _("The password has changed meanwhile. This form saved nothing: please begin again.")
 
 
 @contextlib.contextmanager
@@ -47,7 +47,7 @@ class _Comparing:
 
     @hidden_below
     def save(self: Any, commit: bool = True) -> Any:
-        """Writes the new password, unless the record was changed meanwhile."""
+        """Writes the new password, unless the record has changed meanwhile."""
         if not commit:
             fault = "the comparison writes the record"
             raise ValueError(f"{fault}: commit=False is impossible")

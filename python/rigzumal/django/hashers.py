@@ -2,7 +2,7 @@
 
 The hashers read and write the strings of Django's own hashers with the same names. The costs are
 class attributes, as in Django's hashers: write a subclass for other costs. A subclass may wrap old
-hashes as Django's page "Password management" shows; it only needs its own `algorithm` and `encode`.
+hashes as Django's page "Password management" shows, with its own `algorithm` and `encode`.
 """
 
 # mypy: allow-subclassing-any
@@ -31,7 +31,7 @@ _KEY_SIZE = 64  # bytes of a scrypt key, as Django's own hasher writes it
 
 _TAG_OF_CFFI = 16
 """The bytes of a tag of argon2-cffi before 21.2. A record with such a tag stays. Otherwise a server
-with our hasher and one with Django's would rehash each other's records by turns."""
+with our hasher and one with Django's would rehash each other's records in turn."""
 
 _NUMBER = r"[1-9]\d{0,9}"
 
@@ -53,8 +53,8 @@ class _RecordHasher(BasePasswordHasher):
         require_app()
 
     def decode(self, encoded: str) -> dict[str, Any]:
-        """The parts of a record. For any other text it raises a ValueError that doesn't show the
-        text."""
+        """Returns the parts of a record. Raises a ValueError for any other text, and doesn't show
+        the text."""
         name, _, rest = encoded.partition("$")
         found = self._form.fullmatch(rest)
         if name != self.algorithm or not found:
@@ -71,7 +71,8 @@ class _RecordHasher(BasePasswordHasher):
 
     @hidden_below
     def verify(self, password: Password, encoded: str) -> bool:
-        """Whether the password is right for the record; raises OutOfMemoryError if memory runs out.
+        """Returns whether the password is right for the record. Raises OutOfMemoryError if memory
+        runs out.
 
         For a damaged record, or for numbers that the library refuses, every password is wrong, and
         costs a hash like any other.
@@ -152,8 +153,8 @@ class Argon2PasswordHasher(_RecordHasher):
         return "$".join((self.algorithm, "argon2id", "v=19", costs, *letters))
 
     def decode(self, encoded: str) -> dict[str, Any]:
-        """The parts of a record. For any other text it raises a ValueError that doesn't show the
-        text."""
+        """Returns the parts of a record. Raises a ValueError for any other text, and doesn't show
+        the text."""
         parts = super().decode(encoded)
         parts["version"] = int(parts["version"] or 16)
         parts["salt"] = decoded(parts["salt"]).decode("latin1")
@@ -188,14 +189,14 @@ class Argon2PasswordHasher(_RecordHasher):
 
 
 class ScryptPasswordHasher(_RecordHasher):
-    """The hasher of strings scrypt$N$SALT$r$p$KEY, as in Django 4.0 and later; it works from Django
-    3.2 on.
+    """The hasher of strings scrypt$N$SALT$r$p$KEY, as in Django 4.0 and later. This hasher works
+    from Django 3.2 on.
 
     Attributes:
         work_factor: N, a power of two.
         block_size: r, 1 to 255.
         parallelism: p, 1 to 255. The default is that of the installed Django, whose records would
-            otherwise count as old, or 5.
+            otherwise count as old. If that Django has no scrypt, the default is 5.
     """
 
     algorithm = "scrypt"

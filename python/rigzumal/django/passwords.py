@@ -6,7 +6,7 @@ The operations call a model's own `check_password` and `set_password` if the mod
 Each operation may raise:
     ValueError: the user isn't saved.
     RecordChanged: the row's record has changed since the user was read, and stays unchanged;
-        for the first three operations, the record changed eight times.
+        the first three operations raise it only if the record changed eight times.
     ImproperlyConfigured: the model has a method that these calls would skip.
 """
 

@@ -36,7 +36,7 @@ class RecordChanged(Exception):
     """
 
     def __str__(self) -> str:
-        return "the password was changed since the user was read; nothing was saved"
+        return "the password has changed since the user was read: this call saved nothing"
 
 
 def database_of(user: Any) -> str:

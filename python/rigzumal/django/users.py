@@ -28,9 +28,10 @@ class CompareAndSetMixin(models.Model):
     """Put this mixin before AbstractBaseUser or AbstractUser among a model's bases.
 
     - `check_password` replaces a record with old costs only if the row still has that record.
-    - `save` writes the password only if your code has set it since the user was read, and only over
-      the record that was read; otherwise it raises RecordChanged and writes no field. Saving other
-      fields therefore never restores an old password.
+    - `save` writes the password only if your code has set the password since the user was read, and
+      only over the record that was read. If the password is set and the row has another record,
+      `save` raises RecordChanged and writes no field. Saving other fields therefore never restores
+      an old password.
 
     Everything else is as in Model. Put your own methods that check or set passwords in a class
     before the mixin, and let them call `super()`. These ways of writing don't compare: `update`,
@@ -178,7 +179,7 @@ del CompareAndSetMixin.Meta
 def make_comparing(model: Any) -> None:
     """Puts the mixin before a model's bases, as if the model's source had it there.
 
-    If RIGZUMAL_USER_COMPARES is True, the app calls this for the user model.
+    If RIGZUMAL_USER_COMPARES is True, the app calls this function for the user model.
     """
     if not issubclass(model, CompareAndSetMixin):
         model.__bases__ = (CompareAndSetMixin, *model.__bases__)

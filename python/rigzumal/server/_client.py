@@ -77,7 +77,7 @@ class Denied(ServerError):
 
 
 class Refused(ServerError):
-    """The server refused the line, by a number and a word of docs/ERRORS.md; nothing changed.
+    """The server refused the line, by a number and a word of docs/ERRORS.md, and changed nothing.
 
     Attributes:
         number: the number of the refusal, such as 3.
@@ -95,7 +95,8 @@ class Question:
 
     Attributes:
         no_name: the reply if no book allows the name; without it, the client raises `Refused`.
-        wrong: the reply if no record can have the first password; without it, a ValueError.
+        wrong: the reply if no record can have the first password; without it, the client raises
+            a ValueError.
     """
 
     operation: str

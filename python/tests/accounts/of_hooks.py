@@ -237,7 +237,7 @@ class RowsOfOnesOwn:
         self.assertEqual(self.execute("SELECT failures FROM users"), [(60,)])
 
     @each(
-        ("shouting", "from the one that was written"),
+        ("shouting", "from the one that the UPDATE wrote"),
         ("ignoring", "which an UPDATE doesn't change"),
         ("emptying", "record differs|doesn't change"),
     )

@@ -255,7 +255,11 @@ POSTGRES_TABLES = (
     (f"{TEXTS}; {INDEX} (name) INCLUDE (record)",),
     # The index is invalid, as after CREATE UNIQUE INDEX CONCURRENTLY found a key twice.
     (f"{TEXTS}; {INDEX} (name); {INVALID}", NOT_UNIQUE),
-    ("name text PRIMARY KEY, record char(300)", "character(300)", "from the one that was written"),
+    (
+        "name text PRIMARY KEY, record char(300)",
+        "character(300)",
+        "from the one that the UPDATE wrote",
+    ),
     ("name text PRIMARY KEY, record bytea", "record is bytea, not text", "the record is not text"),
     ("name text PRIMARY KEY, record citext",),
     ("name other.ci PRIMARY KEY, record other.ci", CASE),

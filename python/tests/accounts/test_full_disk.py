@@ -69,7 +69,7 @@ class FullDisk(Base):
             found = {it.code: it for it in accounts.examine()}
         others += ["no-update"] * (mode == "DELETE")
         self.assertEqual({*found}, {*others, "disk-full"})
-        said = "the disk has 0 KiB free: changes may be refused"
+        said = "the disk has 0 KiB free: changes may fail"
         self.assertEqual((str(found["disk-full"]), found["disk-full"].is_error), (said, False))
 
     def test_a_crash_after_a_refused_commit(self):

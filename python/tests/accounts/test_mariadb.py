@@ -176,7 +176,7 @@ class OnMariaDB(engines.OnMariaDB, Base):
             for words in (("add", "m" * 300), ("import", file.name)):
                 given = ("--database", self.server.url, *words)
                 said = commanded(cli.main, *given, given=b"pw", status=5)
-                self.assertIn("the server keeps another name", said)
+                self.assertIn("the server stored another name", said)
                 self.assertEqual(self.execute("SELECT * FROM accounts"), [])
 
     def test_what_examine_says_of_a_session(self):

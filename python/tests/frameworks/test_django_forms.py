@@ -31,7 +31,7 @@ from tests.helpers import each
 NEW = "Nq7-xx!zz"
 GIVEN = {"old_password": "old", "new_password1": NEW, "new_password2": NEW}
 BY_ADMIN = {"password1": NEW, "password2": NEW}
-CHANGED = "password was changed meanwhile"
+CHANGED = "password has changed meanwhile"
 
 
 class Forms(Ann, TestCase):

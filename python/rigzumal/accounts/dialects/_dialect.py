@@ -18,11 +18,11 @@ LONGEST_WRITTEN: Final = 152  # bytes of a record of accounts, with the longest 
 NOT_NULL: Final = "record-not-null"
 CRASH_LOSES: Final = "a crash loses acknowledged changes"
 POWER_CUT_LOSES: Final = "a power cut loses acknowledged changes"
-ANOTHER_RECORD: Final = "the row's record differs from the one that was written"
+ANOTHER_RECORD: Final = "the row's record differs from the one that the UPDATE wrote"
 NO_TRANSACTION: Final = "no transaction is open on the connection"
 LEFT_OPEN: Final = (
-    "a transaction is open on the connection: after any exception, a pool closes what it"
-    " gave out, or rolls it back"
+    "a transaction is open on the connection: after any exception, the pool must close the"
+    " connection, or roll it back"
 )
 _BIGINT: Final = 2**63
 Line = tuple[Key, str]
@@ -242,7 +242,7 @@ class Dialect:
         raise NotImplementedError
 
     async def commit(self, session: Session) -> None:
-        """Commits; raises an exception if the change may be lost."""
+        """Commits the transaction, and raises an exception if the change may be lost."""
         await session.execute(self.commit_sql)
 
     async def hold(self, session: Session) -> None:
@@ -324,7 +324,7 @@ class Dialect:
         """
         if not nullable:
             text = f"{self.record_name} is NOT NULL: no account can be without a record"
-            yield warning(NOT_NULL, f"{text}, so `remove` is refused")
+            yield warning(NOT_NULL, f"{text}, so each `remove` fails")
         if "" in unique:
             return
         if any(self._is_of_one_case(it) for it in unique):
@@ -343,9 +343,9 @@ class Dialect:
         return bool(re.search(form, "".join(indexed.split()), re.I))
 
     def after_triggers(self, rows: Iterable[Sequence[object]]) -> Iterator[Fault]:
-        """Reports triggers that run after the write: the trial shows the effect of the others."""
+        """Reports triggers that run after the write: a trial shows the effect of other triggers."""
         for (name,) in rows:
-            text = f"the trigger {name} may change what was written"
+            text = f"the trigger {name} may change a record after its UPDATE"
             yield warning("after-trigger", text)
 
     def key_faults(self, kind: str, fits: bool) -> Iterator[Fault]:

@@ -15,7 +15,7 @@ from rigzumal.accounts.dialects._dialect import other_driver
 from rigzumal.accounts.dialects._faults import Fault, Findings, error, not_durable
 from rigzumal.accounts.dialects._faults import warning
 
-UNCOMMITTED: Final = "READ UNCOMMITTED: uncommitted records are read"
+UNCOMMITTED: Final = "READ UNCOMMITTED: operations would read uncommitted records"
 NOBODYS_RECORD: Final = f"$argon2id$v=19$m=8,t=1,p=1$bm9ib2R5J3M${'A' * 43}"
 """A placeholder for "no record", within a transaction alone."""
 

@@ -120,8 +120,8 @@ class Sqlite(Dialect):
         return Findings(faults + [it for path in paths for it in of_disk(path)])
 
     def _others(self) -> str:
-        """Builds a query that finds records other than text in the first rows: SQLite allows them
-        in a column of any type."""
+        """Builds a query that finds records other than text in the first rows. SQLite allows such
+        records in a column of any type."""
         rows = f"SELECT typeof({self.record}) AS type FROM {self.table} LIMIT {_LOOKED_AT}"
         return f"SELECT DISTINCT type FROM ({rows}) WHERE type NOT IN ('text', 'null')"
 
@@ -166,7 +166,7 @@ def of_disk(path: str) -> Iterator[Fault]:
         return
     free = found.f_bavail * found.f_frsize
     if found.f_blocks and free < _NEEDED:
-        yield warning("disk-full", f"the disk has {free >> 10} KiB free: changes may be refused")
+        yield warning("disk-full", f"the disk has {free >> 10} KiB free: changes may fail")
 
 
 def of_connection(seen: dict[str, Any]) -> Iterator[Fault]:
@@ -178,5 +178,5 @@ def of_connection(seen: dict[str, Any]) -> Iterator[Fault]:
     if seen["journal_mode"] != "wal":
         yield warning("no-wal", "journal_mode isn't WAL: logins fail while another client writes")
     if seen["read_uncommitted"]:
-        text = "read_uncommitted is on: uncommitted records are read"
+        text = "read_uncommitted is on: operations would read uncommitted records"
         yield error("read-uncommitted", text)

@@ -28,7 +28,7 @@ The other modules are:
     tries       failed tries at these users: the book counts those at its accounts
     ask         credkeep-ask(1)
 
-A function's name is the noun for its result, or the verb for its work; the name of a question
+A function's name is the noun for its result, or the verb for its work. The name of a question
 begins with is, are, has, have, may or must. Requests and answers are bytes. The package imports no
 other part of rigzumal, so that bin/credkeep-server and bin/credkeep-ask can run it on its own.
 """

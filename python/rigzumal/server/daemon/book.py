@@ -217,7 +217,7 @@ class Book:
                 return
             self.is_down = True
             self.refuse_waiting()
-            log_seldom("reopen", "the server can't reopen the book; it retries each second")
+            log_seldom("reopen", "the server can't reopen the book, and retries each second")
             await asyncio.sleep(RETRY_SECONDS)
         self.refuse_waiting()
         if not self.ended.done():

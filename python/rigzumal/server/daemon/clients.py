@@ -1,4 +1,4 @@
-"""The clients of the sockets: reads their lines, and writes the answers."""
+"""Reads the lines of the sockets' clients, and writes the answers."""
 
 from __future__ import annotations
 

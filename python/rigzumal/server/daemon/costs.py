@@ -37,8 +37,8 @@ def costs_of(setting: str) -> Optional[Costs]:
 
 
 def size_of(kib: int) -> str:
-    """Returns a bound in the form that credkeep reads: a number of KiB, or of GiB if it is too
-    large."""
+    """Returns a bound in the form that credkeep reads: a number of KiB, or of GiB if that number is
+    too large."""
     if kib <= MOST:
         return str(kib)
     return f"{min(math.ceil(kib / GIB), MOST)}G"

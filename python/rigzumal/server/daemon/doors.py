@@ -115,7 +115,7 @@ class Door:
         return listener
 
     async def accept(self, service: Service, listener: socket.socket) -> None:
-        """Admits clients; if the admitted ones don't stay, the queue of the socket is short."""
+        """Admits clients, and shortens the socket's queue while the admitted ones don't stay."""
         with listener:
             while True:
                 try:
@@ -160,7 +160,7 @@ class Door:
         with suppress(OSError):
             sock.send(client.no_room)
         sock.close()
-        log_seldom(client.user, "refused a connection at %s of %s, which has %d", *client.user, own)
+        log_seldom(client.user, "refused a connection at %s: %s already has %d", *client.user, own)
         service.tally.counts["refused"] += 1
         return False
 

@@ -1,4 +1,4 @@
-"""The marks that earlier versions of the server kept beside the book; the book now stores them."""
+"""Moves the marks that earlier versions of the server kept beside the book into the book."""
 
 from __future__ import annotations
 

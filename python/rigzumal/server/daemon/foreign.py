@@ -250,7 +250,7 @@ def with_wrong_password(words: list[bytes]) -> list[bytes]:
     """Returns the words of a try with a password that nobody has. A field that the book would
     refuse stays unchanged.
 
-    A long password keeps its length, and one with a NUL gets a NUL: some old schemes don't hash a
+    A long password keeps its length, and one with a NUL gets a NUL. Some old schemes don't hash a
     password that is too long or has a NUL.
     """
     operation, name, *fields = words

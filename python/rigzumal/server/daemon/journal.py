@@ -40,7 +40,7 @@ def log_seldom(key: Hashable, text: str, *values: object) -> None:
 
 
 def forget_message(key: Hashable) -> bool:
-    """Makes `log_seldom` log the key's next message at once; returns False if no message was
+    """Makes `log_seldom` log the key's next message at once. Returns False if no message was
     logged."""
     return logged_at.pop(key, None) is not None
 
@@ -75,10 +75,10 @@ class Journal(GrowingFile):
         return len(self.lines) >= MOST_LINES
 
     def add(self, line: bytes) -> asyncio.Future[bool]:
-        """Appends a line, together with others that arrive meanwhile; returns whether it is on the
+        """Appends a line, with others that arrive meanwhile. Returns whether the line is on the
         disk."""
         if self.is_full():
-            text = "%s: its disk hangs: %d lines wait, and further lines are dropped"
+            text = "%s: its disk hangs: %d lines wait, and the server drops further lines"
             log_seldom((self.path, "full"), text, self.path, MOST_LINES)
             self.lacking += 1
             left_out: asyncio.Future[bool] = asyncio.get_running_loop().create_future()
@@ -91,7 +91,7 @@ class Journal(GrowingFile):
         return self.written
 
     async def write(self) -> bool:
-        """Writes all waiting lines once no other write runs; returns False if that fails."""
+        """Writes all waiting lines once no other write runs. Returns False if the write fails."""
         async with self.one_at_a_time:
             lines = self.lines
             self.lines = []
@@ -173,7 +173,7 @@ class Marks(Journal):
         return (name, mark) in self.pairs
 
     async def put(self, name: bytes, mark: bytes = b"") -> bool:
-        """Writes a mark to the disk, and then counts it; returns False if that fails."""
+        """Writes a mark to the disk, and then counts it. Returns False if the write fails."""
         words = (name, mark, utc().encode()) if mark else (name, utc().encode())
         is_on_disk = await self.add(b" ".join(words))
         if is_on_disk:

@@ -53,7 +53,7 @@ def main() -> int:
 
 
 async def serve(options: Options) -> int:
-    """Answers clients until the book ends or a signal arrives; returns the status."""
+    """Answers clients until the book ends or a signal arrives. Returns the status."""
     for door in options.doors:
         door.prepare()
     service = Service(options)
@@ -113,8 +113,7 @@ async def serve_clients(service: Service) -> None:
 
 async def notify_once_answered(book: Book, beat: float) -> None:
     """Waits for the book's answer to a line. Reports to systemd that the server is alive when the
-    answer has arrived, and at each interval before that during which an import has the book's
-    file."""
+    answer has arrived, and meanwhile at each interval in which an import has the book's file."""
     answer = book.ask(b"show", b"-")
     while not answer.done():
         await asyncio.wait([answer], timeout=beat)
@@ -139,7 +138,7 @@ def end_idle_clients(service: Service, idle: float) -> None:
 
 
 async def end(service: Service) -> int:
-    """Ends the clients, each after its answers, and then the book; returns the book's status."""
+    """Ends the clients, each after its answers, and then the book. Returns the book's status."""
     began = time.monotonic()
     notify("STOPPING=1")
     for task in service.accepting:
@@ -170,7 +169,7 @@ async def wait_for_answers(service: Service, began: float) -> None:
 
 
 async def end_book(book: Book, seconds: float) -> int:
-    """Lets the book end in order, or kills it after this many seconds; returns its status."""
+    """Lets the book end in order, or kills the book after this many seconds. Returns its status."""
     book.end()
     await asyncio.wait([book.ended], timeout=seconds)
     if not book.ended.done():
@@ -179,5 +178,5 @@ async def end_book(book: Book, seconds: float) -> int:
         await asyncio.wait([book.ended], timeout=KILLED_SECONDS)
     if book.ended.done():
         return book.ended.result()
-    log.error("the book's process can't be killed: its disk hangs")
+    log.error("the server can't kill the book's process: its disk hangs")
     return 128 + signal.SIGKILL

@@ -97,8 +97,8 @@ class OldFile:
         return self.moved.has(name, MUST_CHANGE) and not self.has_moved(name)
 
     async def expire(self, name: bytes) -> bool:
-        """Notes in HTPASSWD.moved that the user of a name must change the password; returns False
-        if that fails."""
+        """Notes in HTPASSWD.moved that the user of a name must change the password. Returns False
+        if the write fails."""
         return self.is_expired(name) or await self.moved.put(name, MUST_CHANGE)
 
     def must_change(self, name: bytes, line: Line) -> bool:

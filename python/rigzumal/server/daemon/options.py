@@ -47,7 +47,7 @@ class Options:
     socket: list[list[str]] = field(default_factory=list)
     http: str = option("answer HTTP at one more socket", "SOCKET")
     tries: int = option("failed tries before a name must wait; 0: no limit", "N", 10, MOST_TRIES)
-    idle: int = option("seconds before an idle connection is closed", "SECONDS", 600)
+    idle: int = option("seconds before the server closes an idle connection", "SECONDS", 600)
     audit: str = option("append a JSON line to this file for each change", "LOG")
     audit_tries: bool = option("log failed tries too")
     metrics: str = option("print the counts of an admin socket's server", "SOCKET")
@@ -56,12 +56,12 @@ class Options:
     least_length: int = option("the least length of a new password", "N", 0)
     setting: str = option("for credkeep: the costs of new records", "TEXT")
     at_once: int = option(
-        "lines of a user hashed at once; 0: one per processor", "N", 0, MOST_AT_ONCE
+        "the most lines of a user to hash at once; 0: one per processor", "N", 0, MOST_AT_ONCE
     )
-    memory: str = option("for credkeep: the memory of all hashes, such as 512M", "SIZE")
+    memory: str = option("for credkeep: the most memory of all hashes, such as 512M", "SIZE")
     most_memory: str = option(f"the most memory {LINE}", "SIZE")
     most_work: str = option(f"the most work {LINE}", "SIZE")
-    wait: int = option("for credkeep: the longest wait for FILE", "SECONDS", 30, 3600)
+    wait: int = option("for credkeep: the most seconds to wait for FILE", "SECONDS", 30, 3600)
     credkeep: str = option("the program to run instead of credkeep", "PROGRAM", "credkeep")
     mail_names: bool = option("accept e-mail addresses as names")
     fold_local_part: bool = option("change the part before the @ to lower case too")
@@ -123,13 +123,13 @@ def web_door(path: str, mode: str, group: str) -> Door:
 
 
 def parser() -> Parser:
-    text = "Lets many clients ask the kept book FILE. See credkeep-server(8)."
+    text = "Lets many clients query the book FILE. See credkeep-server(8)."
     made = Parser(usage="credkeep-server [OPTION].. FILE", description=text)
     text = "the book, which `credkeep FILE init` creates"
     made.add_argument("file", metavar="FILE", nargs="?", default="", help=text)
     made.add_argument("--version", action="version", version=f"credkeep-server {VERSION}")
     words = ("NAME", "PATH", "MODE", "GROUP", "OPERATIONS")
-    text = "a socket instead of the login and the admin socket; repeat for each"
+    text = "a socket instead of the login and the admin socket; repeat the option for more"
     made.add_argument("--socket", nargs=5, action="append", metavar=words, help=text)
     for it in fields(Options):
         if it.metadata:

@@ -49,8 +49,8 @@ ANSWERS = {
         pam="SUCCESS",
     ),
     "expired": Answer(
-        "the password is right, and must be changed: by `change`, or `reset`. Of `expire`: it must"
-        " be changed from now on",
+        "the password is right, but the user must replace it (`change` or `reset`); after `expire`:"
+        " a login now needs a new password",
         tried=RIGHT,
         changed=True,
         reply="EXPIRED",
@@ -73,7 +73,7 @@ ANSWERS = {
         ask=4,
     ),
     "absent": Answer(
-        "the account has no record; after `known`: it has none, or it is locked",
+        "the account has no record; after `known`: the account has none, or is locked",
         tried=ABSENT,
         reply="ABSENT",
         http=401,
@@ -99,11 +99,11 @@ ANSWERS = {
     "ok": done("OK", "the operation took effect"),
     "enrolled": done("ENROLLED", "the account has its first record"),
     "disabled": done("DISABLED", "the record is removed, and the name stays"),
-    "deleted": done("DELETED", "the name and the record are removed"),
+    "deleted": done("DELETED", "the book no longer has the name and the record"),
     "renamed": done("RENAMED", "the account has the new name"),
     "locked": done("LOCKED", "every password is wrong until `unlock`"),
     "unlocked": done("UNLOCKED", "the lock is removed, and the record counts again"),
-    "forgiven": Answer("its failed tries no longer count"),
+    "forgiven": Answer("the name's failed tries no longer count"),
     "exists": Answer(
         "the account already has a record; of `rename`: an account already has the new name",
         reply="EXISTS",
@@ -131,19 +131,19 @@ ANSWERS = {
     ),
     "later": Answer(
         "too many tries at this name failed, so this one had no effect: wait (1 s to 15 minutes),"
-        " or `credkeep-ask --server forgive NAME`",
+        " or run `credkeep-ask --server forgive NAME`",
         http=429,
         pam="MAXTRIES",
         ask=4,
     ),
     "denied": Answer(
-        "the socket doesn't allow this operation, or not with a setting: ask at the admin socket",
+        "the socket doesn't allow this operation, or no setting with it: ask at the admin socket",
         http=403,
         ask=1,
     ),
     "unavailable": Answer(
-        "the book's process has ended, or is ending: a change may be stored or not, so check the"
-        " account",
+        "the book's process has ended, or is ending, and may or may not have stored a change: check"
+        " the account",
         ask=5,
     ),
     "bad 1 exists": refused("the book, or the file of `--foreign`, already has the name", ask=4),
@@ -154,7 +154,7 @@ ANSWERS = {
     "bad 11 line": refused("no such line exists"),
     "bad 13 password": refused("the password isn't base64 of at most 256 bytes", ask=6, http=401),
     "bad 14 busy": refused(
-        "others changed the account meanwhile, or another import is running: try again", ask=5
+        "other clients changed the account, or another import is running: try again", ask=5
     ),
     "bad 16 long": refused(
         "the line has over 960 bytes, or the import over 128 MiB; the connection stays open",
@@ -192,9 +192,9 @@ class Command:
 class Operation:
     """An operation that a line requests, and its cost for the book.
 
-    Its fields are called NAME, OTHER (a new name), PW (the present password, so that the line may
-    be a guess), NEW (a new password), RECORD, SETTING (costs and a salt, which a line may lack),
-    FROM and COUNT (of a page), SIZE.
+    Its fields are NAME, OTHER (a new name), PW (the present password), NEW (a new password),
+    RECORD, SETTING (costs and a salt), FROM and COUNT (of a page), and SIZE. A line with PW may be
+    a guess. A line may lack SETTING.
     """
 
     fields: str = "NAME"
@@ -213,17 +213,17 @@ class Operation:
 
     @cached_property
     def names(self) -> int:
-        """The number of names among its fields, which come first."""
+        """The number of names among the operation's fields; the names come first."""
         return sum(field in ("NAME", "OTHER") for field in self.fields.split())
 
     @cached_property
     def new(self) -> int:
-        """The position of a new password among its fields; 0 if it has none."""
+        """The position of a new password among the operation's fields, or 0."""
         return self.place("NEW")
 
     @cached_property
     def setting(self) -> int:
-        """The position of a setting among its fields; 0 if it has none."""
+        """The position of a setting among the operation's fields, or 0."""
         return self.place("[SETTING]")
 
     @cached_property

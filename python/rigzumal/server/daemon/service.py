@@ -118,7 +118,7 @@ class Service:
         return b""
 
     def begin(self, answering: Coroutine[Any, Any, None]) -> None:
-        """Begins a task, after whose end alone the server exits."""
+        """Begins a task, for whose end the server waits before it exits."""
         task = asyncio.ensure_future(answering)
         self.tasks.add(task)
         task.add_done_callback(self.tasks.discard)
@@ -252,7 +252,7 @@ class Service:
         return answer
 
     async def ask_besides(self, request: Request, *words: bytes) -> bytes:
-        """Sends the book an additional line of a request, and returns the answer; the audit log
+        """Sends the book an additional line of a request, and returns the answer. The audit log
         gets that line too."""
         answer = await self.book.ask(*words)
         await self.note(replace(request, words=list(words)), answer)
@@ -280,8 +280,8 @@ class Service:
     # ---- the audit log
 
     async def note(self, request: Request, answer: bytes) -> bool:
-        """Adds an answered change, or a right password, to the audit log. Returns False if that
-        fails."""
+        """Adds an answered change, or a right password, to the audit log. Returns False if the
+        write fails."""
         if not self.audit.path or not self.is_noted(request, answer):
             return True
         client, (word, *fields) = request.client, request.words

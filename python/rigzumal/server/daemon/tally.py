@@ -31,8 +31,8 @@ class Metric:
     counts: tuple[str, ...]
 
     def lines(self, counted: dict[str, str]) -> Iterator[str]:
-        """Yields the metric in Prometheus' text format: if it has several samples, each one has its
-        answer as a label."""
+        """Yields the metric in Prometheus' text format. If the metric has several samples, each has
+        its answer as a label."""
         kind = "counter" if self.name.endswith("_total") else "gauge"
         yield f"# HELP credkeep_{self.name} {self.text}"
         yield f"# TYPE credkeep_{self.name} {kind}"
@@ -45,12 +45,12 @@ class Metric:
 TRIES = ("yes", "no", "absent", "noaccount", "later")
 METRICS = (
     Metric("tries_total", "Tries by their answer.", TRIES),
-    Metric("changes_total", "Changes that were stored.", ("changes",)),
+    Metric("changes_total", "Changes that the book stored.", ("changes",)),
     Metric("upgraded_total", "Records that --upgrade upgraded.", ("upgraded",)),
     Metric("memory_total", "Lines that got no memory for a hash.", ("memory",)),
-    Metric("disk_total", "Changes that were refused for lack of room on a disk.", ("disk",)),
+    Metric("disk_total", "Changes that the server refused because a disk was full.", ("disk",)),
     Metric("denied_total", "Lines that their socket doesn't allow.", ("denied",)),
-    Metric("refused_total", "Connections that were refused for lack of room.", ("refused",)),
+    Metric("refused_total", "Connections that the server refused for lack of room.", ("refused",)),
     Metric("clients", "Connections.", ("clients",)),
     Metric("waits", "Names that must wait after failed tries.", ("waits",)),
     Metric("waited_seconds_total", "Seconds that lines waited for their turn.", ("waited",)),
@@ -122,7 +122,7 @@ class Tally:
             log.info("%s no longer has to wait: %s", name, why)
 
     def end_waits(self, staying: Callable[[str], int]) -> None:
-        """Ends all waits, since a new process of the book knows no failed tries; only waits of
+        """Ends all waits, since a new process of the book knows no failed tries. Only waits of
         names for which `staying` returns seconds remain."""
         ended = [name for name in self.early if not staying(name)]
         for name in ended:
@@ -132,8 +132,8 @@ class Tally:
             log.info("%d names no longer have to wait: the book's process is new", len(ended))
 
     def waits(self) -> list[str]:
-        """Returns the names whose wait isn't over, each as NAME:SECONDS with the remaining seconds:
-        a try at that name was too early, and no login or `forgive` has ended the wait."""
+        """Returns the names whose wait isn't over, each as NAME:SECONDS with the remaining seconds.
+        A try at that name was too early, and no login or `forgive` has ended its wait."""
         early = self.early.items()
         return [f"{name}:{rest}" for name, wait in early if (rest := wait.rest())]
 

@@ -1,6 +1,6 @@
 """Transfers of whole books through a socket: an import, an export and a backup.
 
-credkeep carries out each of them. An import needs exclusive use of the book's file: the book's
+credkeep carries out each transfer. An import needs exclusive use of the book's file: the book's
 process ends in order, lines wait, and the next process starts after the import. An export, a backup
 and a trial import use a copy, which credkeep writes beside the file while the server uses the book.
 """
@@ -33,7 +33,7 @@ PIECE = 65536  # bytes to read or send at a time
 ROOM_FOR_TEXT = 4
 BUSY = b"bad 14 busy"
 DATABASE_FAILED = 5  # a status of credkeep
-ENDING = b"credkeep-server: the book is ending: nothing was done\n"
+ENDING = b"credkeep-server: the book is ending: the server did nothing\n"
 KILLED_FIRST = "1000"  # of proc(5), oom_score_adj
 
 
@@ -90,7 +90,7 @@ class Incoming:
 
 
 class Transfers:
-    """The imports, exports and backups of a server. Runs credkeep for one request at a time."""
+    """Runs credkeep for the imports, exports and backups of a server, one request at a time."""
 
     def __init__(self, service: Service) -> None:
         self.service = service

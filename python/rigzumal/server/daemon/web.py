@@ -1,5 +1,5 @@
-"""HTTP for nginx's auth_request and similar clients: reads Basic credentials, and sends a
-status."""
+"""Answers HTTP requests of nginx's auth_request and the like: reads Basic credentials, and sends
+a status."""
 
 import base64
 import re

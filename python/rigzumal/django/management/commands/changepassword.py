@@ -19,7 +19,7 @@ from rigzumal.django import records, users
 
 
 class Command(changepassword.Command):
-    """Django's command; the user model compares while it runs."""
+    """Django's command, with a user model that compares while the command runs."""
 
     @hidden_below
     def handle(self, *args: Any, **options: Any) -> Any:
@@ -29,6 +29,6 @@ class Command(changepassword.Command):
                 return super().handle(*args, **options)
         except records.RecordChanged:
             raise CommandError(
-                "The password was changed meanwhile, perhaps by a login with an old"
-                " record. Nothing was saved; please run the command again."
+                "The password has changed meanwhile, perhaps at a login with an old"
+                " record. This command saved nothing: please run it again."
             ) from None

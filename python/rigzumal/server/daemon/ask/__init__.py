@@ -1,5 +1,5 @@
-"""credkeep-ask(1): the commands of credkeep; the program asks for passwords at the terminal,
-without echo.
+"""credkeep-ask(1) runs the commands of credkeep, and asks for passwords at the terminal without
+echo.
 
 Like all of `daemon`, this package imports no other part of rigzumal, so that bin/credkeep-ask can
 run it on its own.

@@ -1,4 +1,4 @@
-"""A book's file: runs credkeep with the same arguments, and passes it the passwords through a
+"""Runs credkeep for a book's file, with the same arguments, and passes the passwords through a
 pipe."""
 
 from __future__ import annotations
@@ -52,8 +52,8 @@ def become_credkeep(words: list[str]) -> NoReturn:
 def tell_left_out(file: str) -> None:
     """Reports that a backup omits the locks that an earlier server kept beside the book."""
     if os.path.exists(f"{file}-locks"):
-        text = f"{file}-locks has locks of an earlier credkeep-server, which the copy lacks"
-        print(f"credkeep-ask: {text}: start credkeep-server once before", file=sys.stderr)
+        text = f"the copy lacks the locks that an earlier credkeep-server kept in {file}-locks"
+        print(f"credkeep-ask: {text}: start credkeep-server, and copy again", file=sys.stderr)
 
 
 def ask_credkeep(words: list[str]) -> int:

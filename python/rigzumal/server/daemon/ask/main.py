@@ -17,7 +17,7 @@ from .terminal import end
 HEAD = """usage: credkeep-ask FILE COMMAND .., as in credkeep(1)
        credkeep-ask --server [SOCKET] COMMAND [NAME]
 
-SOCKET is that of an administrator, the path or the name of the book (users). COMMAND is one of
+SOCKET is an administrator's socket: its path, or its book's name (users). COMMAND is one of
 """
 WIDTH = 22  # the width of a command with its fields
 HELP = frozenset({"-h", "--help"})
@@ -56,7 +56,7 @@ def ask_server(words: list[str]) -> int:
     if len(behind) not in COMMANDS[command].counts:
         end(1, f"{command} takes {how_many(COMMANDS[command].counts)}")
     if command != "backup" and not all(map(is_name, behind)):
-        end(1, f"a name has no spaces, at least one byte, and up to {LONGEST_NAME} bytes of UTF-8")
+        end(1, f"a name has no spaces, and 1 to {LONGEST_NAME} bytes of UTF-8")
     return Commands(Server(path_of(book))).do(command, behind, options)
 
 

@@ -1,4 +1,4 @@
-"""The server at an administrator's socket: sends lines, and reads the answers."""
+"""Sends lines to the server at an administrator's socket, and reads the answers."""
 
 from __future__ import annotations
 
@@ -61,7 +61,7 @@ class Server:
         if said.startswith("bad "):
             status = ANSWERS[said].ask if said in ANSWERS else 1
             _, number, word = said.split(" ", 2)
-            end(status, f"{words[0]} is refused: {word} ({number}; see docs/ERRORS.md)")
+            end(status, f"the server refused {words[0]}: {word} ({number}; see docs/ERRORS.md)")
         if said in ANSWERS and ANSWERS[said].text:
             end(ANSWERS[said].ask, as_said_here(ANSWERS[said].text))
         return said
@@ -87,7 +87,8 @@ class Server:
         return self.copy_result(self.ask(operation), output)
 
     def run_with(self, text: bytes, *words: str) -> int:
-        """Requests an operation of credkeep that reads a text; standard output gets the answer."""
+        """Requests an operation of credkeep that reads a text, and copies the answer to standard
+        output."""
         self.socket.settimeout(None)
         said = self.ask(*words)
         if said != f"send {len(text)}":

@@ -1,4 +1,4 @@
-"""The terminal: prints texts, and reads passwords without echo."""
+"""Prints texts at the terminal, and reads passwords without echo."""
 
 from __future__ import annotations
 
@@ -44,7 +44,7 @@ def unseen() -> Iterator[int]:
         terminal = os.open("/dev/tty", os.O_RDWR | os.O_NOCTTY)
         saved = termios.tcgetattr(terminal)
     except (OSError, termios.error):
-        end(2, "no terminal is available to ask at")
+        end(2, "no terminal is available for the passwords")
     mute = [*saved]
     mute[3] &= ~termios.ECHO
     try:
@@ -96,4 +96,4 @@ def end_unwritten() -> NoReturn:
     """Ends the program after it failed to write its answer, and keeps Python from flushing the
     rest."""
     os.dup2(os.open(os.devnull, os.O_WRONLY), sys.stdout.fileno())
-    end(2, "the output couldn't be written")
+    end(2, "the answer arrived, but writing the output failed")
