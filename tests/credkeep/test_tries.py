@@ -155,8 +155,18 @@ CHANGING = {
     "remove ann {}": ("removed", "wrong"),
     "login ann {}": ("yes", "no"),
 }
-# Accounts whose changes are sent before a try, and behind it.
-BEFORE, BEHIND = ([f"{word}{at}" for at in range(8)] for word in ("before", "behind"))
+# Accounts whose changes are sent before a try, behind it, and once these are hashed.
+BEFORE, BEHIND, LATE = ([f"{word}{at}" for at in range(8)] for word in ("before", "behind", "late"))
+# Lines of an administrator, each of which needs no hash.
+WITHOUT_HASH = [
+    "lock ann",
+    "expire ann",
+    "disable ann",
+    "delete ann",
+    "rename ann eve",
+    f"load ann {RECORD}",
+    "forgive ann",
+]
 
 
 class PlacesTest(BookTest):
@@ -185,7 +195,7 @@ class PlacesTest(BookTest):
         """The answers to tagged lines of many accounts, in their order. All come while a change of
         another account is synced, and those that are hashed behind the first change wait for its
         sync. The lines `behind` come once the others are hashed."""
-        self.begun(dict.fromkeys(("ann", "bob", *BEFORE, *BEHIND), RECORD))
+        self.begun(dict.fromkeys(("ann", "bob", *BEFORE, *BEHIND, *LATE), RECORD))
         words = ["--at-once", "1", *state.options]
         with self.book.tagged(*words, env=self.environment) as service:
             for line in state.lines:
@@ -218,16 +228,17 @@ class PlacesTest(BookTest):
             with self.subTest(name, line=line.format(password)):
                 answers = self.answers(state, lines)
                 self.assertIn(answer, answers)
-                behind = [f"{name} replaced" for name in BEHIND]
+                # All changes of others but the first one wait when the try is judged.
+                waiting = [f"{name} replaced" for name in (BEFORE[-1], *BEHIND)]
                 after = answers[answers.index(answer) :]
-                self.assertEqual([it for it in after if it in behind], behind)
+                self.assertEqual([it for it in after if it in waiting], waiting)
 
     def test_turns_at_one_account(self) -> None:
         """A right password that came before wrong ones is answered before them, and never by
         `later`: its change waits for others, and they don't overtake it."""
         for line, (right, _) in CHANGING.items():
-            tries = [f"try {line.format(OLD)}", *[f"miss {MISS}"] * LIMIT]
-            lines = [*map(change_of, BEFORE), *tries, *map(change_of, BEHIND)]
+            lines = [*map(change_of, BEFORE), f"try {line.format(OLD)}", *map(change_of, BEHIND)]
+            lines += [f"miss {MISS}"] * LIMIT
             with self.subTest(line):
                 answers = self.answers(State(LIMITED, [], [], ""), lines)
                 found = [it for it in answers if it.startswith(("try", "miss"))]
@@ -235,26 +246,27 @@ class PlacesTest(BookTest):
                 self.assertEqual(found, [f"try {right}", *[miss] * LIMIT])
 
     def test_record_that_changed_meanwhile(self) -> None:
-        """A try that was hashed before another line changed the record has the same place, whether
-        its password is that of the older record or not."""
-        for line, (_, wrong) in CHANGING.items():
-            with self.subTest(line):
-                places = []
-                for password in (OLD, OTHER):
-                    tries = [f"first change ann {OLD} {FRESH}", f"try {line.format(password)}"]
-                    lines = [*map(change_of, BEFORE), *tries, *map(change_of, BEHIND)]
-                    answers = self.answers(State([], [], [], ""), lines)
-                    places.append(answers.index(f"try {wrong}"))
-                self.assertEqual(*places)
+        """A try that was hashed before another line changed the record is answered before lines
+        that came later, whether its password is that of the older record or not."""
+        late = [f"{name} verify {name} {OTHER}" for name in LATE]
+        for (line, (_, wrong)), password in itertools.product(CHANGING.items(), (OLD, OTHER)):
+            with self.subTest(line.format(password)):
+                tries = [f"first change ann {OLD} {FRESH}", f"try {line.format(password)}"]
+                lines = [*map(change_of, BEFORE), *tries, *map(change_of, BEHIND)]
+                answers = self.answers(State([], [], [], ""), lines, late)
+                after = answers[answers.index(f"try {wrong}") :]
+                no = [f"{name} no" for name in LATE]
+                self.assertEqual([it for it in after if it in no], no)
 
-    def test_lock_behind_a_change(self) -> None:
-        """A lock that comes after a right password's hash waits for its change."""
-        for line, (right, _) in CHANGING.items():
+    def test_edits_behind_a_change(self) -> None:
+        """A line without a hash that comes after a right password's hash waits for its change."""
+        for (line, (right, _)), edit in itertools.product(CHANGING.items(), WITHOUT_HASH):
             lines = [*map(change_of, BEFORE), f"try {line.format(OLD)}", *map(change_of, BEHIND)]
-            with self.subTest(line):
-                answers = self.answers(State([], [], [], ""), lines, ["lock lock ann"])
-                found = [it for it in answers if it.startswith(("try", "lock"))]
-                self.assertEqual(found, [f"try {right}", "lock locked"])
+            with self.subTest(edit, line=line):
+                answers = self.answers(State([], [], [], ""), lines, [f"edit {edit}"])
+                found = [it.split()[0] for it in answers if it.startswith(("try", "edit"))]
+                self.assertEqual(found, ["try", "edit"])
+                self.assertIn(f"try {right}", answers)
 
 
 def change_of(name: str) -> str:

@@ -301,8 +301,8 @@ class Places:
 
 
 class Rounds:
-    """Runs changes in rounds while users log in. A round runs all changes that hash, or one other
-    change, and a rest follows."""
+    """Runs changes in rounds while users log in. A round runs all waiting changes that hash, and at
+    most one other change, and a rest follows."""
 
     def __init__(self, book: Book, is_busy: Callable[[], bool]) -> None:
         self.book = book
