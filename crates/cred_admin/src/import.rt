@@ -35,7 +35,7 @@ pub enum Existing {
 pub enum LockedRecords {
     /// The line is refused.
     Refused,
-    /// The account of the line has no record.
+    /// The account gets no record.
     Disabled,
     /// The account has its record, and the marks `!` and `~`, as an export writes them. The import
     /// refuses a line with `*`, or with a field that bars the user.

@@ -57,21 +57,21 @@ const SETTING_HELP: &str = "The scheme, the costs and, optionally, the salt of t
 const TAGGED_HELP: &str = "Answers tagged lines: verify, login, enrol, change, reset and others;\n\
     required, since serve answers no other lines";
 
-const AT_ONCE_HELP: &str = "The number of lines that are hashed at once, from 1 to 255\n\
+const AT_ONCE_HELP: &str = "Hashes at most this many lines at once, from 1 to 255\n\
     [default: as many as there are processors, and as --memory allows]";
 
-const TRIES_HELP: &str = "The number of tries that may fail at an account until the next waits,\n\
-    from 1 to 86 [default: no limit]";
+const TRIES_HELP: &str = "After this many failed tries at an account, from 1 to 86, the next try\n\
+    must wait [default: no limit]";
 
-const MEMORY_HELP: &str = "The memory that all hashes may need at once, in KiB or as 512M or 2G\n\
-    [default: 2G]";
+const MEMORY_HELP: &str = "Uses at most this memory for all hashes together: a number of KiB, or\n\
+    one with the unit M or G, such as 512M [default: 2G]";
 
 const MOST_MEMORY_HELP: &str = "Refuses each line whose setting or record needs more memory than\n\
-    this, in KiB or as 256M or 2G";
+    this: a number of KiB, or one with the unit M or G, such as 256M";
 
 const MOST_WORK_HELP: &str = "Refuses each line whose setting or record needs more work than\n\
-    this: the m of Argon2 times its t, or twice the memory of scrypt, in\n\
-    KiB or as 1G";
+    this: the m of Argon2 times its t, or twice the memory of scrypt, as\n\
+    a number of KiB, or one with the unit M or G, such as 1G";
 
 const EMPTY_HELP: &str = "Accepts an empty line as the new password";
 

@@ -66,7 +66,7 @@ impl<J: ServiceId, K: Host, W: Write> Scribe<J, K, W> {
         self.output.answer(place, &line, answer);
     }
 
-    /// Answers a line with `busy`, since other lines were always faster.
+    /// Answers a line with `busy`, since other lines have changed its account's record too often.
     pub(super) fn give_up_as_busy(&mut self, place: usize, line: Line<J>)
         requires ready { IsReady self.old.output.fault self.old.output.pending place line.number }
         requires busy { IsBusy self.old.output.pending place line.ask }
