@@ -121,6 +121,13 @@ def house() -> Facts:
         yield wrong if count > MOST[what] else None
 
 
+def merges() -> Facts:
+    """Yields each file that has the marks of a merge which wasn't finished."""
+    marked = git("grep", "-lE", "^(<{7}|>{7}) ").splitlines()
+    yield from (f"{it} has the marks of a merge" for it in marked)
+    yield None
+
+
 def figures() -> Facts:
     """Checks the counts in README: the crates that the gate proves, the wrong bodies that it tries,
     and its tests. No time may be left open."""
@@ -304,6 +311,7 @@ def walks() -> Facts:
 
 OF_TREE = (
     house,
+    merges,
     figures,
     times,
     variables,

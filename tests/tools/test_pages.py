@@ -1,5 +1,6 @@
 """tools/pages.py: README's times beside BUILDING's, and the order of crates in ARCHITECTURE."""
 
+import subprocess
 import sys
 from unittest import mock
 
@@ -66,6 +67,16 @@ class Pages(Case):
         with patched, mock.patch.object(pages, "listed", lambda: CRATES):
             with mock.patch.object(tree, "listed", lambda: CRATES):
                 return [it for it in pages.order() if it]
+
+    def test_merges(self) -> None:
+        """A file that keeps a mark of a merge is named, and a quoted mark is none."""
+        room = self.room()
+        write_files(room, {"a.md": "one\n<<<<<<< HEAD\ntwo\n", "b.md": "a line '<<<<<<< HEAD'\n"})
+        for words in (["init", "-q"], ["add", "."]):
+            subprocess.run(["git", *words], cwd=room, check=True)
+        with mock.patch.object(pages, "TOP", room):
+            found = [it for it in pages.merges() if it]
+        self.assertEqual(found, ["a.md has the marks of a merge"])
 
     def test_statements(self) -> None:
         """The tool compares the promises too."""
