@@ -143,7 +143,7 @@ class Waits:
         return self.age >= self._patience
 
     def next(self, is_dead: bool = False) -> float:
-        """Returns the next pause; after a dead connection it is as long as the last one."""
+        """Returns the next pause in seconds. A dead connection doesn't lengthen later pauses."""
         pause, self.is_first = self._next, False
         if not is_dead:
             self._next = min(pause * 2, 0.5)

@@ -88,7 +88,7 @@ class _Command:
     def database(self) -> Database:
         url = self.args.database
         if not url:
-            fault = "no database: --database URL, or RIGZUMAL_DATABASE"
+            fault = "no database: give --database URL, or set RIGZUMAL_DATABASE"
             raise Refusal(fault, Status.WORDS)
         database = Database(url)
         if database.is_missing and self.args.command != "init":

@@ -94,7 +94,7 @@ def bytes_of_password(password: Secret) -> bytes:
     that no account may have."""
     found = password if type(password) is bytes else bytes_of(password)
     if len(found) > LONGEST_PASSWORD:
-        raise ValueError(f"a password has up to {LONGEST_PASSWORD} bytes")
+        raise ValueError(f"the password has over {LONGEST_PASSWORD} bytes")
     return found
 
 

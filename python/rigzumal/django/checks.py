@@ -156,7 +156,7 @@ def hashers_listed(**_: Any) -> Messages:
     for path, ours in listed:
         judge = judges[getattr(ours, "algorithm", None)]
         if issubclass(ours, OURS) and not issubclass(judge, OURS):
-            text = f"{_path(judge)} comes after {path}, so Django uses it instead."
+            text = f"{_path(judge)} comes after {path}, so Django never uses {path}."
             hint = f"Remove {_path(judge)}: Rigzumal's hasher reads its records."
             yield _message("E013", text, hint)
 

@@ -198,8 +198,8 @@ def judge_change(
 def awaited(function: Callable[..., T]) -> Callable[..., Awaitable[T]]:
     """Runs a function in a thread, for `await`.
 
-    An error report shows the waiting frames, so none of them contains a password: the work has no
-    arguments, and no coroutine runs it.
+    An error report shows the waiting frames. None of these contains a password, since the work has
+    no arguments and runs in no coroutine.
     """
     concealed = hidden_below(function)
 

@@ -126,7 +126,7 @@ class Question:
         fields = [tag, *(it.encode() for it in (self.operation, *self.names))]
         for password in map(bytes_of, self.passwords):
             if len(password) > LONGEST_PASSWORD:
-                raise ValueError(f"a password has up to {LONGEST_PASSWORD} bytes")
+                raise ValueError(f"the password has over {LONGEST_PASSWORD} bytes")
             fields.append(base64.b64encode(password).rstrip(b"=") or b"-")
         return b" ".join(fields) + b"\n"
 

@@ -290,7 +290,7 @@ class AtAShell(support.Commands):
         self.assertIn(said, self.streams(*words.split(), given="x", status=1)[1])
 
     @each(
-        ("list", "no database: --database URL, or RIGZUMAL_DATABASE", 1),
+        ("list", "no database: give --database URL, or set RIGZUMAL_DATABASE", 1),
         ("--database sqlite:///none.db list", "none.db: no such file; init creates one", 5),
         ("--database sqlite:///nodir/u.db init", "nodir: no such folder", 5),
         ("--database postgresql://127.0.0.1:1/x init", "Connection refused", 5),

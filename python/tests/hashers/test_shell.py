@@ -139,7 +139,7 @@ class Shell(unittest.TestCase):
         ("hash hunter2", "a password is never an argument"),
         ("hunter2", "unknown word (choose from 'hash'"),
         ("accounts hunter2", "unknown word (choose from 'init'"),
-        ("accounts --database= list", "no database: --database URL"),
+        ("accounts --database= list", "no database: give --database URL"),
         ("hash --log2-n 10", "rigzumal: --log2-n is for scrypt: add --scrypt\n"),
         ("hash --scrypt --lanes 4", "rigzumal: --lanes is for Argon2: omit --scrypt\n"),
         ("hash --lanes 0", "rigzumal: 14 lanes: parallelism must be 1 to 255, not 0\n"),
