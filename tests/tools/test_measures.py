@@ -31,7 +31,7 @@ class Turns(unittest.TestCase):
 
     def test_ways_that_make_different_tags_are_not_compared(self):
         rows = {"row": {"one": lambda: ((1,), b"tag"), "other": lambda: ((1,), b"gat")}}
-        with self.assertRaisesRegex(SystemExit, "different ones at row"):
+        with self.assertRaisesRegex(SystemExit, "the results of row differ"):
             turns.take_turns(rows, 1)
 
 

@@ -131,7 +131,7 @@ class RowsOfOnesOwn:
                 *((methodcaller(it), "has ended the operation's") for it in ("commit", "rollback")),
                 (methodcaller("close"), "closed its connection"),
                 (rewrites, "has changed the account's own record"),
-                (nests, "operation on its own table"),
+                (nests, "operation on the same table"),
                 (uses_the_pool, "connection is in use"),
                 # A call of a generator function returns no answer, nor does one of a coroutine
                 # function.
@@ -180,7 +180,7 @@ class RowsOfOnesOwn:
                 *((it, text) for it in (accounts, dearer) for text in (*CHANGES, "verify ann one")),
                 *((it, "reset ann x") for it in (accounts, dearer)),
             ):
-                with self.assertRaisesRegex(TypeError, "operation on its own table"):
+                with self.assertRaisesRegex(TypeError, "operation on the same table"):
                     called(nested, text)
             used.append(called(others, "verify ann one"))
 

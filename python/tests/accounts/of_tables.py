@@ -17,7 +17,7 @@ class Connections:
     def test_modes(self):
         """Connections that aren't in autocommit, or have a transaction open."""
         worked = self.worked(self.accounts(), Kind.CHANGE, "one", "two")
-        manual, opened = "the pool's connections must be in auto", "is open .* a pool closes"
+        manual, opened = "the pool's connections must be in auto", "is open .* the pool must close"
         modes = (False, "", manual), (False, "SELECT 1", manual), (True, self.dialect.begin, opened)
         acts = ("verify", "ann", "one"), ("change", "ann", "one", "two"), ("commit", worked)
         for mode, (name, *given) in itertools.product(modes, (*acts, ("examine",))):

@@ -349,7 +349,7 @@ class Tasks(engines.OnSqliteTasks, Base):
             over = asyncio.Event()
 
             async def also(conn, reply):
-                with self.assertRaisesRegex(TypeError, "operation on its own table"):
+                with self.assertRaisesRegex(TypeError, "operation on the same table"):
                     await accounts.verify("ann", "one")
                 tasks.append(asyncio.create_task(later(over)))
 
