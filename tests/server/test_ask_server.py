@@ -214,7 +214,7 @@ class AskServer(Case):
         (b"", (), "", 6, "is empty"),
         (b"x" * 257, (), "", 6, "has over 256 bytes"),
         (b"secret", ("--least-length", "8"), "", 6, "the new password is too short"),
-        (b"secret", (), "refuses=enrol", 3, "refused: memory (4;"),
+        (b"secret", (), "refuses=enrol", 3, "refused enrol: memory (4;"),
     )
     def test_refused_passwords(
         self, password: bytes, options: tuple[str, ...], faults: str, status: int, said: str

@@ -81,7 +81,7 @@ class Races(Cheap, TransactionTestCase):
         try:
             return {**ACTS, **WRITES}[act](user)
         except RecordChanged as error:
-            self.assertIn("was changed", str(error))
+            self.assertIn("has changed", str(error))
             return RecordChanged
 
     def race(self, read, user, act, moment, other):
