@@ -178,7 +178,7 @@ class CredkeepAsk(Case):
     def test_a_backup(self) -> None:
         """A backup reports what it leaves out: locks that an earlier server kept beside the
         book."""
-        said = "credkeep-ask: users.db-locks has locks of an earlier credkeep-server"
+        said = "an earlier credkeep-server kept in users.db-locks"
         for has_locks in (False, True):
             if has_locks:
                 (self.folder / "users.db-locks").touch()

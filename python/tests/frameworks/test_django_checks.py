@@ -163,7 +163,8 @@ class Checks(unittest.TestCase):
     def test_methods_that_would_be_passed_over(self, model, names):
         with override_settings(AUTH_USER_MODEL=f"users_app.{model}"):
             found = [it for it in self.found() if it.id == "rigzumal.E006"]
-        self.assertEqual([it.msg.partition(" ")[0] for it in found], names)
+        said = [f"Our calls would bypass {name}, and therefore refuse logins." for name in names]
+        self.assertEqual([it.msg for it in found], said)
 
     def test_the_admin(self):
         get_resolver().url_patterns  # urls.py registers ours
