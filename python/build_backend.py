@@ -27,6 +27,7 @@ MACHINES = {62: "x86_64", 183: "aarch64"}
 FOR_ARM64 = os.environ.get("ARCH") == "arm64" and platform.machine() != "aarch64"
 OUT = HERE.parent / "c" / "out" / ("arm64" if FOR_ARM64 else "")
 LIBRARY = OUT / "librigzumal.so.1"
+PARTS = ("src", "include", "proved")  # of c/, from which make builds the library
 
 
 def version() -> str:
@@ -47,6 +48,8 @@ def tag() -> str:
     it."""
     library = LIBRARY.read_bytes()
     names = re.findall(rb"GLIBC_2\.(\d+)\0", library)
+    if not names:
+        sys.exit(f"{LIBRARY} is for musl: a wheel needs the library for glibc 2.34 or later")
     machine = MACHINES[int.from_bytes(library[18:20], "little")]
     return f"py3-none-manylinux_2_{max(map(int, names))}_{machine}"
 
@@ -77,11 +80,21 @@ Tag: {tag()}
     }
 
 
+def is_built(c: pathlib.Path) -> bool:
+    """Whether c/out has the library, and no source of C or compiled code is newer."""
+    if not LIBRARY.exists():
+        return False
+    sources = [c / "Makefile", *(it for part in PARTS for it in (c / part).rglob("*"))]
+    built = LIBRARY.stat().st_mtime
+    return all(it.stat().st_mtime <= built for it in sources if it.is_file())
+
+
 def need_library() -> None:
-    """Builds the library if c/out lacks it. If the build fails, the last line gives the reason."""
-    if LIBRARY.exists():
-        return
+    """Builds the library, unless c/out has the present one. If the build fails, the last line gives
+    the reason."""
     c = HERE.parent / "c"
+    if is_built(c):
+        return
     if not (c / "Makefile").exists():
         sys.exit(f"{c} is not there: pip before 21.3 builds a copy of this folder alone")
     try:

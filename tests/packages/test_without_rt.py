@@ -187,7 +187,7 @@ class WithoutRt(helpers.Case):
         said = self.make("-s", target, folder=folder, status=2)
         lines = [it for it in said.splitlines() if not it.startswith("make")]
         self.assertEqual(len(lines), 1, said)
-        self.assertIn("Only rt compiles the proved code", said)
+        self.assertIn("only the Rattle toolchain, which is not published, compiles", said)
 
     def test_pip(self):
         """`pip install ./python` builds the library, with no registry, and so does -e."""
