@@ -43,8 +43,8 @@ async def take_in(service: Service) -> None:
 
 
 async def has_taken(service: Service, name: bytes, word: bytes) -> bool:
-    """Writes the mark of an operation to the book. Returns False if no account can have the
-    mark."""
+    """Writes the mark of an operation to the book. Returns False if the name has no account, or if
+    the account lacks the record that the mark needs."""
     if not NAME.fullmatch(name):  # such as one that is too long for a line
         return False
     row = await asyncio.shield(service.book.row(name))
