@@ -11,7 +11,7 @@ from collections import Counter
 from collections.abc import Iterator, Sequence
 from typing import NamedTuple
 
-from tests.credkeep.books import CHEAP, DONE, RECORD, TAG, BookTest, Service, lined
+from tests.credkeep.books import CHEAP, DONE, RECORD, SALT, TAG, BookTest, Service, lined
 from tests.credkeep.doors import in_base64
 from tests.helpers import before_libc, shim, until
 
@@ -155,8 +155,12 @@ CHANGING = {
     "remove ann {}": ("removed", "wrong"),
     "login ann {}": ("yes", "no"),
 }
-# Accounts whose changes are sent before a try, behind it, and once these are hashed.
-BEFORE, BEHIND, LATE = ([f"{word}{at}" for at in range(8)] for word in ("before", "behind", "late"))
+# Accounts whose changes are sent before a try. One commit makes the first change, since the line
+# behind it takes long to hash; the next one as many as there may be, so the last ones wait.
+BEFORE = [f"before{at}" for at in range(70)]
+SLOW = f"$argon2id$v=19$m=65536,t=10,p=1${SALT}${TAG}"
+# Accounts for lines behind the try, and for lines that come once these are hashed.
+BEHIND, LATE = ([f"{word}{at}" for at in range(8)] for word in ("behind", "late"))
 # Lines of an administrator, each of which needs no hash.
 WITHOUT_HASH = [
     "lock ann",
@@ -195,7 +199,8 @@ class PlacesTest(BookTest):
         """The answers to tagged lines of many accounts, in their order. All come while a change of
         another account is synced, and those that are hashed behind the first change wait for its
         sync. The lines `behind` come once the others are hashed."""
-        self.begun(dict.fromkeys(("ann", "bob", *BEFORE, *BEHIND, *LATE), RECORD))
+        names = ("ann", "bob", *BEFORE, *BEHIND, *LATE)
+        self.begun({**dict.fromkeys(names, RECORD), "slow": SLOW})
         words = ["--at-once", "1", *state.options]
         with self.book.tagged(*words, env=self.environment) as service:
             for line in state.lines:
@@ -223,12 +228,11 @@ class PlacesTest(BookTest):
         for (name, state), (line, (right, wrong)), password in rows:
             told = {"": right if password == OLD else wrong, "wrong": wrong}
             answer = f"try {told.get(state.answer, state.answer)}"
-            lines = [f"beside {it}" for it in state.beside] + [*map(change_of, BEFORE)]
+            lines = [f"beside {it}" for it in state.beside] + [*BEFORE_A_TRY]
             lines += [f"try {line.format(password)}", *map(change_of, BEHIND)]
             with self.subTest(name, line=line.format(password)):
                 answers = self.answers(state, lines)
                 self.assertIn(answer, answers)
-                # All changes of others but the first one wait when the try is judged.
                 waiting = [f"{name} replaced" for name in (BEFORE[-1], *BEHIND)]
                 after = answers[answers.index(answer) :]
                 self.assertEqual([it for it in after if it in waiting], waiting)
@@ -237,7 +241,7 @@ class PlacesTest(BookTest):
         """A right password that came before wrong ones is answered before them, and never by
         `later`: its change waits for others, and they don't overtake it."""
         for line, (right, _) in CHANGING.items():
-            lines = [*map(change_of, BEFORE), f"try {line.format(OLD)}", *map(change_of, BEHIND)]
+            lines = [*BEFORE_A_TRY, f"try {line.format(OLD)}", *map(change_of, BEHIND)]
             lines += [f"miss {MISS}"] * LIMIT
             with self.subTest(line):
                 answers = self.answers(State(LIMITED, [], [], ""), lines)
@@ -252,7 +256,7 @@ class PlacesTest(BookTest):
         for (line, (_, wrong)), password in itertools.product(CHANGING.items(), (OLD, OTHER)):
             with self.subTest(line.format(password)):
                 tries = [f"first change ann {OLD} {FRESH}", f"try {line.format(password)}"]
-                lines = [*map(change_of, BEFORE), *tries, *map(change_of, BEHIND)]
+                lines = [*BEFORE_A_TRY, *tries, *map(change_of, BEHIND)]
                 answers = self.answers(State([], [], [], ""), lines, late)
                 after = answers[answers.index(f"try {wrong}") :]
                 no = [f"{name} no" for name in LATE]
@@ -261,7 +265,7 @@ class PlacesTest(BookTest):
     def test_edits_behind_a_change(self) -> None:
         """A line without a hash that comes after a right password's hash waits for its change."""
         for (line, (right, _)), edit in itertools.product(CHANGING.items(), WITHOUT_HASH):
-            lines = [*map(change_of, BEFORE), f"try {line.format(OLD)}", *map(change_of, BEHIND)]
+            lines = [*BEFORE_A_TRY, f"try {line.format(OLD)}", *map(change_of, BEHIND)]
             with self.subTest(edit, line=line):
                 answers = self.answers(State([], [], [], ""), lines, [f"edit {edit}"])
                 found = [it.split()[0] for it in answers if it.startswith(("try", "edit"))]
@@ -272,6 +276,10 @@ class PlacesTest(BookTest):
 def change_of(name: str) -> str:
     """A change of an account, with the account's name as its tag."""
     return f"{name} change {name} {OLD} {FRESH}"
+
+
+BEFORE_A_TRY = [*map(change_of, BEFORE)]
+BEFORE_A_TRY.insert(1, f"slow verify slow {OTHER}")
 
 
 def is_asleep(service: Service) -> bool:
