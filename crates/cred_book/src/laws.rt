@@ -84,8 +84,8 @@ pub fn passwords_are_seen_by_their_tags()
 /// One thread that does the same whole operations in the same order gives the same replies as the
 /// updates that the store does, and leaves the same rows. An update that leaves its copy as it is
 /// needs only a second look at the row. Some stores do every update whose copy still equals the
-/// row. Such a store refuses an update only after another update at its key since the copy. So of
-/// clients that begin again, some client always gets on.
+/// row. Such a store refuses an update only after another update at its key since the copy. So
+/// whenever a client must begin again, another client's update has succeeded.
 pub fn updates_are_one_history<V, R>()
     ensures replies { (store : Rows V) (updates : List (Update V R)) → IsLog store updates
         → replies_done updates ≡ seq_replies store (operations_done updates) }

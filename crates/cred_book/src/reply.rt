@@ -25,7 +25,7 @@ pub enum Reply {
     Kept,
     /// The record was removed.
     Removed,
-    /// The record is no longer the copy from the begin, but `now`; the commit did nothing.
+    /// The record is no longer the operation's copy, but `now`; the commit did nothing.
     Changed { now: Option<Record> },
     /// The book doesn't have the name; the commit did nothing.
     NoAccount,

@@ -17,7 +17,7 @@ use std::marker::Model;
 use std::mem;
 use std::thread::Threads;
 
-/// A request with a copy of its account's record from the begin.
+/// A request, with a copy of its account's record as it was when the request began.
 #[derive(Debug, Drop)]
 pub struct Ticket {
     request: Request,
@@ -48,7 +48,7 @@ impl Ticket {
         self.request
     }
 
-    /// Returns the copy: the account's record at the begin, if it had one.
+    /// Returns the copy: the account's record when the request began, if it had one.
     pub fn copy(&self) -> Option<Record>
         ensures { result ≡ self.now.1 }
     {
@@ -149,7 +149,7 @@ impl Worked {
         self.ticket.request()
     }
 
-    /// Returns the copy: the account's record at the begin, if it had one.
+    /// Returns the copy: the account's record when the request began, if it had one.
     pub fn copy(&self) -> Option<Record>
         ensures { result ≡ self.now.1 }
     {

@@ -84,7 +84,7 @@ impl<K: Keeper, R: Read, W: Write> Note for Called<'_, K, R, W> {
 }
 
 impl<X> Watched<X> {
-    /// Watches `inner`, which has had no call yet.
+    /// Returns a watched `inner`, with no call counted yet.
     pub fn new(inner: X) -> Watched<X>
         ensures new { IsNew result }
         ensures inner { inner_of result ≡ inner }

@@ -162,9 +162,9 @@ impl<J: Naming> Desk<J> {
         }
     }
 
-    /// Returns the book and the journal without counts, if a session is lost. `sessions` are some
-    /// that are left: the journal begins with the list of each. The call waits for those that read
-    /// the book.
+    /// Returns the book and the journal, without counts, for a caller who has lost a session.
+    /// `sessions` are all or some of those that are left: the journal begins with the list of each.
+    /// The call waits until nobody reads the book.
     ///
     /// The journal is whole even if no session is handed in. Only a test shows this, since nothing
     /// in the contract then knows what was settled.

@@ -45,25 +45,25 @@ pub struct Lost {
 /// A change of a book that was attempted.
 #[derive(Drop)]
 pub enum Attempt {
-    /// The record of a name is set or removed, and its lock stays.
+    /// Sets or removes the record of a name, whose lock stays.
     Put {
         name: Name,
         stored: Option<Record>,
     },
-    /// The marks of an account are set.
+    /// Sets the marks of an account.
     Mark {
         name: Name,
         mark: Mark,
     },
-    /// Accounts are added, and the records of others are replaced, with these marks, all together.
+    /// Adds accounts and replaces the records of others, with these marks, all together.
     TakeIn {
         added: Register,
         changed: Register,
         marks: Marks,
     },
-    /// A name is removed, with its record.
+    /// Removes a name with its record.
     Delete(Name),
-    /// An account gets another name.
+    /// Gives an account another name.
     Rename {
         name: Name,
         other: Name,

@@ -165,8 +165,8 @@ pub fn known_faults()
     ensures too_long { record_fault (replicate 513 120) ≡ Some PhcError.TooLong }
 {}
 
-/// States a law: the ranges of bytes that definitions take from this crate's constants are these
-/// numbers.
+/// States a law: this crate's constants, which bound the bytes of a text, a password and a salt in
+/// the definitions, have these values.
 pub fn ranges_are_these_numbers()
     ensures text { MAX_TEXT ≡ 512 }
     ensures password { MAX_PASSWORD ≡ 256 }

@@ -98,7 +98,7 @@ const DRY_RUN_HELP: &str = "Changes nothing, and prints what the import would do
 
 const COSTS_HELP: &str = "Adds the scheme and the costs of each record, as NAME:COSTS";
 
-const JSON_HELP: &str = "Answers in JSON, an object a line";
+const JSON_HELP: &str = "Answers in JSON, one object per line";
 
 const QUIET_HELP: &str = "Writes no counts, warnings or progress";
 

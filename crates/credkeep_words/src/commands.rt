@@ -78,9 +78,9 @@ pub(crate) static COMMANDS: [CommandText; 21] = [
     },
     CommandText {
         name: CommandName::Serve,
-        about: "Answers lines of many clients for as long as they come",
-        long: "Answers lines of many clients for as long as they come, each TAG OPERATION ..,\n\
-            in any order. Each change is on the disk before its line gets an answer.\n\
+        about: "Answers the lines of many clients until the input ends",
+        long: "Answers the lines of many clients, each TAG OPERATION .., in any order, until\n\
+            the input ends. Each change is on the disk before its line gets an answer.\n\
             docs/SERVING.md has the operations and their answers.",
         usage: "credkeep <FILE> serve --tagged [OPTIONS]",
         arguments: &[
