@@ -10,7 +10,7 @@ import signal
 import socket
 from typing import Any, Optional
 
-from machine import RUN, begun, in_namespaces, install, is_open, prepared, shell
+from machine import PAGE, RUN, begun, in_namespaces, install, is_open, prepared, shell
 from served import Case, Service, need, need_module, until
 from test_sites import fetched, install_pages, web_logins
 from tests.hostile_fields import LOGIN, NAMES, PASSWORD, PASSWORDS
@@ -264,6 +264,23 @@ class Web(Case):
         shell("nginx")
         until(lambda: is_open(8083), "nginx")
         return server.enrol(ada="secret", bob="other word", eve="mine")
+
+    @in_namespaces
+    def test_nginx_limit(self, room: pathlib.Path) -> None:
+        """The page's two lines, with lower numbers: an address that sends more requests gets 503,
+        also with a right password."""
+        (zone, limit) = re.findall(r"^(limit_req.*;)  +#", PAGE.read_text(), re.M)
+        self.run_nginx(room)
+        site = pathlib.Path("/etc/nginx/sites-enabled/http")
+        zone, limit = zone.replace("10r/s", "1r/m"), limit.replace("burst=60", "burst=5")
+        limited = site.read_text().replace("internal;", f"internal; {limit}")
+        site.write_text(f"{zone}\n{limited}")
+        shell("nginx -s stop")
+        until(lambda: not is_open(8083), "the end of nginx")
+        shell("nginx")
+        until(lambda: is_open(8083), "nginx")
+        self.assertEqual(fetched("eve:guess", 8083, 9), {401: 6, 503: 3})
+        self.assertEqual(fetched("ada:secret", 8083, 1), {503: 1})
 
     @in_namespaces
     def test_nginx_heads(self, room: pathlib.Path) -> None:
