@@ -40,7 +40,7 @@ Accounts = dict[str, str]
 
 
 class Change(NamedTuple):
-    """A book, an order on it, the book after it, and the order's input."""
+    """A book, a command on it, the book after it, and the command's input."""
 
     before: Accounts
     words: list[str]
@@ -61,7 +61,7 @@ DONE = Ended(0)
 
 
 def says(answer: str) -> Ended:
-    """The end of an order that writes this line: the status says whether it is a no."""
+    """The end of a command that writes this line: the status says whether it is a no."""
     is_no = answer in ("noaccount", "absent", "no", "wrong", "exists")
     return Ended(4 if is_no else 0, f"{answer}\n")
 
@@ -72,7 +72,7 @@ def imported(added: int, updated: int = 0, there: int = 0, bad: int = 0) -> str:
 
 
 def fails(status: int, text: str) -> Ended:
-    """The end of an order that says why it failed."""
+    """The end of a command that says why it failed."""
     return Ended(status, "", f"credkeep: {text}\n")
 
 
@@ -291,7 +291,7 @@ class BookTest(unittest.TestCase):
         look: Callable[[Book], Found],
         judge: Callable[[Ended, Found], None],
     ) -> list[Ended]:
-        """The ends of the runs of an order, stopped at its first call, its second and so on, each
+        """The ends of the runs of a command, stopped at its first call, its second and so on, each
         in a copy of the folder `base`. The judge sees the findings of a look afterwards."""
 
         def attempt(nth: int) -> tuple[Ended, Found] | None:
@@ -344,7 +344,7 @@ class BookTest(unittest.TestCase):
 def killed(
     book: Book, *words: str, given: str = "", within: float, how: int = signal.SIGKILL
 ) -> Ended:
-    """The end of an order that is killed at a random moment of so many seconds."""
+    """The end of a command that is killed at a random moment of so many seconds."""
     with book.start(*words) as run:
         feeder = run.feed(given)
         time.sleep(random.random() * within)

@@ -1,4 +1,4 @@
-"""The doors to a book: orders as words, and the lines of a service.
+"""The doors to a book: commands as words, and the lines of a service.
 
 Each door puts an operation, a line of tests/operations.py, in its own form.
 """
@@ -42,7 +42,7 @@ class Operation(NamedTuple):
         return " ".join([self.verb, self.name, *map(in_base64, self.passwords), *self.rest])
 
 
-class Orders:
+class Commands:
     """A run of the program for each operation, which reads its passwords as lines."""
 
     words = {"verify": "check", "enrol": "add"}
@@ -74,9 +74,9 @@ class Tagged:
         test.assertEqual([*zip(rows, found)], [(row, f"t1 {row[1]}") for row in rows])
 
 
-Door = Orders | Tagged
+Door = Commands | Tagged
 DOORS: dict[str, Door] = {
-    "orders": Orders(),
+    "commands": Commands(),
     "serve --tagged": Tagged(),
 }
 

@@ -57,7 +57,7 @@ NO_BOOKS = [
         "the scheme is none of argon2d, argon2i, argon2id and scrypt (2 scheme)",
     ),
 ]
-ORDERS = ("list", "check ann", "serve --tagged", "import", "add ann", "reset ann", "init")
+COMMANDS = ("list", "check ann", "serve --tagged", "import", "add ann", "reset ann", "init")
 
 
 class FormatTest(BookTest):
@@ -92,7 +92,7 @@ class FormatTest(BookTest):
         """Each file that holds no book has its message, and nothing is written into it or beside
         it. If the message names init, init creates a book there."""
         for make, text in NO_BOOKS:
-            for words in ORDERS[: -1 if "init" in text else None]:
+            for words in COMMANDS[: -1 if "init" in text else None]:
                 shutil.rmtree(self.room)
                 self.room.mkdir()
                 make(self.book.path)

@@ -147,8 +147,8 @@ class OthersTest(ImportTest):
         accounts = {"ann": RECORD, "ann.x": SCRYPT, "bob": OTHER, "cat": RECORD, "dan": ""}
         accounts |= {"eve": RECORD, "fay": RECORD}
         self.begun(accounts)
-        for order, name in (("lock", "eve"), ("expire", "fay"), ("lock", "dan")):
-            self.assertEqual(self.book(order, name).status, 0)
+        for edit, name in (("lock", "eve"), ("expire", "fay"), ("lock", "dan")):
+            self.assertEqual(self.book(edit, name).status, 0)
         without = {**accounts, "eve": "", "fay": ""}
         self.run_in_room(of_the_page("credkeep users.db backup copy.db && credkeep copy.db export"))
         self.check_lines(without)

@@ -1,4 +1,4 @@
-"""Services killed at random moments: answered changes are kept. test_refused_calls.py has orders,
+"""Services killed at random moments: answered changes are kept. test_refused_calls.py has commands,
 and test_clients.py many clients."""
 
 import signal

@@ -10,17 +10,17 @@ MAKING = ("add", "change", "reset", "upgrade")
 
 
 def yes(answer: str) -> Ended:
-    """The end of an order that took effect."""
+    """The end of a command that took effect."""
     return Ended(0, f"{answer}\n")
 
 
 def no(answer: str) -> Ended:
-    """The end of an order that took no effect."""
+    """The end of a command that took no effect."""
     return Ended(4, f"{answer}\n")
 
 
-# Orders one after another with their inputs and ends. The book has ann, whose password is first.
-ORDERS = [
+# Commands one after another with their inputs and ends. The book has ann, whose password is first.
+COMMANDS = [
     # Each password of a locked account is wrong, and none makes a record.
     ("lock ann", "", yes("locked")),
     ("lock ann", "", yes("locked")),
@@ -75,7 +75,7 @@ ORDERS = [
     ("check bob", "second\n", no("no")),
     ("unlock bob", "", yes("unlocked")),
     ("check bob", "second\n", no("expired")),
-    *((f"{order} zoe", "", no("noaccount")) for order in ("lock", "unlock", "expire")),
+    *((f"{command} zoe", "", no("noaccount")) for command in ("lock", "unlock", "expire")),
 ]
 
 FIRST, OTHER = (base64.b64encode(it).decode().rstrip("=") for it in (b"first", b"other"))
@@ -106,12 +106,12 @@ LINES = [
     (f"change ann {OTHER} {OTHER}", "same"),
     (f"change ann {OTHER} {FIRST}", "replaced"),
     (f"login ann {FIRST}", "yes"),
-    *((f"{order} zoe", "noaccount") for order in ("lock", "unlock", "expire")),
-    *((order, "bad 11 line") for order in ("lock", "lock ann bob", "unlock", "expire ann now")),
-    *((order, "bad 11 line") for order in ("marks", "marks ann", "marks ann 1 1")),
+    *((f"{verb} zoe", "noaccount") for verb in ("lock", "unlock", "expire")),
+    *((verb, "bad 11 line") for verb in ("lock", "lock ann bob", "unlock", "expire ann now")),
+    *((verb, "bad 11 line") for verb in ("marks", "marks ann", "marks ann 1 1")),
     *(
-        (f"{order} {name}", "bad 3 name")
-        for order in ("lock", "unlock", "expire")
+        (f"{verb} {name}", "bad 3 name")
+        for verb in ("lock", "unlock", "expire")
         for name in ("Ann", "an\0n", "a\u00e4", "a" * 33)
     ),
 ]
@@ -125,8 +125,8 @@ class MarksTest(BookTest):
         super().setUp()
         self.book.add("ann", "first\n")
 
-    def test_orders(self) -> None:
-        for text, given, wanted in ORDERS:
+    def test_commands(self) -> None:
+        for text, given, wanted in COMMANDS:
             with self.subTest(text=text, given=given):
                 words = text.split()
                 words += ["--setting", CHEAP] if words[0] in MAKING else []
@@ -140,24 +140,26 @@ class MarksTest(BookTest):
 
     def test_names(self) -> None:
         """A name that no account has is refused as a word."""
-        for order in ("lock", "unlock", "expire"):
+        for command in ("lock", "unlock", "expire"):
             for name in ("Ann", "an\nn", "ann\n", "a" * 1100, ""):
-                with self.subTest(order=order, name=name):
-                    self.assertFails(self.book(order, name), 1, "a name has 1 to 32 of", "(3 name)")
+                with self.subTest(command=command, name=name):
+                    self.assertFails(
+                        self.book(command, name), 1, "a name has 1 to 32 of", "(3 name)"
+                    )
 
     def test_in_the_row(self) -> None:
         """The file has the marks before the record, and each program that opens it heeds them."""
         [(record,)] = rows(self.book.path, "SELECT record FROM account")
-        for orders, mark in (
+        for commands, mark in (
             (["lock"], "!"),
             (["expire"], "!~"),
             (["unlock"], "~"),
             (["reset"], ""),
         ):
-            for order in orders:
-                words = ["--setting", CHEAP] if order in MAKING else []
-                self.book(order, "ann", *words, given="first\n" if words else "")
-            with self.subTest(orders=orders):
+            for command in commands:
+                words = ["--setting", CHEAP] if command in MAKING else []
+                self.book(command, "ann", *words, given="first\n" if words else "")
+            with self.subTest(commands=commands):
                 [(found,)] = rows(self.book.path, "SELECT record FROM account")
                 self.assertEqual(found[: -len(record)] + "$", mark + "$")
 
@@ -247,15 +249,15 @@ class MarksTest(BookTest):
     def test_an_export_lets_nobody_in(self) -> None:
         """A line of a marked account is refused by an import, and named; or its account has no
         record; or it has its record, and the mark."""
-        for order, answer in (("expire", "expired"), ("lock", "no")):
-            self.assertEqual(self.book(order, "ann").status, 0)
+        for command, answer in (("expire", "expired"), ("lock", "no")):
+            self.assertEqual(self.book(command, "ann").status, 0)
             lines = self.book("export").written
             for option, found, wanted in (
                 ("", {}, "noaccount"),
                 ("--disable-locked", {"ann": ""}, "absent"),
                 ("--keep-locked", self.book.accounts(), answer),
             ):
-                with self.subTest(order=order, option=option):
+                with self.subTest(command=command, option=option):
                     other = self.begun(name="other.db")
                     done = other("import", *option.split(), given=lines)
                     self.assertEqual(done.status, 0 if option else 6)

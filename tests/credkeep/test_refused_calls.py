@@ -25,7 +25,7 @@ MANY = {f"n{at:03}": RECORD for at in range(200)}
 HALF = {name: OTHER for name in [*MANY][::2]}
 RESET = ["reset", "ann", "--setting", SETTING]
 # Changes, and what their texts call them.
-ORDERS = [
+COMMANDS = [
     *((it, "the change of ann") for it in EDITS),
     (Change({"ann": OTHER}, RESET, {"ann": RECORD}, "password\n"), "the change of ann"),
     (Change({}, ["import"], MANY, lines_of(MANY)), "the 200 new accounts"),
@@ -65,7 +65,7 @@ class RefusedCallsTest(BookTest):
         look: Callable[[Book], Found],
         judge: Callable[[Ended, Found], None],
     ) -> list[Ended]:
-        """The ends of the order with each of these calls refused or killed at its first time, its
+        """The ends of the command with each of these calls refused or killed at its first time, its
         second, and on. The judge sees the findings of a look afterwards."""
         ends = []
         for call in calls:
@@ -76,8 +76,8 @@ class RefusedCallsTest(BookTest):
         self.assertTrue(may[0] <= statuses <= may[1], statuses)
         return ends
 
-    @each(*ORDERS)
-    def test_orders(self, change: Change, called: str) -> None:
+    @each(*COMMANDS)
+    def test_commands(self, change: Change, called: str) -> None:
         """Each refusal and each kill leaves the book before the change or after it. A message
         reports a file that can't be opened, and names a change that may be kept."""
         self.begun(change.before, "base/users.db").log.unlink(missing_ok=True)
@@ -121,10 +121,10 @@ class RefusedCallsTest(BookTest):
         assert done
         self.assertFails(done, 5, "a sync of the file")
 
-    def copies(self, order: str, file: str, before: Accounts, after: Accounts) -> None:
+    def copies(self, command: str, file: str, before: Accounts, after: Accounts) -> None:
         """A copy is written or restored whole or not at all, whatever is refused or killed. The
         next run is done whole, and leaves no file beside the others."""
-        change = Change(before, [order, "copy.db"], after)
+        change = Change(before, [command, "copy.db"], after)
         self.begun(OLD, "base/copy.db").log.unlink()
         book = self.begun({"ann": RECORD, "bob": ""}, "base/users.db")
         self.killed_after(book, "account k1")

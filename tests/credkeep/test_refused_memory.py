@@ -21,7 +21,7 @@ class RefusedMemoryTest(BookTest):
     def refuse_each(
         self, words: list[str], given: str, judge: Callable[[Ended, list[str]], None]
     ) -> list[Ended]:
-        """The ends of the order. The judge sees the names that are there afterwards."""
+        """The ends of the command. The judge sees the names that are there afterwards."""
         found = self.stopped(without_request, Change({}, words, {}, given), Book.names, judge)
         self.assertGreater(len(found), 20)
         return found

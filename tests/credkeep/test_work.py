@@ -21,11 +21,11 @@ class ThreadsTest(BookTest):
         ("reset", COSTS, "old\n", "replaced"),
         ("remove", None, "old\n", "removed"),
     )
-    def test_workers_of_an_order(self, order: str, costs: Any, given: str, answer: str) -> None:
-        """An order on one account hashes a record of four lanes on four threads, the caller's
+    def test_workers_of_a_command(self, command: str, costs: Any, given: str, answer: str) -> None:
+        """A command on one account hashes a record of four lanes on four threads, the caller's
         among them or not."""
         words = ["--setting", costs] if costs else []
-        done, found = counts(self.book.command(order, "ann", *words), given)
+        done, found = counts(self.book.command(command, "ann", *words), given)
         self.assertEqual(done, says(answer))
         self.assertIn(found["THREADS"], (3, 4))
 
@@ -62,7 +62,7 @@ class SyncsTest(BookTest):
         self.assertEqual(many, few)
 
     def test_syncs_of_a_reading(self) -> None:
-        """An order that only reads syncs while it opens the file and its log, and not after
+        """A command that only reads syncs while it opens the file and its log, and not after
         that."""
         self.book.add("ann", "first")
         for words, given in (
@@ -83,7 +83,7 @@ class SyncsTest(BookTest):
 
 class HashesTest(BookTest):
     def test_no_hash_in_vain(self) -> None:
-        """An order that is answered without looking at a password computes no record: there would
+        """A command that is answered without looking at a password computes no record: there would
         be no memory. A wrong password costs what a right one does."""
         self.book.add("ann", "first")
         small = limited(resource.RLIMIT_AS, 1_000_000_000)
@@ -142,20 +142,20 @@ class HashesTest(BookTest):
         """A check takes the same number of instructions whichever byte of the tag differs, so that
         no time shows how far two tags agree."""
         need("valgrind")
-        for order, given in (
+        for command, given in (
             ("check", "password"),
             ("change", "password\nnew\n"),
             ("remove", "password\n"),
         ):
-            with self.subTest(order=order, given=given):
+            with self.subTest(command=command, given=given):
                 least: dict[int, int] = {}
                 # a busy machine may add some, and takes none away
                 for byte in (0, 1, 15, 30, 31) * 3:
                     book = self.begun({"ann": altered(RECORD, byte)})
-                    words = ["--setting", CHEAP] if order == "change" else []
-                    done, count = instructions(book.command(order, *words, "ann"), given)
-                    self.assertEqual(done[:2], says("no" if order == "check" else "wrong")[:2])
+                    words = ["--setting", CHEAP] if command == "change" else []
+                    done, count = instructions(book.command(command, *words, "ann"), given)
+                    self.assertEqual(done[:2], says("no" if command == "check" else "wrong")[:2])
                     least[byte] = min(count, least.get(byte, count))
                     if len(least) == 5 and len({*least.values()}) == 1:
                         break
-                self.assertEqual(len({*least.values()}), 1, f"{order}: {least} instructions")
+                self.assertEqual(len({*least.values()}), 1, f"{command}: {least} instructions")

@@ -113,14 +113,14 @@ class BookMarks(Case):
             """
         )
 
-    def test_orders_on_the_file(self) -> None:
+    def test_commands_on_the_file(self) -> None:
         """An account that is locked or unlocked without the server is so behind its sockets, and
         the other way."""
         folder = self.room()
         book = (real_book(), folder / "users.db")
         self.over(folder=folder).enrol(ada="secret", bob="secret").stop()
-        for order, name, answer in (("lock", "ada", "locked"), ("expire", "bob", "expired")):
-            self.assertEqual(run(*book, order, name), f"{answer}\n")
+        for command, name, answer in (("lock", "ada", "locked"), ("expire", "bob", "expired")):
+            self.assertEqual(run(*book, command, name), f"{answer}\n")
         service = self.over(folder=folder)
         service.talk("login verify ada {secret} -> no\nlogin verify bob {secret} -> expired")
         service.talk("admin unlock ada -> unlocked\nadmin lock bob -> locked")

@@ -115,7 +115,7 @@ class Walk(Case):
         self.assertEqual((self.statuses(8080, new), imap("ada", new)), ([200], True))
 
     def administer(self, words: str) -> None:
-        """Types an administrator's order of the page for our user."""
+        """Types an administrator's command of the page for our user."""
         found = re.findall(r"`(?:credkeep-ask --server )?(\w+ ann)`", part("What you see"))
         self.assertIn(words, found)
         self.type(f"credkeep-ask --server {words.replace('ann', 'ada')}")

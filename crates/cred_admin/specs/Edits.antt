@@ -1,4 +1,4 @@
--- The effect of the orders that change an account without its password.
+-- The effect of the commands that change an account without its password.
 use Rattle.std.specs.Io.KnownBytes.{Appends, Keeps}
 use Rattle.std.specs.Prelude.{◌≡◌, ◌⊎◌, ℕ, Bool, true, false, ◌&&◌, not, List, codes, nat_lt, Option, Some, None, Result, Ok, Err, IfErr}
 use Rattle.cred_phc.specs.Values.{RecordValue}

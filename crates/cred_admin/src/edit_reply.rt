@@ -1,11 +1,11 @@
-//! The answer to an order that changes an account without its password.
+//! The answer to a command that changes an account without its password.
 
 ghost use Rattle.std.specs.Prelude.{◌≡◌};
 ghost use Rattle.cred_admin.specs.Edits.{edit_line, edit_status};
 
 use crate::status::Status;
 
-/// The outcome of such an order.
+/// The outcome of such a command.
 #[derive(Clone, Copy, Debug, PartialEq, Eq)]
 pub enum EditReply {
     /// The record was removed, and the name stays.

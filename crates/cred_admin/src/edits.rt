@@ -1,4 +1,4 @@
-//! The orders that change an account without its password.
+//! The commands that change an account without its password.
 
 ghost use Rattle.std.specs.Prelude.{◌≡◌};
 ghost use Rattle.std.specs.FinMap as map;

@@ -1,7 +1,7 @@
--- Definitions that contracts cite: what an order makes of a kept book, and how it ends.
+-- Definitions that contracts cite: what a command makes of a kept book, and how it ends.
+pub mod BookCommands
 pub mod Copy
 pub mod Imports
-pub mod Orders
 pub use Rattle.cred_admin.specs.Edits
 pub use Rattle.cred_admin.specs.Import
 pub use Rattle.cred_admin.specs.Marked

@@ -1,10 +1,10 @@
 //! The texts on standard error.
 
 ghost use Rattle.std.specs.Prelude.{◌≡◌, option_map};
-ghost use Rattle.cred_keep.specs.Orders.{status_of_end, status_of_open, unless_lost};
+ghost use Rattle.cred_keep.specs.BookCommands.{status_of_end, status_of_open, unless_lost};
 
 use crate::import::{Effect, Imported};
-use crate::outcome::{Failure, OrderResult};
+use crate::outcome::{CommandResult, Failure};
 use cred_admin::{BadLine, Fault, Hint, ImportFault, LineFault, Status};
 use cred_book::{BookError, Register};
 use cred_file::{Attempt, Lost, OpenFault};
@@ -19,11 +19,11 @@ const MOST_NAMED: usize = 64;
 /// The rule for names, in the words of refusals.
 pub const NAME_RULE: &str = "a name has 1 to 32 of a-z, 0-9, '.', '_', '-'";
 
-/// Writes the remarks on an order's end, and returns the status: `Database` if a change is lost.
+/// Writes the remarks on a command's end, and returns the status: `Database` if a change is lost.
 /// A failure of `faults` changes nothing.
 pub(crate) fn tell_end<F: Write>(
     faults: &mut F,
-    ended: Result<OrderResult, Failure>,
+    ended: Result<CommandResult, Failure>,
     lost: Option<&Lost>,
 ) -> Status
     ensures { result ≡ status_of_end (unless_lost (option_map (λ l. l.now) lost.entry) ended) }
@@ -33,9 +33,9 @@ pub(crate) fn tell_end<F: Write>(
             explain(faults, &Failure::Database, lost);
             Failure::Database.status()
         }
-        (None, Ok(order_result)) => {
-            advise(faults, &order_result);
-            order_result.status()
+        (None, Ok(command_result)) => {
+            advise(faults, &command_result);
+            command_result.status()
         }
         (None, Err(failure)) => {
             explain(faults, &failure, lost);
@@ -44,17 +44,17 @@ pub(crate) fn tell_end<F: Write>(
     }
 }
 
-/// Writes the remarks on the result of an order: the reason why a refused password may be wrong,
+/// Writes the remarks on the result of a command: the reason why a refused password may be wrong,
 /// and the lines that an import left out. A failure of `faults` changes nothing.
-fn advise<F: Write>(faults: &mut F, order_result: &OrderResult) {
-    let _ = match order_result {
-        OrderResult::Answered(Status::No(Some(Hint::CarriageReturn))) => writeln!(
+fn advise<F: Write>(faults: &mut F, command_result: &CommandResult) {
+    let _ = match command_result {
+        CommandResult::Answered(Status::No(Some(Hint::CarriageReturn))) => writeln!(
             faults,
             "credkeep: hint: the password that was read ends in a carriage return, which counts: \
              tr -d '\\r' removes it"
         ),
-        OrderResult::Answered(_) => Ok(()),
-        OrderResult::Imported(made) => tell_imported(faults, made),
+        CommandResult::Answered(_) => Ok(()),
+        CommandResult::Imported(made) => tell_imported(faults, made),
     };
 }
 
@@ -66,7 +66,7 @@ fn tell_imported<F: Write>(faults: &mut F, made: &Imported) -> io::Result<()> {
     }
 }
 
-/// Writes the fault of an order, with the book's lost change if the database failed. A failure of
+/// Writes the fault of a command, with the book's lost change if the database failed. A failure of
 /// `faults` changes nothing.
 pub fn explain<F: Write>(faults: &mut F, failure: &Failure, lost: Option<&Lost>) {
     let _ = match failure {

@@ -9,7 +9,7 @@ use crate::sidecar::{
     look_at_its_log, real_path, sidecar,
 };
 use cred_admin::{Detail, LineForm, Status};
-use cred_keep::Order;
+use cred_keep::BookCommand;
 use credkeep_words::{FileFault, Remarks};
 use sqlite::{Connection, Error, ErrorCode, FileFrom, FileStore, Start, Wary};
 use std::fs::{File, Metadata, OpenOptions};
@@ -132,10 +132,10 @@ pub(crate) fn look(host: &HostRuntime, file: &str, remarks: Remarks) -> Result<(
 pub(crate) fn look_before_export(
     host: &HostRuntime,
     file: &str,
-    order: &Order,
+    command: &BookCommand,
 ) -> Result<(), Status> {
-    match order {
-        Order::List {
+    match command {
+        BookCommand::List {
             line: LineForm::Passwd(Detail::Record),
         } => accept(host, file, look_at_locks(host, file)),
         _ => Ok(()),

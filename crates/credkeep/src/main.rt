@@ -1,4 +1,4 @@
-//! `credkeep`, a credential store in a database file. `cred_keep` does the orders, and
+//! `credkeep`, a credential store in a database file. `cred_keep` does its commands, and
 //! `credkeep_words` reads the words. This crate opens the file, and returns the status.
 #![tactic(auto)]
 

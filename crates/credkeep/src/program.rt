@@ -13,7 +13,7 @@ use crate::tagged::{Tagged, serve_tagged};
 use cred_admin::Status;
 use cred_cli::{Tools, Watched};
 use cred_file::{FileBook, OpenFault};
-use cred_keep::{Order, refuse, serve_in};
+use cred_keep::{BookCommand, refuse, serve_in};
 use credkeep_words::{
     Command, CommandLine, Counted, ProgressLine, Remarks, advise, read_passwords, read_words, say,
 };
@@ -25,7 +25,7 @@ use std::thread::Threads;
 use std::time::Clock;
 use std::{env, io};
 
-/// The maximum number of threads for an order on one account: the lanes of the default setting.
+/// The maximum number of threads for a command on one account: the lanes of the default setting.
 const LANES: u8 = 4;
 
 /// Does the command that the process's words ask for.
@@ -68,16 +68,16 @@ fn answer<T: Threads + Wait + Clock + Sync + Copy + Send + 'static>(
         Command::Restore(from) => Ok(restore(host, line, from)?.tell(host, line.counts)),
         Command::Verify => verify(host, line),
         Command::Tagged(service) => serve_tagged(host, rt, line, &Tagged::of(service)),
-        Command::Perform { order, echo } => {
+        Command::OnBook { command, echo } => {
             let tools = Tools {
                 rt,
                 alloc: host.alloc(),
                 workers: LANES,
             };
             look(host, line.file, line.remarks)?;
-            look_before_export(host, line.file, order)?;
-            let lines = read_passwords(host, line.file, order, *echo)?;
-            on_file(host, &tools, line, order, lines)
+            look_before_export(host, line.file, command)?;
+            let lines = read_passwords(host, line.file, command, *echo)?;
+            on_file(host, &tools, line, command, lines)
         }
     }
 }
@@ -113,13 +113,13 @@ fn begin_beside(host: &HostRuntime, file: &str) -> Result<Status, Status> {
     Ok(status)
 }
 
-/// Opens the file, does an order in its database, and closes the file. The passwords were read
+/// Opens the file, does a command in its database, and closes the file. The passwords were read
 /// before.
 fn on_file<T: Threads + Sync>(
     host: &HostRuntime,
     tools: &Tools<'_, T>,
     line: &CommandLine<'_>,
-    order: &Order,
+    command: &BookCommand,
     passwords: Option<Vec<u8>>,
 ) -> Result<Status, Status> {
     let file = line.file;
@@ -129,24 +129,24 @@ fn on_file<T: Threads + Sync>(
         None => (&[][..], u64::MAX),
     };
     let input = lines.chain(host.stdin().take(rest));
-    let remarks = match order {
-        Order::Import { .. } => line.remarks,
+    let remarks = match command {
+        BookCommand::Import { .. } => line.remarks,
         _ => Remarks::Hidden,
     };
     let counted = Counted::new(input, ProgressLine::new(host, remarks));
-    let (conn, status) = obey(tools, conn, order, counted, host.stdout(), host.stderr());
+    let (conn, status) = obey(tools, conn, command, counted, host.stdout(), host.stderr());
     if status == Status::Done {
-        advise(host, order, lines);
+        advise(host, command, lines);
     }
     Ok(close(host, conn, status))
 }
 
-/// Does an order in a database, which comes back. The function is generic over the database: with a
-/// file's database a proof takes too long.
+/// Does a command in a database, which comes back. The function is generic over the database: with
+/// a file's database a proof takes too long.
 fn obey<T: Threads + Sync, S: Alter, R: Read + Drop, W: Write + Drop, F: Write + Drop>(
     tools: &Tools<'_, T>,
     conn: Connection<S>,
-    order: &Order,
+    command: &BookCommand,
     reader: R,
     writer: W,
     mut faults: F,
@@ -155,7 +155,7 @@ fn obey<T: Threads + Sync, S: Alter, R: Read + Drop, W: Write + Drop, F: Write +
 {
     let mut reader = Watched::new(reader);
     let mut writer = Watched::new(writer);
-    serve_in(tools, conn, order, &mut reader, &mut writer, &mut faults)
+    serve_in(tools, conn, command, &mut reader, &mut writer, &mut faults)
 }
 
 /// Creates a book in the database, or reports whose tables are in the way. The database comes back.

@@ -4,7 +4,7 @@ ghost use Rattle.std.specs.Prelude.{◌≡◌, ◌⊎◌, false, IfSome, is_some
 ghost use Rattle.cred_admin.specs.Marked.{kept_book};
 ghost use Rattle.cred_book.specs.Accounts.{register_capacity};
 ghost use Rattle.cred_cli.specs.Script.{lines_of};
-ghost use Rattle.cred_keep.specs.Orders.{IsRefused};
+ghost use Rattle.cred_keep.specs.BookCommands.{IsRefused};
 ghost use Rattle.cred_many.specs.{Served.StandsAtEnd, Served.left_of, Service.service, Transcript.written_of};
 ghost use Rattle.credkeep.specs.Service.{ServesBook, status_of_end, status_of_fault};
 

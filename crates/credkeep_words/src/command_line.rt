@@ -1,14 +1,14 @@
 //! The request of the command line.
 
 use crate::arguments::credkeep;
+use crate::book_commands::read_command;
 use crate::commands::command_named;
 use crate::options::{counts_in, either, number_in, text_in};
-use crate::orders::read_command;
 use crate::refusal::WordsRefusal;
 use clap::{ArgMatches, Error};
 use cred_admin::{NewSetting, Status};
 use cred_cli::CostBounds;
-use cred_keep::{CountsForm, Order};
+use cred_keep::{BookCommand, CountsForm};
 use cred_tries::TryLimit;
 use std::alloc::Global;
 use std::random::RandomSource;
@@ -51,8 +51,8 @@ pub enum Command<'a> {
     Verify,
     /// Answers tagged lines of many clients.
     Tagged(Service),
-    /// Does an order on a book.
-    Perform { order: Order, echo: Echo },
+    /// Does a command on a book.
+    OnBook { command: BookCommand, echo: Echo },
 }
 
 /// The service of tagged lines.

@@ -1,15 +1,15 @@
 //! The words of the program `credkeep`: the commands of its command line, the texts on refused
 //! words and files, and the passwords that it reads. `credkeep` opens the files, and `cred_keep`
-//! does the orders.
+//! does the commands.
 #![tactic(auto)]
 
 mod arguments;
+mod book_commands;
 mod command_line;
 mod commands;
 mod costs;
 mod fault;
 mod options;
-mod orders;
 mod passwords;
 mod progress;
 mod refusal;

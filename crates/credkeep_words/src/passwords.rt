@@ -1,10 +1,10 @@
-//! Reads the passwords of an order: lines of standard input, or lines that a user types at a
+//! Reads the passwords of a command: lines of standard input, or lines that a user types at a
 //! terminal that shows them.
 
 use crate::command_line::Echo;
 use crate::refusal::say;
 use cred_admin::{Passwords, Status};
-use cred_keep::Order;
+use cred_keep::BookCommand;
 use cred_phc::MAX_PASSWORD;
 use std::io::{BufRead, ErrorKind, IsTerminal, Read, Write};
 
@@ -13,16 +13,16 @@ const PRESENT: &str = "Password: ";
 /// The size of the longest password line in bytes, with its end.
 const LONGEST: u64 = MAX_PASSWORD as u64 + 1;
 
-/// Reads the password lines of an order on a book, if the order reads any. The input must end after
-/// them: a line end within a password would cut the password there. At a terminal, asks for each
-/// password on standard error, and for a new one twice.
+/// Reads the password lines of a command on a book, if the command reads any. The input must end
+/// after them: a line end within a password would cut the password there. At a terminal, asks for
+/// each password on standard error, and for a new one twice.
 pub fn read_passwords(
     host: &HostRuntime,
     file: &str,
-    order: &Order,
+    command: &BookCommand,
     echo: Echo,
 ) -> Result<Option<Vec<u8>>, Status> {
-    let Order::Account { operation, .. } = order else {
+    let BookCommand::Account { operation, .. } = command else {
         return Ok(None);
     };
     let passwords = operation.passwords();
@@ -35,9 +35,9 @@ pub fn read_passwords(
     }
 }
 
-/// Warns if the new password of an order ends in a carriage return.
-pub fn advise(host: &HostRuntime, order: &Order, lines: &[u8]) {
-    let Order::Account { operation, .. } = order else {
+/// Warns if the new password of a command ends in a carriage return.
+pub fn advise(host: &HostRuntime, command: &BookCommand, lines: &[u8]) {
+    let BookCommand::Account { operation, .. } = command else {
         return;
     };
     let is_new = match operation.passwords() {
@@ -55,7 +55,7 @@ pub fn advise(host: &HostRuntime, order: &Order, lines: &[u8]) {
 }
 
 /// Reads the input to its end, or to a byte that these passwords can't have. The input may still be
-/// too short or too long: the order reports that.
+/// too short or too long: the command reports that.
 fn read_lines(host: &HostRuntime, passwords: Passwords) -> Result<Vec<u8>, Status> {
     let (count, most, too_many) = match passwords {
         Passwords::Present | Passwords::New(_) => {

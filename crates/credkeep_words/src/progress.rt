@@ -1,4 +1,4 @@
-//! The progress of an order, written on a terminal.
+//! The progress of a command, written on a terminal.
 
 ghost use Rattle.std.specs.{Io.ReadsAtMost, Io.KnownBytes.ReadConsumes, Prelude.◌≡◌};
 
@@ -15,11 +15,11 @@ const MANY_LINES: u64 = 10_000;
 
 const LINES: &str = "lines read, which are stored together";
 
-/// A line on standard error, which the program overwrites as an order goes on.
+/// A line on standard error, which the program overwrites as a command goes on.
 #[derive(Drop)]
 pub struct ProgressLine<'a> {
     host: &'a HostRuntime,
-    /// The time of the last line, or of the order's start. `None` without a terminal.
+    /// The time of the last line, or of the command's start. `None` without a terminal.
     last: Option<Instant>,
     shown: bool,
 }

@@ -1,8 +1,8 @@
 //! The texts on refused words, and their exit statuses.
 
+use crate::book_commands::DEFAULT_SETTING;
 use crate::commands::{CommandName, CommandText, command_in, write_commands};
 use crate::costs::write_range;
-use crate::orders::DEFAULT_SETTING;
 use crate::slip::{Slip, slip_in};
 use clap::Error;
 use clap::error::ErrorKind;

@@ -1,12 +1,12 @@
-//! The orders on a kept book.
+//! The commands on a kept book.
 
 ghost use Rattle.std.specs.Prelude.{◌≡◌, ◌⊎◌, ℕ, List, false, true};
 ghost use Rattle.cred_cli.specs.Watched.{Basis, IsNew, MayFollow, reading, reading_on, transcript_reading, transcript_writing, writing, writing_on};
 ghost use Rattle.cred_admin.specs.{Marked.kept_book, Seen.FitsSince, Seen.seen};
-ghost use Rattle.cred_keep.specs.Orders.{IsRefused, IsServed, Performs, is_unread};
+ghost use Rattle.cred_keep.specs.BookCommands.{IsRefused, IsServed, Performs, is_unread};
 
 use crate::import::{Importing, import};
-use crate::outcome::{Failure, OrderResult, command_end, import_end};
+use crate::outcome::{CommandResult, Failure, command_end, import_end};
 use crate::report::{refuse, tell_end};
 use cred_admin::{
     Detail, Edit, LineForm, Operation, Status, disable_shown, edit_account, list, show, show_json,
@@ -18,9 +18,9 @@ use sqlite::{Alter, Connection};
 use std::io::{Read, Write};
 use std::thread::Threads;
 
-/// An order on a kept book.
+/// A command on a kept book.
 #[derive(Clone, Copy)]
-pub enum Order {
+pub enum BookCommand {
     /// Does an operation on one account, with its passwords.
     Account { name: Name, operation: Operation },
     /// Disables, deletes, renames, locks, unlocks or expires an account without its password.
@@ -37,18 +37,18 @@ pub enum Order {
     Import { how: Importing },
 }
 
-/// Opens the book of a database, and does an order on it. The connection comes back. If the
-/// database holds no book, `faults` says why, and the order reads and writes nothing. The caller
+/// Opens the book of a database, and does a command on it. The connection comes back. If the
+/// database holds no book, `faults` says why, and the command reads and writes nothing. The caller
 /// has made no call on the reader or the writer. Only a call of these two may wait: otherwise every
 /// body returns, so these clauses bind it.
 ///
-/// `faults` also gets the fault that ended the order, the reason why a password may be wrong, or
+/// `faults` also gets the fault that ended the command, the reason why a password may be wrong, or
 /// the lines that an import left out. A failure of `faults` changes nothing. The status is
 /// `Database` if a change is lost; otherwise the table stands for the book, and a crash leaves it.
 pub fn serve_in<T: Threads + Sync, S: Alter, R: Read, W: Write, F: Write>(
     tools: &Tools<'_, T>,
     conn: Connection<S>,
-    order: &Order,
+    command: &BookCommand,
     reader: &mut Watched<R>,
     writer: &mut Watched<W>,
     faults: &mut F,
@@ -56,20 +56,20 @@ pub fn serve_in<T: Threads + Sync, S: Alter, R: Read, W: Write, F: Write>(
     requires new_reader { IsNew reader.old }
     requires new_writer { IsNew writer.old }
     requires autocommit { conn.in_transaction ≡ false }
-    ensures done { IsServed S.Store order.now (reading R.remaining reader.old reader.new)
+    ensures done { IsServed S.Store command.now (reading R.remaining reader.old reader.new)
         (writing W.contents writer.old writer.new) conn result.0 result.1
         ⊎ (IsRefused S.Store conn result.0 result.1 × (reader.new ≡ reader.old)
         × (writer.new ≡ writer.old)) }
     ensures transcript { (rest : List ℕ) → MayFollow rest reader.new
-        → IsServed S.Store order.now (transcript_reading rest reader.new)
+        → IsServed S.Store command.now (transcript_reading rest reader.new)
         (transcript_writing writer.old writer.new) conn result.0 result.1
         ⊎ (IsRefused S.Store conn result.0 result.1 × (reader.new ≡ reader.old)
         × (writer.new ≡ writer.old)) }
-    ensures unread { is_unread order.now ≡ true → reader.new ≡ reader.old }
+    ensures unread { is_unread command.now ≡ true → reader.new ≡ reader.old }
 {
     match FileBook::open(tools.alloc, conn) {
         Ok(mut book) => {
-            let ended = perform(tools, &mut book, order, reader, writer);
+            let ended = perform(tools, &mut book, command, reader, writer);
             let status = tell_end(faults, ended, book.lost());
             (book.close(), status)
         }
@@ -77,35 +77,37 @@ pub fn serve_in<T: Threads + Sync, S: Alter, R: Read, W: Write, F: Write>(
     }
 }
 
-/// Does an order on a kept book.
+/// Does a command on a kept book.
 fn perform<T: Threads + Sync, S: Alter, R: Read, W: Write>(
     tools: &Tools<'_, T>,
     book: &mut FileBook<S>,
-    order: &Order,
+    command: &BookCommand,
     reader: &mut Watched<R>,
     writer: &mut Watched<W>,
-) -> Result<OrderResult, Failure>
+) -> Result<CommandResult, Failure>
     requires new_reader { IsNew reader.old }
     requires new_writer { IsNew writer.old }
     ensures done { (basis : Basis) → FitsSince basis reader.old reader.new
-        → Performs order.now (seen (reading_on basis R.remaining reader.old reader.new)
+        → Performs command.now (seen (reading_on basis R.remaining reader.old reader.new)
         (writing_on basis W.contents writer.old writer.new) (kept_book book.old)
         (kept_book book.new)) result }
-    ensures unread { is_unread order.now ≡ true → reader.new ≡ reader.old }
+    ensures unread { is_unread command.now ≡ true → reader.new ≡ reader.old }
 {
-    match order {
-        Order::Account { name, operation } => {
+    match command {
+        BookCommand::Account { name, operation } => {
             command_end(operation.carry_out(tools, book, name, reader, writer))
         }
-        Order::Edit { edit } => command_end(edit_account(book, edit, writer)),
-        Order::DisableShown { name } => {
+        BookCommand::Edit { edit } => command_end(edit_account(book, edit, writer)),
+        BookCommand::DisableShown { name } => {
             command_end(disable_shown(tools.alloc, book, name, writer))
         }
-        Order::Show { name, detail } => command_end(show(tools.alloc, book, name, *detail, writer)),
-        Order::ShowJson { name, detail } => {
+        BookCommand::Show { name, detail } => {
+            command_end(show(tools.alloc, book, name, *detail, writer))
+        }
+        BookCommand::ShowJson { name, detail } => {
             command_end(show_json(tools.alloc, book, name, *detail, writer))
         }
-        Order::List { line } => command_end(list(tools.alloc, book, *line, writer)),
-        Order::Import { how } => import_end(import(tools.alloc, book, *how, reader), writer),
+        BookCommand::List { line } => command_end(list(tools.alloc, book, *line, writer)),
+        BookCommand::Import { how } => import_end(import(tools.alloc, book, *how, reader), writer),
     }
 }

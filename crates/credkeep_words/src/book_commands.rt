@@ -12,7 +12,7 @@ use cred_admin::{
 };
 use cred_book::Name;
 use cred_cli::{exceeds, memory_alone};
-use cred_keep::Order;
+use cred_keep::BookCommand;
 use cred_phc::{PhcError, draw_salt};
 use rand::rngs::StdRng;
 use rand::{Rng, make_rng};
@@ -44,7 +44,7 @@ pub(crate) fn read_command<'a, R: RandomSource + AllocGlobal>(
         CommandName::Export => list(values, LineForm::Passwd(Detail::Record)),
         CommandName::Import => {
             let how = importing_in(values)?;
-            perform(values, Order::Import { how })
+            on_book(values, BookCommand::Import { how })
         }
         CommandName::Show => show(values, name_in(values, "name")?),
         CommandName::Disable => disable(values, name_in(values, "name")?),
@@ -62,19 +62,22 @@ pub(crate) fn read_command<'a, R: RandomSource + AllocGlobal>(
     }
 }
 
-fn perform<'a>(values: &ArgMatches<'a>, order: Order) -> Result<Command<'a>, WordsRefusal<'a>> {
-    Ok(Command::Perform {
-        order,
+fn on_book<'a>(
+    values: &ArgMatches<'a>,
+    command: BookCommand,
+) -> Result<Command<'a>, WordsRefusal<'a>> {
+    Ok(Command::OnBook {
+        command,
         echo: either(values, "echo", Echo::Taken, Echo::Refused),
     })
 }
 
 fn list<'a>(values: &ArgMatches<'a>, line: LineForm) -> Result<Command<'a>, WordsRefusal<'a>> {
-    perform(values, Order::List { line })
+    on_book(values, BookCommand::List { line })
 }
 
 fn edit<'a>(values: &ArgMatches<'a>, edit: Edit) -> Result<Command<'a>, WordsRefusal<'a>> {
-    perform(values, Order::Edit { edit })
+    on_book(values, BookCommand::Edit { edit })
 }
 
 fn account<'a>(
@@ -82,21 +85,21 @@ fn account<'a>(
     operation: Operation,
 ) -> Result<Command<'a>, WordsRefusal<'a>> {
     let name = name_in(values, "name")?;
-    perform(values, Order::Account { name, operation })
+    on_book(values, BookCommand::Account { name, operation })
 }
 
 fn show<'a>(values: &ArgMatches<'a>, name: Name) -> Result<Command<'a>, WordsRefusal<'a>> {
     let detail = either(values, "record", Detail::Record, Detail::Costs);
     if values.get_flag("json") {
-        perform(values, Order::ShowJson { name, detail })
+        on_book(values, BookCommand::ShowJson { name, detail })
     } else {
-        perform(values, Order::Show { name, detail })
+        on_book(values, BookCommand::Show { name, detail })
     }
 }
 
 fn disable<'a>(values: &ArgMatches<'a>, name: Name) -> Result<Command<'a>, WordsRefusal<'a>> {
     if values.get_flag("show") {
-        perform(values, Order::DisableShown { name })
+        on_book(values, BookCommand::DisableShown { name })
     } else {
         edit(values, Edit::Disable(name))
     }

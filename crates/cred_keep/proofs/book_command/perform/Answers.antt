@@ -1,10 +1,10 @@
 use Rattle.std.proofs.Common.{rules}
-use Rattle.cred_keep.proofs.order.perform.Goals as goal
+use Rattle.cred_keep.proofs.book_command.perform.Goals as goal
 
 pub returns-in-Account-clause-done : goal.returns-in-Account-clause-done
 returns-in-Account-clause-done g c = λ basis fits. rw c.in-Account.is (c.carry_out.result, c.carry_out.ensures.done basis fits, c.command_end.ensures)
 
--- ---- orders that read nothing
+-- ---- commands that read nothing
 
 pub returns-in-Edit-clause-done : goal.returns-in-Edit-clause-done
 returns-in-Edit-clause-done g c = λ basis fits. search (rules, c.edit_account.ensures basis)

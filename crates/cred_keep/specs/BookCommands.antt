@@ -1,4 +1,4 @@
--- The effect of an order on a kept book.
+-- The effect of a command on a kept book.
 use Rattle.std.specs.Io.KnownBytes.{Appends, Keeps}
 use Rattle.std.specs.Prelude.{◌≡◌, Bool, true, false, Option, Some, None, Result, Ok, Err}
 use Rattle.cred_book.specs.Accounts.{register_capacity}
@@ -10,40 +10,41 @@ use Rattle.cred_cli.specs.{Outcome.FrontWritten, Watched.Reading, Watched.Writin
 use Rattle.cred_file.specs.{Keeps.Keeps as IsKept, Kept.Kept, Kept.cells, Opening.IsFound, Opening.IsUnopened, declared.fault.Lost.Lost, declared.fault.OpenFault.OpenFault}
 use Rattle.sqlite.specs.{Held.Held, Held.state, State.HasCleanDisk, State.Survives, Store.Ghosts, declared.error.Error.Error}
 use Rattle.sqlite.specs.declared.error.ErrorCode.{ErrorCode}
-use Rattle.cred_keep.specs.{Imports.Imports, declared.import.Imported.Imported, declared.order.Order.Order}
-use Rattle.cred_keep.specs.declared.order.Order.TheVariants.{Account, Edit, DisableShown, Show, ShowJson, List as Lines, Import}
-use Rattle.cred_keep.specs.{declared.outcome.OrderResult.OrderResult, declared.outcome.Failure.Failure}
+use Rattle.cred_keep.specs.{Imports.Imports, declared.book_command.BookCommand.BookCommand, declared.import.Imported.Imported}
+use Rattle.cred_keep.specs.declared.book_command.BookCommand.TheVariants.{Account, Edit, DisableShown, Show, ShowJson, List as Lines, Import}
+use Rattle.cred_keep.specs.{declared.outcome.CommandResult.CommandResult, declared.outcome.Failure.Failure}
 use Rattle.std.specs.FinMap as map
 use Rattle.cred_admin.specs.declared.fault.Fault.TheVariants as fault
 use Rattle.cred_admin.specs.declared.import.ImportFault.TheVariants as import
 use Rattle.cred_file.specs.declared.fault.OpenFault.TheVariants as open_fault
 use Rattle.sqlite.specs.declared.error.Error.TheVariants as sqlite
 use Rattle.sqlite.specs.declared.error.ErrorCode.TheVariants as code
-use Rattle.cred_keep.specs.declared.outcome.OrderResult.TheVariants as order_result
+use Rattle.cred_keep.specs.declared.outcome.CommandResult.TheVariants as command_result
 use Rattle.cred_keep.specs.declared.outcome.Failure.TheVariants as failure
 
 -- ---- how it ends
 
-abbrev pub command_end : Result Status Fault → Result OrderResult Failure
-command_end (Ok status) = Ok (order_result.Answered status)
+abbrev pub command_end : Result Status Fault → Result CommandResult Failure
+command_end (Ok status) = Ok (command_result.Answered status)
 command_end (Err e) = Err (failure.Command e)
 
 -- the counts of an import are written; a failed import writes nothing
-abbrev pub EndsImport : Result Imported ImportFault → Writing → Result OrderResult Failure → Type 0
+abbrev pub EndsImport : Result Imported ImportFault → Writing → Result CommandResult Failure
+    → Type 0
 EndsImport (Ok made) w (Ok e) =
-    Appends w.before w.now made.text.items × (e ≡ order_result.Imported made)
+    Appends w.before w.now made.text.items × (e ≡ command_result.Imported made)
 EndsImport (Ok made) w (Err e) = (w.failed ≡ true)
     × FrontWritten w.before w.now made.text.items × (e ≡ failure.Command fault.Write)
 EndsImport (Err why) w ended = Keeps w.before w.now × (ended ≡ Err (failure.Import why))
 
 -- if a change is lost, the fault is the database's
-abbrev pub unless_lost : Option Lost → Result OrderResult Failure → Result OrderResult Failure
+abbrev pub unless_lost : Option Lost → Result CommandResult Failure → Result CommandResult Failure
 unless_lost None ended = ended
 unless_lost (Some l) ended = Err failure.Database
 
-abbrev pub status_of_order_result : OrderResult → Status
-status_of_order_result (order_result.Answered status) = status
-status_of_order_result (order_result.Imported made) = Done
+abbrev pub status_of_command_result : CommandResult → Status
+status_of_command_result (command_result.Answered status) = status
+status_of_command_result (command_result.Imported made) = Done
 
 abbrev pub status_of_import : ImportFault → Status
 status_of_import import.Read = Io
@@ -57,8 +58,8 @@ status_of_failure (failure.Import e) = status_of_import e
 status_of_failure failure.Database = Database
 
 -- the exit status
-abbrev pub status_of_end : Result OrderResult Failure → Status
-status_of_end (Ok e) = status_of_order_result e
+abbrev pub status_of_end : Result CommandResult Failure → Status
+status_of_end (Ok e) = status_of_command_result e
 status_of_end (Err e) = status_of_failure e
 
 abbrev pub status_of_code : ErrorCode → Status
@@ -77,11 +78,11 @@ status_of_open _ = Database
 
 -- ---- what it does
 
--- the end of a command with this property becomes this end of an order
-abbrev pub Commands : (Result Status Fault → Type 0) → Result OrderResult Failure → Type 0
+-- an end in cred_admin with this property becomes this end of a command
+abbrev pub Commands : (Result Status Fault → Type 0) → Result CommandResult Failure → Type 0
 Commands Holds ended = (r : Result Status Fault) × Holds r × (ended ≡ command_end r)
 
-abbrev pub Performs : Order → Seen → Result OrderResult Failure → Type 0
+abbrev pub Performs : BookCommand → Seen → Result CommandResult Failure → Type 0
 Performs (Account name operation) s ended =
     Commands (Obeys register_capacity name operation s) ended
 Performs (Edit edit) s ended =
@@ -100,28 +101,28 @@ Performs (Lines line) s ended =
 Performs (Import how) s ended = (r : Result Imported ImportFault)
     × Imports how s.reading s.old s.new r × EndsImport r s.writing ended
 
--- how the order ends for the shell: Ok means that no change is lost
-abbrev pub Ends : Order → Seen → Option Lost → Result OrderResult Failure → Type 0
-Ends order s lost ended =
-    (r : Result OrderResult Failure) × Performs order s r × (ended ≡ unless_lost lost r)
+-- how the command ends for the shell: Ok means that no change is lost
+abbrev pub Ends : BookCommand → Seen → Option Lost → Result CommandResult Failure → Type 0
+Ends command s lost ended =
+    (r : Result CommandResult Failure) × Performs command s r × (ended ≡ unless_lost lost r)
 
--- how an order leaves its book: the order ends so, and the table stands for the book until a change
--- is lost
-pub record Leaves {S : Type 0} (g : Ghosts S) (order : Order) (s : Seen) (kept : Kept S)
-    (ended : Result OrderResult Failure) : Type 0 where
-  pub ends : Ends order s kept.lost ended
+-- how a command leaves its book: the command ends so, and the table stands for the book until a
+-- change is lost
+pub record Leaves {S : Type 0} (g : Ghosts S) (command : BookCommand) (s : Seen) (kept : Kept S)
+    (ended : Result CommandResult Failure) : Type 0 where
+  pub ends : Ends command s kept.lost ended
   pub keeps : IsKept g kept.conn (cells kept) kept.lost
 
--- the order is done once on the opened book of a database, and the connection comes back as the
--- order left it
-pub record IsServed {S : Type 0} (g : Ghosts S) (order : Order) (r : Reading) (w : Writing)
+-- the command is done once on the opened book of a database, and the connection comes back as the
+-- command left it
+pub record IsServed {S : Type 0} (g : Ghosts S) (command : BookCommand) (r : Reading) (w : Writing)
     (old new : Held S) (status : Status) : Type 0 where
   pub opened : Kept S
   pub found : HasCleanDisk (state g opened.conn)
       → IsFound (state g old) (state g opened.conn) (cells opened)
   pub kept : Kept S
-  pub ended : Result OrderResult Failure
-  pub leaves : Leaves g order (seen r w (kept_book opened) (kept_book kept)) kept ended
+  pub ended : Result CommandResult Failure
+  pub leaves : Leaves g command (seen r w (kept_book opened) (kept_book kept)) kept ended
   pub closed : new ≡ kept.conn
   pub told : status ≡ status_of_end ended
 
@@ -132,8 +133,8 @@ pub record IsRefused {S : Type 0} (g : Ghosts S) (old new : Held S) (status : St
   pub kept : Survives (state g old) (state g new) (λ _. ⊥)
   pub told : status ≡ status_of_open why
 
--- the order reads nothing
-abbrev pub is_unread : Order → Bool
+-- the command reads nothing
+abbrev pub is_unread : BookCommand → Bool
 is_unread (Lines line) = true
 is_unread (Show name detail) = true
 is_unread (ShowJson name detail) = true

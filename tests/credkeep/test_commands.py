@@ -1,4 +1,4 @@
-"""Orders on an account: their input, the records that they write, and their output."""
+"""Commands on an account: their input, the records that they write, and their output."""
 
 import base64
 import json
@@ -22,7 +22,7 @@ NEW_HINT = f"credkeep: hint: the new password {COUNTS}"
 MAKING = ("add", "change", "reset")
 READING = ("add", "check", "change", "reset", "upgrade", "remove")
 
-# Orders one after another with their inputs and ends. The book has ann, whose password is first,
+# Commands one after another with their inputs and ends. The book has ann, whose password is first,
 # and bob, whose password is that with a carriage return.
 PASSWORDS = [
     # A password is a line without its end, which may be missing.
@@ -30,15 +30,15 @@ PASSWORDS = [
     *(("check ann", given, says("no")) for given in ("first \n", "\n")),
     # Nothing may stand behind it, or behind the second one of change.
     *(
-        (f"{order} {name}", given, TWO_LINES)
-        for order in READING
+        (f"{command} {name}", given, TWO_LINES)
+        for command in READING
         for name in ("ann", "zoe")
         for given in ("first\nmore\n", "first\nmore", "first\n\n", "\nfirst", "\n" * 9000)
-        if order != "change"
+        if command != "change"
     ),
     *(("change ann", given, THREE_LINES) for given in ("first\nx\ny\n", "first\nx\ny", "\n\n\n")),
     # Where the input has none, or no second one, nothing is changed.
-    *((f"{order} {name}", "", NO_PASSWORD) for order in READING for name in ("ann", "zoe")),
+    *((f"{command} {name}", "", NO_PASSWORD) for command in READING for name in ("ann", "zoe")),
     *(("change ann", given, NO_NEW_ONE) for given in ("first", "first\n", "\n")),
     *(("change ann --empty-password", given, NO_NEW_ONE) for given in ("first", "first\n", "\n")),
     ("check ann", "first\n", says("yes")),
@@ -114,17 +114,18 @@ class PasswordsTest(BookTest):
 
 class RecordsTest(BookTest):
     def test_default_setting(self) -> None:
-        """Each order that writes a record uses RFC 9106's second choice, and a salt of 16 bytes."""
+        """Each command that writes a record uses RFC 9106's second choice, and a salt of 16
+        bytes."""
         self.begun({"ann": RECORD})
         made = []
-        for order, name, given, answer in (
+        for command, name, given, answer in (
             ("upgrade", "ann", "password\n", "upgraded"),
             ("add", "bob", "password\n", "enrolled"),
             ("change", "ann", "password\npassword\n", "replaced"),
             ("reset", "bob", "password\n", "replaced"),
         ):
-            with self.subTest(order=order, name=name):
-                self.assertEqual(self.book(order, name, given=given), says(answer))
+            with self.subTest(command=command, name=name):
+                self.assertEqual(self.book(command, name, given=given), says(answer))
                 made.append(self.book.accounts()[name])
         self.assertEqual([it[: len(DEFAULT)] for it in made], [DEFAULT] * 4)
         self.assertEqual(len(self.salts(made)), 4)
@@ -139,8 +140,8 @@ class RecordsTest(BookTest):
         return found
 
     def test_fresh_salts(self) -> None:
-        """The salts of orders, and of a service of tagged lines, all differ, and each of their 16
-        bytes takes many values."""
+        """The salts of commands, and of a service of tagged lines, all differ, and each of their
+        16 bytes takes many values."""
         for at in range(100):
             self.book.add(f"a{at}")
         for at in range(0, 100, 4):
