@@ -76,6 +76,6 @@ def _empty(
             if is_hidden(trace.tb_frame):
                 try:
                     trace.tb_frame.clear()
-                except RuntimeError:  # it runs: `hidden` empties its own
+                except RuntimeError:  # the frame of `hidden` still runs, and has no password
                     pass
             trace = trace.tb_next

@@ -1,4 +1,4 @@
-"""The exceptions of argon2-cffi; each is also an exception of `rigzumal`."""
+"""The exceptions of argon2-cffi; those of hashing and verifying are also those of `rigzumal`."""
 
 from __future__ import annotations
 
