@@ -1,5 +1,5 @@
-/* The strings of argon2.h, by the original's rules: salts and tags of any size, of which a record
- * of rigzumal.h holds 48 and 64 bytes. */
+/* The strings of argon2.h, by the original's rules: salts and tags of any size, while a record of
+ * rigzumal.h holds up to 48 and 64 bytes. */
 #define _GNU_SOURCE
 #include "base64.h"
 #include "libargon2.h"
