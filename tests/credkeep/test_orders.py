@@ -1,4 +1,4 @@
-"""Orders on an account: their input, the records that they write, and their output."""
+"""Commands on an account: their input, the records that they write, and their output."""
 
 import base64
 import json
