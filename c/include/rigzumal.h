@@ -78,7 +78,7 @@ enum rigzumal_size {
     RIGZUMAL_STACK_SIZE = 24576, /* of the caller's stack, enough for any call */
     RIGZUMAL_SALT_SIZE = 16,     /* of a new record, as usual */
     RIGZUMAL_TAG_SIZE = 32,      /* the same */
-    RIGZUMAL_SALT_SIZE_MIN = 8, /* in a record; of scrypt 1 */
+    RIGZUMAL_SALT_SIZE_MIN = 8,  /* in a record; of scrypt 1 */
     RIGZUMAL_SALT_SIZE_MAX = 48,
     RIGZUMAL_TAG_SIZE_MIN = 4,
     RIGZUMAL_TAG_SIZE_MAX = 64
