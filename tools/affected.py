@@ -36,7 +36,7 @@ OF_CRATES = {
 EVERY = ("",)
 PACKAGE = ("python/tests/package", "tests/packages")
 PAGES = ("docs/tests", "tools/readme")
-# The jobs that read a file are those of the row with the longest beginning of its path.
+# The row with the longest beginning of a file's path names the jobs that read the file.
 READERS: Mapping[str, Collection[str]] = {
     ".": (),
     ".ci/": ("tests/tools/test_without_rt",),

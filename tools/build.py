@@ -145,7 +145,7 @@ class Progress:
             else ""
         )
         clear = "\033[K" if sys.stderr.isatty() else ""
-        # in one piece, since two threads tell
+        # in one piece, since two threads print
         sys.stderr.write(f"{clear}{what}; {len(self.done)} of {len(self.names)} done{rest}{end}")
         sys.stderr.flush()
 
