@@ -14,11 +14,11 @@ the contents of its `out` folders, but only the programs of crates:
 
 Without --sample the script tries all changes. First the tests must pass in each copy, with nothing
 changed. The time limit of a mutant is five times their time, but at least ten seconds, unless
---limit sets another. A mutant survives if its run ends in time with status 0. A mutant that Python can't compile, or that --build
-refuses (for C `make` and for Rust `cargo test --no-run` in the nearest folder with a Makefile or
-Cargo.toml), doesn't count as refused. The status is 1 if the tests fail with nothing changed, and
-otherwise 0. Make sure that COMMAND runs any tests: unittest of Python 3.11 exits with status 0 if
--k matches none, and then all mutants survive.
+--limit sets another. A mutant survives if its run ends in time with status 0. A mutant that Python
+can't compile, or that --build refuses (for C `make` and for Rust `cargo test --no-run` in the
+nearest folder with a Makefile or Cargo.toml), doesn't count as refused. The status is 1 if the
+tests fail with nothing changed, and otherwise 0. Make sure that COMMAND runs any tests: unittest of
+Python 3.11 exits with status 0 if -k matches none, and then all mutants survive.
 """
 
 import argparse
