@@ -105,5 +105,5 @@ const struct build *processor_build(void);
 #define BYTES(start, size) ((size) == 0 ? NOTHING : (bytes)(start)), (size)
 #define TEXT(text) (bytes)(text), strlen(text)
 
-/* The room for a text without its zero byte. No text is empty, so none fits into no room. */
+/* The room for a text without its zero byte; no text is empty, so a size of 0 or 1 refuses all. */
 #define ROOM(text, size) ((size) == 0 ? NOTHING : (uint8_t *)(text)), (size) == 0 ? 0 : (size)-1

@@ -32,8 +32,8 @@ static size_t rounded_up(size_t size, size_t unit) {
     return (size + unit - 1) / unit * unit;
 }
 
-/* Areas: mappings of whole huge pages. One number stands for an area: its start, which is a
- * multiple of a huge page, and in the bits below the number of its huge pages. No area is 0. */
+/* Areas: mappings of whole huge pages. One number identifies an area: its start, which is a
+ * multiple of a huge page, and in the lower bits the number of its huge pages. No area is 0. */
 
 typedef uintptr_t area;
 

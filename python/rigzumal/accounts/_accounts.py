@@ -36,8 +36,8 @@ class Accounts(Operations[Pool]):
         dialect: the dialect of the database, with the names of the table and its columns.
         hasher: PasswordHasher or ScryptHasher, for the costs of new records. Its tags must have 32
             bytes. Its `threads` has no effect. With a secret, a scrypt record raises
-            InvalidRecordError, unless `secrets` contains b"". A login replaces a record with an
-            older one of `secrets`.
+            InvalidRecordError, unless `secrets` contains b"". A login replaces a record whose
+            secret is an older one of `secrets`.
         replica: a pool of a replica, for the copies of records. The replica may lag, since each
             answer depends on the primary's record. If the replica is down or refuses, operations
             read copies from the primary.

@@ -80,7 +80,7 @@ class Import:
     pool: Pool
     takes_foreign: bool = False  # records of other schemes, for a hook to judge
     are_new: bool = True  # whether all names so far were new
-    copies: bool = True  # whether the engine still takes lines in its own way
+    copies: bool = True  # whether the engine still accepts batches in its own way
 
     def take(self, file: pathlib.Path, key_of: Callable[[str], Key]) -> dict[str, int]:
         """Adds the accounts in lines "NAME RECORD", and counts the outcomes.

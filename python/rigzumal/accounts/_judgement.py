@@ -133,7 +133,7 @@ class Judge:
             raise TypeError(f"`foreign` must be a function, not a {kind}")
         self._hasher, self.foreign = hasher, foreign
         self._upgraded: dict[str, bool] = {}
-        # b"" among older secrets stands for records without one.
+        # b"" among older secrets means records without one.
         self._secrets = tuple(it or None for it in hasher._secrets())
         self._secret = self._secrets[0]
         self.sample = f"{self._setting()}${encoded(os.urandom(_TAG_SIZE))}"

@@ -8,7 +8,8 @@ True
 Differences: this module has no `core`, no `ffi` and none of the functions that argon2-cffi calls
 legacy. The module refuses a bool as a number, and all versions except 16 and 19. As in argon2-cffi,
 `parallelism` is also the number of threads. However, the library starts at most one thread for each
-processor, and none below 4 MiB. Exceptions of hashing and verifying are also those of `rigzumal`.
+processor, and none below 4 MiB. HashingError, VerificationError and InvalidHashError are also
+`rigzumal.RigzumalError`.
 """
 
 from rigzumal.argon2_cffi import exceptions, low_level, profiles
