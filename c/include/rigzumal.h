@@ -294,8 +294,7 @@ struct rigzumal_argon2 {
     uint32_t lanes;   /* 1 to 255 */
 };
 
-/* Writes the tag into the tag_size bytes at tag: 4 or more, below 2^32. Most tags have no secret
- * and no associated data.
+/* Writes the tag into the tag_size bytes at tag: 4 or more, below 2^32.
  * Faults: NO_KIND to INPUT_SIZE; MEMORY. */
 int rigzumal_argon2(void *tag, size_t tag_size, const struct rigzumal_argon2 *numbers,
                     const void *password, size_t password_size, const void *salt, size_t salt_size,
@@ -332,8 +331,7 @@ int rigzumal_scrypt(void *key, size_t key_size, const struct rigzumal_scrypt *nu
  * Use threads to speed up one login on an idle machine. On four processors, a tag with 64 MiB,
  * three passes and four lanes took 64 ms on one thread and 23 ms on four (bench/RESULTS.md). A
  * service that has as many logins at once as processors gains nothing at such costs. Four callers
- * computed a tag every 22 ms with one thread each, and every 23 ms with four. With 19 MiB and two
- * passes, the last two times were 3 and 4 ms. */
+ * computed a tag every 22 ms with one thread each, and every 23 ms with four. */
 int rigzumal_argon2_threads(void *tag, size_t tag_size, const struct rigzumal_argon2 *numbers,
                             const void *password, size_t password_size, const void *salt,
                             size_t salt_size, const void *secret, size_t secret_size,
