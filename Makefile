@@ -7,15 +7,15 @@
 #                                   on every x86-64 processor
 #     make wheel                    the package for Python with the library in it, in python/out
 #     make proved                   c/proved, by rt: the proved code compiled, for machines without rt
-#     make dist                     out/rigzumal-VERSION.tar.xz, by rt: all this with the programs' compiled code, from which
-#                                   a C compiler and Python build and install it
-#     make html                     these pages as a site to search, in out/html: with the references of Python and C
+#     make dist                     out/rigzumal-VERSION.tar.xz, by rt: the tree with the programs' compiled code, from which
+#                                   a C compiler and Python build and install everything
+#     make html                     the pages as a site to search, in out/html, with the references of Python and C
 #     make bench                    the library beside libargon2, libsodium and OpenSSL
 #     make install PREFIX=/usr/local [DESTDIR=..]
 #     make uninstall PREFIX=/usr/local [DESTDIR=..]
 #
-# make compiles programs for the processor of this machine. CPU=x86-64-v2 in front of build and install makes
-# those that run on others too. `make programs library ARCH=arm64` makes those for ARM64.
+# make compiles programs for the processor of this machine. `make build CPU=x86-64-v2` builds programs that run on
+# others too (pass CPU to install too), and `make programs library ARCH=arm64` builds those for ARM64.
 
 PREFIX ?= /usr/local
 DESTDIR ?=
@@ -23,7 +23,7 @@ BASH_DIR ?= $(PREFIX)/share/bash-completion/completions
 ZSH_DIR ?= $(PREFIX)/share/zsh/site-functions
 FISH_DIR ?= $(PREFIX)/share/fish/vendor_completions.d
 UNIT_DIR ?= $(PREFIX)/lib/systemd/system
-# Where PAM looks for modules by their names, if the prefix is the system's.
+# The folder in which PAM looks for modules by their names, if the prefix is the system's.
 PAMDIR ?= $(if $(filter /usr /usr/%,$(PREFIX)),/usr/lib/x86_64-linux-gnu/security,$(PREFIX)/lib/security)
 RT ?= rt
 PYTHON ?= /usr/bin/python3
@@ -45,10 +45,10 @@ PAM_WORDS = DESTDIR='$(DESTDIR)' PAMDIR='$(PAMDIR)' MANDIR='$(MAN)'
 
 .PHONY: build programs library test wrong-bodies deb wheel proved dist html bench install install-programs uninstall
 .DELETE_ON_ERROR:
-# Each of these works on crates side by side, and no two may work on the same ones.
+# Two of these targets must not work on the same crates at the same time.
 .NOTPARALLEL:
 
-# The library first: it takes minutes, and whoever wants only the library can stop then.
+# The library first: its build takes minutes, and a user who needs only the library can stop afterwards.
 build: library programs
 	$(if $(HAS_PAM),$(MAKE) -C c/pam,@echo 'pam_rigzumal.so is left out: libpam0g-dev is not there')
 
@@ -76,18 +76,18 @@ wheel: library
 proved:
 	$(MAKE) -C c proved RT='$(RT)' PYTHON='$(PYTHON)'
 
-# For every level of the tarball, the highest last, whose program stays built.
+# For each level in the tarball, the highest last: its programs stay built.
 dist:
 	$(MAKE) -C c check-proved RT='$(RT)' PYTHON='$(PYTHON)'
 	for level in x86-64 x86-64-v3; do for name in $(PROGRAMS); do \
 		RT='$(RT)' $(PYTHON) tools/build.py --object --cpu $$level $$name || exit 1; done; done
 	$(PYTHON) tools/dist.py
 
-# The reference of Python comes from docstrings, and the package needs the library.
+# The reference of Python comes from docstrings of the package, which needs the library.
 html: library
 	$(PYTHON) docs/site/build.py
 
-# The figures of the library in bench/RESULTS.md, from a machine that does nothing else.
+# The figures of the library in bench/RESULTS.md, on a machine without other work.
 bench: library
 	for pages in own none all; do $(PYTHON) bench/c/run.py --times 16 --pages $$pages || exit 1; done
 	$(PYTHON) bench/c/run.py --times 8 --callers 1 2 4

@@ -1,5 +1,5 @@
-"""The parts of an exception that a reporter of errors keeps: the variables of its frames, and its
-text; and the files that a call enters."""
+"""The parts of an exception that a reporter of errors keeps: its text, and the variables of its
+frames. This module also lists the files that a call enters."""
 
 from __future__ import annotations
 

@@ -1,8 +1,8 @@
-"""The parts that all tests share: runs of a program and their ends, and the shims in front of the C
-library. needs.py has the needs of a test.
+"""The shared parts of all tests: runs of programs, and the shims in front of the C library.
 
-RIGZUMAL_TIMES=N makes N times as many kills and random operations as the gate does. ARCH=arm64 runs
-programs of that processor, under qemu-user. It runs on Python 3.9, as the package does.
+With RIGZUMAL_TIMES=N the tests make N times as many kills and random operations as in the gate.
+With ARCH=arm64 they run programs of that processor, under qemu-user. This module runs on Python
+3.9, as the package does. needs.py lists the needs of a test.
 """
 
 from __future__ import annotations
@@ -46,7 +46,7 @@ BUSY = max(1, int(os.getloadavg()[0] / len(os.sched_getaffinity(0))))
 TRIPLET = "x86_64-linux-gnu" if IS_NATIVE else "aarch64-linux-gnu"
 # Programs of another processor run under qemu-user, over Debian's cross libraries.
 EMULATOR = ["qemu-aarch64", "-L", f"/usr/{TRIPLET}"]
-# A run that hasn't ended after so many seconds hangs, and is killed.
+# The tests kill a run that hasn't ended after this many seconds.
 LONGEST = 120 * BUSY
 LIMIT = float(os.environ.get("TEST_LIMIT", "1800"))
 
@@ -55,7 +55,7 @@ Found = TypeVar("Found")
 if sys.version_info < (3, 11):
 
     def enter_context(case: unittest.TestCase, context: Any) -> Any:
-        """unittest's own of Python 3.11."""
+        """Serves as unittest's own method, which Python has from 3.11 on."""
         entered = context.__enter__()
         case.addCleanup(context.__exit__, None, None, None)
         return entered
@@ -64,7 +64,7 @@ if sys.version_info < (3, 11):
 
 
 class Case(unittest.TestCase):
-    """A test with a limit: after this many seconds it fails, wherever it waits."""
+    """A test that fails after this many seconds, wherever it waits."""
 
     seconds = 300
 
@@ -77,15 +77,15 @@ class Case(unittest.TestCase):
         self.addCleanup(signal.alarm, 0)
 
     def room(self) -> pathlib.Path:
-        """A folder for this test, which every user may enter."""
+        """Creates a folder for this test, which each user may enter."""
         room = pathlib.Path(self.enterContext(tempfile.TemporaryDirectory(prefix="rigzumal-")))
         room.chmod(0o755)
         return room
 
 
 def each(*rows: Any) -> Callable[[Callable[..., None]], Callable[..., None]]:
-    """Runs a test for each of these rows, as a subtest with the row's values by the names of the
-    parameters."""
+    """Runs a test for each of these rows, as a subtest: the test's parameters name the row's
+    values."""
 
     assert rows, "a test for no row tests nothing"
 
@@ -152,8 +152,8 @@ def run(
     status: int = 0,
     at: pathlib.Path = TOP,
 ) -> str:
-    """The output of a command on both streams, if it ends with this status. A command that hangs is
-    killed with all that it started, after TEST_LIMIT seconds."""
+    """Returns the output of a command on both streams, if it ends with this status. After
+    TEST_LIMIT seconds the function kills the command and its process group."""
     line = [str(word) for word in words]
     pipe, both = subprocess.PIPE, subprocess.STDOUT
     streams: dict[str, Any] = {"stdin": pipe, "stdout": pipe, "stderr": both}
@@ -172,7 +172,7 @@ def run(
 
 
 def until(fact: Callable[[], bool], said: str, seconds: float = LONGEST) -> None:
-    """Waits until a condition holds, for as long as a slow and loaded machine may need."""
+    """Waits until a condition holds, as long as a slow and busy machine may need."""
     end, pause = time.monotonic() + seconds, 0.01
     while not fact():
         assert time.monotonic() < end, f"never: {said}"
@@ -186,18 +186,18 @@ def text_of(written: bytes) -> str:
 
 @functools.cache
 def program(name: str) -> str:
-    """A copy that every user may run of the program that the variable NAME names, or of the built
-    one."""
+    """Returns the path of a program that each user may run: a copy of the file that the variable
+    NAME names, or of the built program."""
     out = TOP / "crates" / name / "out" / ("" if IS_NATIVE else ARCH)
     source = pathlib.Path(os.environ.get(name.upper(), out / name))
     if not source.is_file():
-        need("rt")  # which alone builds it
+        need("rt")  # only rt builds the program
         raise FileNotFoundError(f"{source}: build it by make programs, or by rt ci")
     return str(runnable(pathlib.Path(shutil.copy(source, common_folder()))))
 
 
 def runnable(program: pathlib.Path) -> pathlib.Path:
-    """A program, or the script that runs one of another processor."""
+    """Returns the program, or a script that runs it under the emulator."""
     if IS_NATIVE:
         return program
     need(EMULATOR[0])
@@ -209,7 +209,7 @@ def runnable(program: pathlib.Path) -> pathlib.Path:
 
 @functools.cache
 def common_folder() -> pathlib.Path:
-    """A folder for the files that each process builds once."""
+    """Creates a folder for the files that each process builds once."""
     folder = pathlib.Path(tempfile.mkdtemp(prefix="rigzumal-"))
     folder.chmod(0o755)
     atexit.register(shutil.rmtree, folder, ignore_errors=True)
@@ -217,7 +217,7 @@ def common_folder() -> pathlib.Path:
 
 
 def write_files(folder: pathlib.Path, texts: dict[str, str], mode: int = 0o644) -> None:
-    """Writes texts into files below a folder, by their names there."""
+    """Writes each text into the file of its name below a folder."""
     for name, text in texts.items():
         path = folder / name
         path.parent.mkdir(parents=True, exist_ok=True)
@@ -226,7 +226,7 @@ def write_files(folder: pathlib.Path, texts: dict[str, str], mode: int = 0o644) 
 
 
 def memory_of(pid: int, right: str = "r") -> Iterator[bytes]:
-    """The parts of a process's memory for which it has this right, r or w."""
+    """Yields the parts of a process's memory for which the process has this right, r or w."""
     need_native()
     with open(f"/proc/{pid}/mem", "rb", 0) as memory:
         for line in pathlib.Path(f"/proc/{pid}/maps").read_text().splitlines():
@@ -242,31 +242,31 @@ def files_below(folder: pathlib.Path) -> set[str]:
 
 
 def manual(name: str) -> str:
-    """The text of a manual page without its fonts, and with its hyphens as they are typed."""
+    """Returns the text of a manual page, without its fonts and the backslashes of its hyphens."""
     return re.sub(r"\\f[A-Z]", "", (TOP / "man" / name).read_text().replace("\\-", "-"))
 
 
 def options_in(text: str) -> set[str]:
-    """The options that a text names, in any of its lines."""
+    """Returns the options that a text names, in any of its lines."""
     return set(re.findall(r"(?<![\w-])--[a-z][a-z-]*", text))
 
 
 def limited(limit: int, most: int) -> Callable[[], None]:
-    """The act of a process before it begins that bounds it to so much: an option preexec_fn."""
+    """Returns a function for preexec_fn, which sets a limit of a process before it begins."""
     if limit != resource.RLIMIT_FSIZE:
         need_native()
     return lambda: resource.setrlimit(limit, (most, most))
 
 
 def small_files(size: int) -> dict[str, Any]:
-    """The options of a process whose files can't grow beyond so many bytes. It still ignores
-    SIGXFSZ, as Python does, so a write is refused."""
+    """Returns the options for a process whose files can't grow beyond this many bytes. The process
+    ignores SIGXFSZ, like Python, so the system refuses the write."""
     return {"preexec_fn": limited(resource.RLIMIT_FSIZE, size), "restore_signals": False}
 
 
 @contextlib.contextmanager
 def small_disk(folder: pathlib.Path, options: str, kind: str = "tmpfs") -> Iterator[pathlib.Path]:
-    """A filesystem in memory with these options, such as size=65536, which only root can make."""
+    """Mounts a filesystem in memory with these options, such as size=65536; only root can."""
     folder.mkdir()
     subprocess.run(["mount", "-t", kind, "-o", options, kind, str(folder)], check=True)
     try:
@@ -275,13 +275,13 @@ def small_disk(folder: pathlib.Path, options: str, kind: str = "tmpfs") -> Itera
         subprocess.run(["umount", str(folder)], check=True)
 
 
-# How a command ended that was stopped at its call of a number, or nothing if it made fewer.
+# Stops a command at its call with a number. Returns its end, or nothing if it made fewer calls.
 Stop = Callable[..., Optional[Ended]]
 
 
 def in_turn(attempt: Callable[[int], Found | None]) -> Iterator[Found]:
-    """The results of an attempt with its first call refused, then its second, and so on, several at
-    once, up to the first number at which nothing was refused, without a result."""
+    """Yields the results of attempts, several at once: the Nth attempt has its Nth call refused.
+    The first attempt without a result ends the series."""
     at_once, numbers = os.cpu_count() or 1, itertools.count(1)
     with ThreadPoolExecutor(at_once) as pool:
         running = deque(pool.submit(attempt, next(numbers)) for _ in range(at_once))
@@ -291,8 +291,8 @@ def in_turn(attempt: Callable[[int], Found | None]) -> Iterator[Found]:
 
 
 class Shown(NamedTuple):
-    """A program's status, what its terminal showed, with a bar where something was typed, and
-    whether it echoed then and at the end."""
+    """A program's status; the text on its terminal, with a bar at each input; and whether the
+    terminal echoed then and at the end."""
 
     status: int
     text: bytes
@@ -302,12 +302,12 @@ class Shown(NamedTuple):
 def at_a_terminal(
     command: list[str], typed: Iterable[bytes | int], env: dict[str, str] | None = None
 ) -> Shown:
-    """Runs a program at a terminal of its own. At each prompt a line is typed, or a signal sent,
-    which is sent again while the program goes on. It is killed at a prompt too many."""
+    """Runs a program at its own terminal. At each prompt the function types a line, or sends a
+    signal, again and again while the program runs. It kills the program at a prompt too many."""
     pid, terminal = pty.fork()
     if pid == 0:
         for number in (signal.SIGHUP, signal.SIGINT, signal.SIGQUIT, signal.SIGTERM):
-            signal.signal(number, signal.SIG_DFL)  # a shell's background would have it ignore them
+            signal.signal(number, signal.SIG_DFL)  # in a shell's background it would ignore them
         os.execvpe(command[0], command, os.environ if env is None else env)
     shown, echoes, rest, sent = b"", [], [*typed], 0
 
@@ -341,8 +341,8 @@ TOLD = r"(REFUSED|SYNCS|THREADS|PEAK|ASKED) (\d+)\n"
 
 
 def shim_compiler() -> list[str]:
-    """The toolchain's clang, in a folder beside the page whose path `rt doc` prints, or cc if
-    either is missing; for another processor that processor's compiler."""
+    """Returns the toolchain's clang, in a folder beside the page whose path `rt doc` prints, or cc
+    if either is missing. For another processor, returns the compiler for it."""
     if not IS_NATIVE:
         return [f"{TRIPLET}-gcc"]
     if shutil.which("rt") is None:
@@ -353,7 +353,7 @@ def shim_compiler() -> list[str]:
 
 
 def shim(name: str = "calls") -> str:
-    """A shim of tests/shims as a library, which is built once."""
+    """Builds a shim of tests/shims as a library, once, and returns its path."""
     library, source = common_folder() / f"{name}.so", TOP / f"tests/shims/{name}.c"
     flags = ["-shared", "-fPIC", "-fno-builtin", "-O2", "-w", "-o", str(library), str(source)]
     with BUILDING:
@@ -363,8 +363,8 @@ def shim(name: str = "calls") -> str:
 
 
 def before_libc(library: str) -> dict[str, str]:
-    """The environment of a program that has this library before the C library. An emulator passes
-    the library on to the program, and doesn't load it itself."""
+    """Returns the environment of a program that loads this library before the C library. An
+    emulator passes the variable on to the program, and doesn't load the library itself."""
     preload = {"LD_PRELOAD": library} if IS_NATIVE else {"QEMU_SET_ENV": f"LD_PRELOAD={library}"}
     return {**os.environ, **preload}
 
@@ -372,8 +372,7 @@ def before_libc(library: str) -> dict[str, str]:
 def shimmed(
     command: list[str], given: str, refused: int, **options: Any
 ) -> tuple[Ended, dict[str, int]]:
-    """The end of a run whose request for memory of this number is refused, and the words of the
-    shim."""
+    """Runs a command, refuses its request for memory of this number, and returns all counts."""
     env = {**before_libc(shim()), "REFUSE_NTH": str(refused)}
     done = ended(command, given, env=env, **options)
     found = {word: int(count) for word, count in re.findall(TOLD, done.faults)}
@@ -381,19 +380,19 @@ def shimmed(
 
 
 def counts(command: list[str], given: str = "") -> tuple[Ended, dict[str, int]]:
-    """The end of a run, with its counts of SYNCS, THREADS and memory."""
+    """Runs a command, and returns its end with the counts of SYNCS, THREADS and memory."""
     return shimmed(command, given, 0)
 
 
 def without_request(nth: int, command: list[str], given: str = "", **options: Any) -> Ended | None:
-    """The end of a run whose request for memory of this number was refused, or nothing after fewer
-    requests."""
+    """Runs a command, and refuses its request for memory with this number. Returns its end, or
+    nothing if it made fewer requests."""
     done, told = shimmed(command, given, nth, **options)
     return done if "REFUSED" in told else None
 
 
 def instructions(command: list[str], given: str = "") -> tuple[Ended, int]:
-    """The end of a run, and the number of its instructions, as valgrind counts them."""
+    """Runs a command, and returns its end with the number of its instructions, by valgrind."""
     need_native()
     counter = ["valgrind", "--tool=callgrind", "--callgrind-out-file=/dev/null"]
     done = ended([*counter, *command], given)

@@ -1,5 +1,6 @@
-"""Names and passwords as a visitor may send them, for the tests of every client that puts fields
-into lines: each is refused, no line is sent but the client's own, and ada's password stays."""
+"""Names and passwords that a visitor may send, for the tests of each client that builds lines from
+fields. A login with any of them fails, the client sends only its own lines, and ada's password
+stays."""
 
 from __future__ import annotations
 

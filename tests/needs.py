@@ -1,5 +1,5 @@
-"""The needs of a test. A test that lacks one is skipped by one form of text, `needs KIND NAME`.
-tools/run_tests.py asks `excuse` whether the machine lacks that indeed; any other skip is a failure.
+"""The needs of a test. A test that lacks one skips itself with the text `needs KIND NAME`.
+tools/run_tests.py asks `excuse` whether the machine really lacks it: any other skip is a failure.
 """
 
 from __future__ import annotations

@@ -1,6 +1,6 @@
-"""Each operation on an account with each answer that it has, one after another in a book that is
-empty at first. A door puts them in its own form (tests/credkeep/doors.py): passwords are in the
-clear, `-` is the empty one, and a setting may follow.
+"""Each operation on an account with each of its answers, one after another in a book that is empty
+at first. Here passwords are plain text, `-` is the empty password, and a setting may follow. Each
+door of tests/credkeep/doors.py converts these lines to its own form.
 """
 
 from tests.credkeep.books import RECORD, SALT, SCRYPT, SETTING

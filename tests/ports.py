@@ -1,4 +1,4 @@
-"""Ports for servers that tests start, each of which is one process's own."""
+"""Ports for servers that tests start: each block of ports belongs to one process."""
 
 from __future__ import annotations
 

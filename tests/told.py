@@ -3,11 +3,11 @@ tools/run_tests.py.
 
     python3 tests/told.py TOLD MODULE [PART PARTS] [--first]
 
-MODULE is a file, below the folder in which this runs. Where PARTS processes share its tests, the
-PARTth runs each PARTSth of them. With --first no test runs after one that failed. A line of the
-file TOLD is a word, a test's name and, of a skip, its reason, with tabs between. The words are
-`begun`, `passed`, `failed` and `skipped`. The last line is `all` and the module, so whoever reads
-it knows that nothing ended the process before.
+MODULE is a file below the present folder. If PARTS processes share its tests, the PARTth process
+runs each PARTSth test. With --first no test runs after a failed one. A line of the file TOLD is a
+word, a test's name and, for a skip, its reason, separated by tabs. The words are `begun`, `passed`,
+`failed` and `skipped`. The last line is `all` and the module: it shows that the process ran to its
+end.
 """
 
 from __future__ import annotations

@@ -5,8 +5,7 @@
 
 The change is the difference from COMMIT, or from the last commit, including files that aren't
 committed. The script prints each part with the command that runs it, and estimates its minutes on
-this machine's processors, from tools/build_seconds.json and tools/job_seconds.json. The gate,
-`.ci/run`, runs all parts of the tree.
+this machine's processors, from tools/build_seconds.json and tools/job_seconds.json.
 """
 
 from __future__ import annotations
@@ -36,7 +35,7 @@ OF_CRATES = {
 EVERY = ("",)
 PACKAGE = ("python/tests/package", "tests/packages")
 PAGES = ("docs/tests", "tools/readme")
-# The jobs that read a file are those of the row with the longest beginning of its path.
+# The row with the longest beginning of a file's path names the jobs that read the file.
 READERS: Mapping[str, Collection[str]] = {
     ".": (),
     ".ci/": ("tests/tools/test_without_rt",),

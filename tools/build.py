@@ -9,7 +9,7 @@ The script compiles the program for LEVEL: x86-64, x86-64-v2 or x86-64-v3; witho
 the highest level whose features this processor has. For arm64, Debian's gcc-aarch64-linux-gnu links
 the program, in the crate's out/arm64. If rt is missing, a C compiler links the program's object
 from c/proved/programs, which a tarball of `make dist` contains. On standard error the script prints
-every half minute, and after each library, how many libraries are proved and an estimate of the
+every 25 seconds, and after each library, the number of proved libraries and an estimate of the
 remaining time. Standard output contains only the program's output, and the script exits with the
 program's status. The script reuses earlier builds of unchanged sources; with --built it builds
 nothing, and the status is 1 if the program isn't built for LEVEL. With --object, which `make dist`
@@ -145,7 +145,7 @@ class Progress:
             else ""
         )
         clear = "\033[K" if sys.stderr.isatty() else ""
-        # in one piece, since two threads tell
+        # in one piece, since two threads print
         sys.stderr.write(f"{clear}{what}; {len(self.done)} of {len(self.names)} done{rest}{end}")
         sys.stderr.flush()
 

@@ -148,7 +148,7 @@ def main():
         for path, _, _ in files(folders):
             path.unlink(missing_ok=True)
         return
-    os.umask(0o022)  # everybody may read them, whoever installs them
+    os.umask(0o022)  # each user may read the files, whoever installs them
     programs = {name: Program(name, TOP / path) for name, path in PROGRAMS.items()}
     for path, shell, name in files(folders):
         path.parent.mkdir(parents=True, exist_ok=True)

@@ -92,7 +92,7 @@ class Job:
     is_quiet: bool = False
     is_packing: bool = False
     is_long: bool = False
-    # The missing part of the machine for whose lack the job is skipped.
+    # The part that the machine lacks, so that the run skips the job.
     lacks: str = ""
 
     @property

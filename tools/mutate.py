@@ -6,19 +6,19 @@ refuses.
                                  [--build COMMAND] --tests COMMAND..
 
 FILE is in Python, C or Rust. The tests run at the top of copies of the repository, which include
-the contents of its `out` folders:
+the contents of its `out` folders, but only the programs of crates:
 
     python3 tools/mutate.py python/rigzumal/_parts.py --tests \\
         /usr/bin/python3 -m unittest discover -s python/tests/hashers -k library
     python3 tools/mutate.py c/src/base64.c --sample 40 --tests make -s -C c test
 
 Without --sample the script tries all changes. First the tests must pass in each copy, with nothing
-changed. The time limit of a mutant is five times their time, unless --limit sets another. A mutant
-survives if its run ends in time with status 0. A mutant that Python can't compile, or that --build
-refuses (for C `make` and for Rust `cargo test --no-run` in the nearest folder with a Makefile or
-Cargo.toml), doesn't count as refused. The status is 1 if the tests fail with nothing changed, and
-otherwise 0. Make sure that COMMAND runs any tests: unittest of Python 3.11 exits with status 0 if
--k matches none, and then all mutants survive.
+changed. The time limit of a mutant is five times their time, but at least ten seconds, unless
+--limit sets another. A mutant survives if its run ends in time with status 0. A mutant that Python
+can't compile, or that --build refuses (for C `make` and for Rust `cargo test --no-run` in the
+nearest folder with a Makefile or Cargo.toml), doesn't count as refused. The status is 1 if the
+tests fail with nothing changed, and otherwise 0. Make sure that COMMAND runs any tests: unittest of
+Python 3.11 exits with status 0 if -k matches none, and then all mutants survive.
 """
 
 import argparse

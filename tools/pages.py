@@ -72,7 +72,7 @@ VERSIONED = {
 # minutes".
 TIMES = ("README's first command from nothing", "`.ci/run` from nothing")
 
-# The faults of the tree; None stands for a claim that is right.
+# The faults of the tree; None means a right claim.
 Facts = Iterable["str | None"]
 
 

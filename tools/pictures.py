@@ -51,7 +51,7 @@ def lines_of(name):
 
 
 def element(name, **attributes):
-    """Returns an SVG element without content; `_` in a name stands for `-`."""
+    """Returns an SVG element without content; `_` in a name means `-`."""
     words = (f'{key.replace("_", "-")}="{value}"' for key, value in attributes.items())
     return f"<{name} {' '.join(words)}/>"
 

@@ -5,11 +5,12 @@
 
 A maintainer runs this script before a release, once the gate has built everything. The script makes
 each change of the table below in a copy of the tree with its built files. There tools/run_tests.py
-runs the jobs that the plant names, up to the first failure. A test that fails without a plant
-refuses nothing, so the script first runs all jobs once without plants. If no other test fails, or
-the file lacks the text to replace, the plant is NOT REFUSED. With words, the script tries only
-plants whose file names contain one of them. Each line ends with the seconds of the plant's jobs.
-The last line is `N refused, M not`, and the status is 1 if a plant wasn't refused.
+runs the jobs that the plant names. A test that fails without a plant refuses nothing, so the script
+first runs all jobs once without plants. If none fails, the jobs of a plant end at their first
+failure. If no other test fails, or the file lacks the text to replace, the plant is NOT REFUSED.
+With words, the script tries only plants whose file names contain one of them. Each line ends with
+the seconds of the plant's jobs. The last line is `N refused, M not`, and the status is 1 if a plant
+wasn't refused.
 """
 
 from __future__ import annotations

@@ -16,7 +16,7 @@ import subprocess
 from tree import CRATES, TOP, all_below, source
 
 PROGRAMS = ("credbook", "credkeep")
-# The levels of a tarball; ARM64 only if it was built.
+# The levels of a tarball; ARM64 only if its object exists.
 LEVELS = ("x86-64", "x86-64-v3")
 ARM64 = "arm64"
 PACKED = TOP / "c/proved/programs"

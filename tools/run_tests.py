@@ -46,7 +46,7 @@ EVERY = 30
 # A mark in the environment of each process that a job started. The run finds the process by this
 # mark, whatever its parent.
 MARK = "RIGZUMAL_JOB"
-# Of a whole run, and what ends one.
+# The mark of a whole run, and the signals that end the run.
 RUN = f"run-{os.getpid()}"
 SIGNALS = (signal.SIGINT, signal.SIGTERM, signal.SIGHUP)
 INTERRUPTED = threading.Event()
@@ -71,7 +71,7 @@ def interrupt(number: int, _: Any) -> None:
     os.write(sys.stdout.fileno(), b"tests: interrupted\n")
     os.dup2(os.open(os.devnull, os.O_WRONLY), sys.stdout.fileno())
     end_all(RUN)
-    end_all(RUN)  # a process that one of them started meanwhile
+    end_all(RUN)  # again: a process may have started another meanwhile
     os._exit(128 + number)
 
 
@@ -121,7 +121,7 @@ class Done:
         self.status = process.returncode = os.waitstatus_to_exitcode(status)
 
     def note(self, word: str, name: str, reason: str) -> None:
-        """Notes the outcome of a test after one more line, and never forgets a failure."""
+        """Notes the outcome in a line of the test, and never forgets a failure."""
         if word == "all":
             self.is_whole = True
             return

@@ -98,7 +98,7 @@ def tell_each(seconds: float, tell: Callable[[], None]) -> None:
 
 def report(found: Sequence[str | None], left_out: Sequence[str] = ()) -> int:
     """Prints the faults and the omissions, and the count of each. Returns the program's status.
-    None stands for a right claim."""
+    None means a right claim."""
     failures = [it for it in found if it]
     counts = f"{len(found) - len(failures)} passed, {len(failures)} failed"
     counts += f", {len(left_out)} left out" if left_out else ""

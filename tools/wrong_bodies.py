@@ -102,7 +102,7 @@ class Bench:
         head, uses = listed()[self.crate]
         built, rlibs = self.libraries, kit() / "rlibs"
         root = "src/lib.rt" if "src/lib.rt" in self.texts else "src/main.rt"
-        # COMMAND goes first, since its tests have a minute each
+        # COMMAND has priority, since each of its tests has only a minute
         yield from ("nice", kit() / "bin/rattle", "check", "--crate-name", self.crate, root)
         yield from ("--jobs", "1")
         for name in ("std", *uses):

@@ -1,12 +1,12 @@
 /* Times Argon2's bare memory traffic: each block is the XOR of the block before, of its reference
- * and of its own content on the pass before, in the order of one lane. So the program waits for
- * the memory alone.
+ * and of its own content on the pass before, in the order of one lane. So the program waits only
+ * for the memory.
  *
  *     cc -O3 -march=native bench/c/floor.c -o floor && ./floor KIB PASSES TIMES [none] [chained]
  *
  * The program prints the median and the best processor time in milliseconds, and the time that
- * clears the memory once. With `none` there are no huge pages. With `chained` each address waits
- * for the block before, as most of Argon2id's do; without it no address waits. */
+ * clears the memory once. With `none` the memory has no huge pages. With `chained` each address
+ * waits for the block before, like most of Argon2id's; otherwise no address waits. */
 #define _GNU_SOURCE
 #include <stdbool.h>
 #include <stdint.h>
@@ -49,13 +49,13 @@ static uint32_t next_random(void) {
     return (uint32_t)state;
 }
 
-/* A random number that is there only once the word is, of which it has nothing. */
+/* Returns a random number that waits for the word, but doesn't depend on its value. */
 static uint32_t random_after(uint64_t word) {
     static volatile uint64_t zero;
     return next_random() ^ (uint32_t)(word & zero);
 }
 
-/* The reference is chosen by RFC 9106, section 3.4.2: later blocks more often. */
+/* Chooses the reference by RFC 9106, section 3.4.2: later blocks more often. */
 static size_t reference(size_t at, size_t count, int pass, uint64_t word) {
     size_t ready = pass == 0 ? at : count - count / 4;
     uint64_t square = word * word >> 32;

@@ -1,5 +1,5 @@
-/* Runs before the C library's mmap (LD_PRELOAD), and gives large mappings huge pages, as those of
- * libsodium, which asks for all of its pages at once. */
+/* Runs before the C library's mmap (LD_PRELOAD), and requests huge pages for large mappings, such
+ * as those of libsodium, which maps all of its pages at once. */
 #define _GNU_SOURCE
 #include <sys/mman.h>
 #include <sys/syscall.h>
@@ -13,6 +13,6 @@ void *mmap(void *at, size_t size, int protection, int flags, int file, off_t off
     return start;
 }
 
-/* The same by its other name, for programs that are built for large files. */
+/* The same call under its other name, for programs that are built for large files. */
 void *mmap64(void *at, size_t size, int protection, int flags, int file, off_t offset)
     __attribute__((alias("mmap")));

@@ -3,9 +3,9 @@
 
     bench/keep/tagged.py [--seconds S] [--sync MS] [PROGRAM]
 
-Measures changes a second, with the cheapest costs, of 1, 4, 16 and 64 clients who wait for each
-answer. strace makes each sync of the disk MS longer (by default 4). Run this script on a machine
-that does nothing else. bench/server times verifies.
+The script measures the changes a second of 1, 4, 16 and 64 clients, who wait for each answer, with
+the cheapest costs. strace makes each sync of the disk MS milliseconds longer (by default 4). Run
+this script on a machine without other work. bench/server times verifies.
 """
 
 import argparse

@@ -7,8 +7,8 @@ The script measures verifies a second with 64 MiB and 4 MiB (Argon2id, t=1, p=1)
 clients. At the socket, each client keeps its connection. Through pam_rigzumal, each login has its
 own connection. pam_unix uses yescrypt at its default costs. The script needs root, the built
 credkeep, libpam0g-dev and pamtester, and runs in its own namespaces. `--fast` uses the tests' book,
-whose hashes cost nothing, so the figures show the path alone. Run this script on a machine that
-does nothing else.
+whose hashes cost nothing, so the figures show only the server's own time. Run this script on a
+machine without other work.
 """
 
 import argparse

@@ -16,29 +16,30 @@
  *         let_in();
  *     }
  *
- * Every call returns RIGZUMAL_OK or the number of a fault, and writes no output after a fault. All
- * sizes are in bytes, except memory costs, which are in KiB. Strings end with a zero byte.
+ * A call that returns an int returns RIGZUMAL_OK or the number of a fault. After a fault, only
+ * rigzumal_explain writes output. All sizes are in bytes, except memory costs, which are in KiB.
+ * Strings end with a zero byte.
  *
- * Any number of threads may call at the same time. Each call works only on its own thread, except
- * for the calls at the end, with which several threads may work the lanes of one tag. After a call
- * the library keeps only cleared memory, for the next calls: as much as calls used at one time. The
- * bound is 64 MiB, or that of rigzumal_keep, or that of RIGZUMAL_KEEP in the environment.
- * Tools count this memory as the process's own until the system is short of memory and reclaims it;
- * rigzumal_trim returns this memory at once.
+ * Any number of threads may call at the same time. A call works only on the caller's thread, unless
+ * its `threads` is over 1. After a call the library keeps only cleared memory, for the next calls:
+ * at most as much as calls used at one time. The bound is 64 MiB, or that of rigzumal_keep, or that
+ * of RIGZUMAL_KEEP in the environment. Tools count this memory as the process's own until the
+ * system is short of memory and reclaims it. rigzumal_trim returns this memory at once.
  *
  * A call clears its memory before it frees or keeps it. At its end the call clears 22 KiB of the
- * stack below it and all vector registers of the processor. Blocks of 64 KiB and more are in no
- * core dump, and read as zero in a forked child. Large blocks have huge pages.
+ * stack below it, and all vector registers, except those with the caller's values. Blocks of 64 KiB
+ * and more have huge pages if the system grants them, are in no core dump, and read as zero in a
+ * forked child.
  *
  * The library for x86-64 runs on any such processor. The first call chooses a build for x86-64-v2,
  * x86-64-v3 or x86-64-v4 if the processor has all of its features and the system keeps its
- * registers. The library for ARM64 is one build for any such processor.
+ * registers. The library for ARM64 has one build for any such processor.
  *
  * The caller must meet these conditions:
  * - A pointer with a size reaches that many bytes. The pointer may be null if the size is 0, and
- *   some calls accept a null salt. Any other null input with a size over 0 is a fault,
- *   NULL_PASSWORD to NULL_ASSOCIATED. A secret that failed to load therefore makes no record and
- *   checks none. Other pointers are never null.
+ *   some calls accept a null salt. Otherwise a null password, salt, secret or associated data is
+ *   the call's first fault, NULL_PASSWORD to NULL_ASSOCIATED. So no call makes or checks a record
+ *   with a secret that failed to load. Other pointers aren't null, unless a comment allows null.
  * - The output of a call doesn't overlap its inputs.
  * - The stack has RIGZUMAL_STACK_SIZE bytes left below the call: threads with a stack of 32 KiB may
  *   call. The memory of a hash is not on the stack, whatever its costs.
@@ -75,9 +76,9 @@ extern "C" {
 enum rigzumal_size {
     RIGZUMAL_TEXT_SIZE = 513,    /* room for every record, with its zero byte */
     RIGZUMAL_STACK_SIZE = 24576, /* of the caller's stack, enough for any call */
-    RIGZUMAL_SALT_SIZE = 16,     /* as usual */
-    RIGZUMAL_TAG_SIZE = 32,
-    RIGZUMAL_SALT_SIZE_MIN = 8, /* in a record; of scrypt 1 */
+    RIGZUMAL_SALT_SIZE = 16,     /* of a new record, as usual */
+    RIGZUMAL_TAG_SIZE = 32,      /* the same */
+    RIGZUMAL_SALT_SIZE_MIN = 8,  /* in a record; of scrypt 1 */
     RIGZUMAL_SALT_SIZE_MAX = 48,
     RIGZUMAL_TAG_SIZE_MIN = 4,
     RIGZUMAL_TAG_SIZE_MAX = 64
@@ -103,7 +104,7 @@ enum rigzumal_fault {
     /* Of a text, or of its parts: the first fault from the left. */
     RIGZUMAL_SHAPE = 1,    /* the text lacks its '$' or a field, or has a field too many */
     RIGZUMAL_SCHEME = 2,   /* the scheme is none of argon2d, argon2i, argon2id and scrypt */
-    RIGZUMAL_VERSION = 3,  /* unsupported version: settings need 19, records 19 or 16 */
+    RIGZUMAL_VERSION = 3,  /* unsupported: settings need 19, records 19, 16 or none */
     RIGZUMAL_PARAMS = 4,   /* the costs are not in the form of the scheme */
     RIGZUMAL_RANGE = 5,    /* a number is outside its range */
     RIGZUMAL_SALT = 6,     /* the salt is not base64, or its size is outside its range */
@@ -149,10 +150,10 @@ const char *rigzumal_version(void);
  * and clears the memory of the next call again, which takes longer. */
 size_t rigzumal_trim(void);
 
-/* Bounds the bytes that the library keeps from now on, in whole huge pages of 2 MiB. 0 keeps none.
- * 134217728 keeps the table of RIGZUMAL_SCRYPT_COSTS, or the memory of two callers at once with
- * RIGZUMAL_ARGON2_COSTS. The call releases the kept memory, and returns the old bound. The first
- * bound is RIGZUMAL_KEEP of the environment, or 64 MiB. */
+/* Bounds the bytes that the library keeps from now on, rounded down to huge pages of 2 MiB. 0 keeps
+ * none. 134217728 keeps the table of RIGZUMAL_SCRYPT_COSTS, or the memory of two callers at once
+ * with RIGZUMAL_ARGON2_COSTS. The call releases the kept memory, and returns the old bound. The
+ * first bound is RIGZUMAL_KEEP of the environment, or 64 MiB. */
 size_t rigzumal_keep(size_t most);
 
 /* The two calls above for libargon2.so.1, the drop-in library, which has its own memory and no
@@ -216,9 +217,9 @@ struct rigzumal_parts {
  * rigzumal_check. Faults: SHAPE to TOO_LONG. */
 int rigzumal_parts(struct rigzumal_parts *parts, const char *text) RIGZUMAL_CHECK_ANSWER;
 
-/* Whether a record needs a rehash: OTHER_COSTS if its scheme, its costs, or the sizes of its salt
- * and tag differ from a new record's, otherwise OK. Rehash after a right login, when you have the
- * password. If the costs have a salt, pass 0 as salt_size.
+/* Whether a record needs a rehash: OTHER_COSTS if its scheme, version or costs, or the sizes of its
+ * salt and tag differ from a new record's, otherwise OK. Rehash after a right login, when you have
+ * the password. If the costs have a salt, pass 0 as salt_size.
  * Faults: SHAPE to TOO_LONG, of the record, and then of the costs. */
 int rigzumal_needs_rehash(const char *record, const char *costs, size_t salt_size,
                           size_t tag_size) RIGZUMAL_CHECK_ANSWER;
@@ -264,21 +265,21 @@ enum rigzumal_reply {
  * Without a copy a step computes no hash, except an ENROL. Make a record then, and discard it, so
  * that the answer takes as long as with a copy.
  *
- * Let the store update a row only if the row still has the copy, and compare the copy and write the
- * record in one step. The replies are then those of one history, in which each whole operation
- * happens at its update. This also holds beside other changes that compare the row with a copy and
- * write the row in one step, such as a reset, a record of another scheme, or a new row, whose copy
- * is no row. If an update changes no row, answer CHANGED, or begin again with the row's record. For
- * a reply that makes no change, read the row again instead of the update, and compare the row with
- * the copy.
+ * The store updates a row only if the row still has the copy: the comparison and the write are one
+ * atomic change. The replies are then those of one history, in which each whole operation happens
+ * at its update. Other changes may run beside steps if they compare and write atomically too, such
+ * as a reset, a record of another scheme, or a new row, whose copy is no row. If an update changes
+ * no row, answer CHANGED, or begin again with the row's record. For a reply that makes no change,
+ * read the row again instead of the update, and compare the row with the copy.
  *
  * copy is the record's text, or null if the account has none. password is the new password of an
  * ENROL, and otherwise the judged one. Only a CHANGE reads new_password. Only an ENROL, a CHANGE
  * and an UPGRADE read setting, which is costs with a fresh salt. Other operations accept null. A
- * new tag has 32 bytes. With OK, reply is one of rigzumal_reply. After ENROLLED, REPLACED and
- * UPGRADED text is the new record; otherwise text is empty, and text_size may be 0. A step refuses
- * a password of over 256 bytes; rigzumal_check accepts one of any size. Faults, in this order:
- * NO_OPERATION; COPY; LONG_PASSWORD; SHAPE to TOO_LONG, of the setting; MEMORY; NO_ROOM. */
+ * new tag has 32 bytes. With OK, reply is one of rigzumal_reply, except the last two. After
+ * ENROLLED, REPLACED and UPGRADED text is the new record; otherwise text is empty, and text_size
+ * may be 0. A step refuses a password of over 256 bytes; rigzumal_check accepts longer ones.
+ * Faults, in this order: NO_OPERATION; COPY; LONG_PASSWORD; SHAPE to TOO_LONG, of the setting;
+ * MEMORY; NO_ROOM. */
 int rigzumal_step(char *text, size_t text_size, uint32_t *reply, uint32_t operation,
                   const char *copy, const void *password, size_t password_size,
                   const void *new_password, size_t new_password_size,
@@ -293,8 +294,7 @@ struct rigzumal_argon2 {
     uint32_t lanes;   /* 1 to 255 */
 };
 
-/* Writes the tag into the tag_size bytes at tag: 4 or more, below 2^32. Most tags have no secret
- * and no associated data.
+/* Writes the tag into the tag_size bytes at tag: 4 or more, below 2^32.
  * Faults: NO_KIND to INPUT_SIZE; MEMORY. */
 int rigzumal_argon2(void *tag, size_t tag_size, const struct rigzumal_argon2 *numbers,
                     const void *password, size_t password_size, const void *salt, size_t salt_size,
@@ -324,15 +324,14 @@ int rigzumal_scrypt(void *key, size_t key_size, const struct rigzumal_scrypt *nu
  * work the lanes of Argon2, the caller's among them; 0 means 1. The call uses at most one thread
  * for each lane, and for each processor that the caller may run on. Below 4 MiB of memory, and for
  * scrypt, the call uses only one. If the system refuses a thread, the others do its work. The
- * threads end before the call does; meanwhile they handle no signal, and nothing can cancel the
- * caller. The call clears and unmaps their stacks. A core dump has only the highest page of each
- * stack, and a child forked meanwhile reads the stacks as zero.
+ * started threads end before the call does, and handle no signal. Meanwhile the caller can't be
+ * cancelled. The call clears the used part of their stacks, and unmaps them. A core dump has only
+ * the highest page of each stack, and a child forked meanwhile reads the used part as zero.
  *
  * Use threads to speed up one login on an idle machine. On four processors, a tag with 64 MiB,
  * three passes and four lanes took 64 ms on one thread and 23 ms on four (bench/RESULTS.md). A
- * service that has as many logins at once as processors gains nothing. Four callers computed a tag
- * every 22 ms with one thread each, and every 23 ms with four. With 19 MiB and two passes, these
- * times were 3 and 4 ms. */
+ * service that has as many logins at once as processors gains nothing at such costs. Four callers
+ * computed a tag every 22 ms with one thread each, and every 23 ms with four. */
 int rigzumal_argon2_threads(void *tag, size_t tag_size, const struct rigzumal_argon2 *numbers,
                             const void *password, size_t password_size, const void *salt,
                             size_t salt_size, const void *secret, size_t secret_size,
@@ -373,7 +372,7 @@ struct rigzumal_inputs {
 
 /* These calls do the work of rigzumal_argon2_threads, rigzumal_record_threads and
  * rigzumal_check_threads. Records may have a secret and associated data too. Scrypt has neither, so
- * these calls refuse scrypt as SCHEME. */
+ * with one of them the calls refuse scrypt as SCHEME. */
 int rigzumal_argon2_from(void *tag, size_t tag_size, const struct rigzumal_argon2 *numbers,
                          const struct rigzumal_inputs *inputs) RIGZUMAL_CHECK_ANSWER;
 int rigzumal_record_from(char *text, size_t text_size, size_t tag_size, const char *costs,
@@ -395,9 +394,10 @@ struct rigzumal_step_inputs {
     uint32_t threads; /* 0 means 1 */
 };
 
-/* Does a step as rigzumal_step does, with a secret and threads. With either, C chooses the reply,
- * and only the hashing is proved; without both the proved code chooses the reply. Scrypt has no
- * secret, so with a secret the call refuses scrypt as SCHEME, in the copy and in the setting. */
+/* Does a step as rigzumal_step does, with a secret and threads. With a secret or over one thread, C
+ * chooses the reply, and only the hashing and the texts are proved; otherwise the proved code
+ * chooses the reply. Scrypt has no secret, so with a secret the call refuses scrypt as SCHEME, in
+ * the copy and in the setting. */
 int rigzumal_step_from(char *text, size_t text_size, uint32_t *reply,
                        const struct rigzumal_step_inputs *inputs) RIGZUMAL_CHECK_ANSWER;
 

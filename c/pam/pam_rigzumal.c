@@ -1,6 +1,6 @@
-/* A PAM module that asks a kept book over a socket of credkeep-server: auth, account, password. The
+/* A PAM module that asks a book through a socket of credkeep-server: auth, account, password. The
  * module keeps nothing between two calls and has no static state, so several threads may call it at
- * once. A call sends one line and reads one line on its own connection before its deadline. */
+ * once. Each question sends one line on a new connection, and reads one line before a deadline. */
 #define _GNU_SOURCE
 #include "answers.h"
 #include "base64.h"
@@ -23,8 +23,8 @@ enum {
     MOST_PASSWORD = 256, /* bytes */
     MOST_LINE = 1024,    /* bytes of a request: "1 change ", a name and two passwords */
     MOST_ANSWER = 64,    /* bytes of an answer */
-    FIRST_PAUSE = 10,    /* milliseconds until the module tries again, which double each time .. */
-    LONGEST_PAUSE = 640, /* .. up to these */
+    FIRST_PAUSE = 10,    /* milliseconds before the module asks again: each pause doubles .. */
+    LONGEST_PAUSE = 640, /* .. up to this one */
 };
 
 /* The answer to a connection for which the server has no room now, and from which it read no line.
@@ -65,7 +65,7 @@ static bool read_option(struct question *question, const char *word) {
     else if (strcmp(word, "quiet_unknown") == 0)
         question->quiet_unknown = true;
     else if (strcmp(word, "try_first_pass") != 0 && strcmp(word, "use_first_pass") != 0)
-        return strcmp(word, "use_authtok") == 0; /* pam_get_authtok(3) sees to these three */
+        return strcmp(word, "use_authtok") == 0; /* pam_get_authtok(3) reads these three */
     size_t size = strlen(question->socket);
     return *end == '\0' && question->seconds >= 1 && question->seconds <= 600 &&
            *question->socket == '/' && size < sizeof((struct sockaddr_un *)0)->sun_path;

@@ -11,5 +11,5 @@ size_t base64_size(size_t size);
 /* Writes the letters of the bytes. */
 void base64_write(uint8_t *text, const uint8_t *from, size_t size);
 
-/* Returns the six bits that a letter stands for, or -1. */
+/* Returns the six bits that a letter encodes, or -1. */
 int base64_value(uint8_t letter);

@@ -100,11 +100,10 @@ const struct build *processor_build(void);
 /* Calls an export in that build. */
 #define CALL(export, ...) processor_build()->export(__VA_ARGS__)
 
-/* A pointer and its size, as the exports take them: never null. */
+/* A pointer and its size in the form of the exports: never null. */
 #define NOTHING ((uint8_t[1]){0})
 #define BYTES(start, size) ((size) == 0 ? NOTHING : (bytes)(start)), (size)
 #define TEXT(text) (bytes)(text), strlen(text)
 
-/* The room for a text without its zero byte. A text is never empty, so no text fits into no room.
- * */
+/* The room for a text without its zero byte; no text is empty, so a size of 0 or 1 refuses all. */
 #define ROOM(text, size) ((size) == 0 ? NOTHING : (uint8_t *)(text)), (size) == 0 ? 0 : (size)-1

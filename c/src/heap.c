@@ -32,8 +32,8 @@ static size_t rounded_up(size_t size, size_t unit) {
     return (size + unit - 1) / unit * unit;
 }
 
-/* Areas: mappings of whole huge pages. One number stands for an area: its start, which is a
- * multiple of a huge page, and in the bits below the number of its huge pages. No area is 0. */
+/* Areas: mappings of whole huge pages. One number identifies an area: its start, which is a
+ * multiple of a huge page, and in the lower bits the number of its huge pages. No area is 0. */
 
 typedef uintptr_t area;
 
@@ -73,8 +73,8 @@ static void unmap_area(area it) {
 }
 
 /* The kept areas, and the number of their bytes: never more than the bound, except for a moment
- * after a call lowers the bound. The sum counts an area's bytes before the area gets its place, and
- * until the area has left it. */
+ * after a call lowers the bound. The sum counts an area's bytes before the area is in its place,
+ * and until the area has left the place. */
 
 enum { PLACES = 128 }; /* for 2 GiB in areas from which the heap cuts blocks */
 static _Atomic(area) kept_areas[PLACES];
@@ -135,8 +135,8 @@ size_t heap_trim(void) {
 }
 
 /* Keeps a cleared area, or as much of it as the bound allows, instead of smaller ones if necessary.
- * The system may take back the used pages, which read as zero either way. An earlier call already
- * let the system take the others, and each page in such a call costs time. */
+ * The system may reclaim the used pages, which read as zero either way. An earlier call already let
+ * the system reclaim the others, and each page in such a call costs time. */
 static void give_area(area it, size_t used) {
     size_t most = atomic_load(&most_kept);
     if (size_of(it) > most) {
@@ -226,10 +226,10 @@ struct block {
 static _Thread_local struct {
     struct block *blocks;
     size_t count, room;
-    uint64_t process; /* that took the first block */
+    uint64_t process; /* that allocated the first block */
     area area;        /* the area from which the heap cuts blocks, or 0 */
     size_t used;      /* the bytes of that area in use */
-    size_t most_used; /* the most since the call took it */
+    size_t most_used; /* the most since the call has this area */
 } taken;
 
 static bool has_room_for_block(void) {
@@ -307,8 +307,8 @@ static struct block new_block(size_t size) {
 }
 
 /* Frees a block of an area, which is no longer in the table. The area from which the heap cuts
- * blocks stays the thread's until its call has freed all blocks: scrypt takes a table for each of
- * its pieces. */
+ * blocks stays the thread's until its call has freed all blocks: scrypt allocates a table for each
+ * of its pieces. */
 static void give_area_block(struct block block) {
     size_t at = (size_t)(block.start - start_of(block.area));
     if (block.area == taken.area && at + rounded_up(block.size, LEAST_ALIGN) == taken.used)

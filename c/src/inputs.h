@@ -27,7 +27,7 @@ static inline int null_fault_of_record(const struct rigzumal_inputs *inputs) {
     return null_fault(&others);
 }
 
-/* Returns the fault of the input of a call that has only a password. */
+/* Returns the fault of a password that is null though its size isn't 0. */
 static inline int null_password_fault(const void *password, size_t size) {
     return null_fault(&(struct rigzumal_inputs){.password = password, .password_size = size});
 }

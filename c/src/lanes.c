@@ -1,11 +1,11 @@
 /* Calls the parts in the order that tag_parts.h requires, on several threads.
  *
  * Threads work the segments of a slice in groups: each segment alone, or two of neighbouring lanes
- * if there are fewer threads than lanes, since two at once take less time than one after the other.
- * Groups have numbers, slice by slice and pass by pass. A thread draws the next number, waits until
- * all groups of the slices before are done, works its own group, and draws again. So some free
- * thread works each group, once. The caller's thread computes the tag, and then all threads clear
- * the memory in the same way, segment by segment. */
+ * if the threads are fewer than the lanes, since two at once take less time than one after the
+ * other. Groups have numbers, slice by slice and pass by pass. A thread draws the next number,
+ * waits until all groups of the slices before are done, works its own group, and draws again. One
+ * thread therefore works each group, once. The caller's thread computes the tag, and then all
+ * threads clear the memory in the same way, segment by segment. */
 #define _GNU_SOURCE
 #include "lanes.h"
 
@@ -31,7 +31,7 @@ enum { PAGE = 64 * 1024 };
  * above them. */
 enum { HIDDEN_STACK = (CLEARED_STACK + PAGE - 1) / PAGE * PAGE + PAGE };
 
-/* In KiB: from here on four lanes gain by threads on an idle machine. */
+/* In KiB: from this memory on, threads speed up four lanes on an idle machine. */
 #ifndef LEAST_SHARED_MEMORY
 #define LEAST_SHARED_MEMORY 4096
 #endif
@@ -141,8 +141,9 @@ static void clear_segments(struct run *run) {
     }
 }
 
-/* The work of a helper. A child doesn't get its stack as deep as calls reach below the first page's
- * end in a gap above them: the bytes above are the C library's, which reads them there. */
+/* The work of a helper. A child reads zeros in the part of this stack that the helper's calls use.
+ * That part ends at a page's boundary inside a gap: above the gap are bytes of the C library, which
+ * the child needs. */
 static void *help(void *run) {
     unsigned char gap[PAGE];
     unsigned char *end = gap + PAGE - (uintptr_t)(gap + PAGE) % PAGE;
@@ -162,8 +163,8 @@ struct stacks {
     uint32_t count;
 };
 
-/* Maps stacks as large as other threads' stacks, which may hold much thread-local data, or larger
- * if those are small. */
+/* Maps stacks as large as other threads' stacks, which may hold much thread-local data, but with at
+ * least LEAST_STACK bytes. */
 static bool map_stacks(struct stacks *stacks, pthread_attr_t *attributes) {
     size_t size;
     if (pthread_attr_getstacksize(attributes, &size) != 0 || size < LEAST_STACK)
@@ -225,8 +226,7 @@ static void give_slices(struct run *run, int count) {
         heap_give_zeros(run->slices[--count]);
 }
 
-/* Takes the slices, which lie one after another in the caller's memory, or where the heap has them.
- * */
+/* Sets the slices: one after another in the caller's memory, or blocks of the heap. */
 static bool take_slices(struct run *run) {
     struct argon2_block *memory = run->task->memory;
     size_t size = run->slice_size;

@@ -17,9 +17,9 @@ struct task {
 /* Computes the bytes of the four slices, or returns a fault of the numbers. */
 uint8_t lanes_size(const struct tag_numbers *numbers, size_t *size);
 
-/* Returns the number of threads for the lanes, up to the program's. There is at most one for each
- * lane, and for each processor that the program may run on. The number is one if the memory is so
- * small that the start of threads would take longer. */
+/* Returns the number of threads for the lanes: at most `allowed`, one for each lane, and one for
+ * each processor that the caller may run on. The number is one if the memory is so small that the
+ * start of threads would take longer. */
 uint32_t lanes_useful_threads(const struct tag_numbers *numbers, uint32_t allowed);
 
 /* Works a task with this many threads, 1 to 255, the caller's among them. If the system refuses a

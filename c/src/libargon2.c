@@ -20,7 +20,7 @@
 #include <stdlib.h>
 #include <string.h>
 
-/* argon2_verify uses a thread for each lane. */
+/* argon2_verify uses up to one thread for each lane. */
 enum { MOST_LANES = 255 };
 
 /* Returns the original's number that is nearest to a refusal of the proved code. */
@@ -95,7 +95,7 @@ static struct rigzumal_argon2 numbers_of(const argon2_context *context, argon2_t
                                     context->t_cost, context->lanes};
 }
 
-/* Ignores the answer of allocate, and takes a null pointer as a refusal, as the original does. */
+/* Ignores the answer of allocate, and treats a null pointer as a refusal, as the original does. */
 static uint8_t *memory_of(const argon2_context *context, size_t size) {
     uint8_t *memory = NULL;
     context->allocate_cbk(&memory, size);

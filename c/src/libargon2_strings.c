@@ -1,5 +1,5 @@
-/* The strings of argon2.h, by the original's rules: salts and tags of any size, of which a record
- * of rigzumal.h holds 48 and 64 bytes. */
+/* The strings of argon2.h, by the original's rules: salts and tags of any size, while a record of
+ * rigzumal.h holds up to 48 and 64 bytes. */
 #define _GNU_SOURCE
 #include "base64.h"
 #include "libargon2.h"
@@ -36,7 +36,7 @@ static int value_of(char letter) {
     return base64_value((uint8_t)(((uint8_t)letter & ~is_negative) | ('/' & is_negative)));
 }
 
-/* Reads base64 into as many bytes as the room has; the bits that stand for no byte must be zero. */
+/* Reads base64 into up to *size bytes; the unused bits at the end must be zero. */
 static bool read_bytes(const char **text, uint8_t *to, uint32_t *size) {
     uint32_t waiting = 0, count = 0;
     int bits = 0, value;

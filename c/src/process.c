@@ -1,7 +1,6 @@
 /* The number of a process has two halves. The lower half is the system's number, which alone isn't
  * enough: a child has its parent's number if each is the first of a PID namespace. The upper half
- * is in a page that the system gives to a child as zeros; on a system without such pages the half
- * is 0. */
+ * is in a page that a child reads as zeros. On a system without such pages the half is 0. */
 #define _GNU_SOURCE
 #include "process.h"
 
@@ -14,7 +13,7 @@ enum { LARGEST_PAGE = 64 * 1024 }; /* of any system */
 
 static unsigned char room[2 * LARGEST_PAGE]; /* has that page, wherever it begins */
 static _Atomic(uint32_t) *wiped;             /* the page's start: 0 before the first call */
-static _Atomic(uint32_t) latest;             /* the last number; a child has it too */
+static _Atomic(uint32_t) latest;             /* the last number, which a child has too */
 
 __attribute__((constructor)) static void have_page_wiped(void) {
     void *page = room + (LARGEST_PAGE - (uintptr_t)room % LARGEST_PAGE) % LARGEST_PAGE;

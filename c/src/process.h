@@ -3,7 +3,8 @@
 
 #include <stdint.h>
 
-/* Returns the number of this process, which no child of the process has, nor a child's child. */
+/* Returns the number of this process, which no process that descends from it has. On a system
+ * without MADV_WIPEONFORK, a child in another PID namespace may have the same number. */
 uint64_t process_number(void);
 
 /* Ends this process, with a message on standard error, if it had another number when the call

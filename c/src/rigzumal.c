@@ -50,7 +50,7 @@ int rigzumal_record(char *text, size_t text_size, size_t tag_size, const char *c
                                    password_size, 1);
 }
 
-/* A text as the exports take it; the text may be null. */
+/* A text in the form of the exports; the text may be null. */
 #define TEXT_OR_NONE(text)                                                                         \
     (text) == NULL ? NOTHING : (bytes)(text), (text) == NULL ? 0 : strlen(text)
 

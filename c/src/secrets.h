@@ -8,8 +8,7 @@
  * binding too, which tests/stacks.c measures. The number fits into RIGZUMAL_STACK_SIZE. */
 enum { CLEARED_STACK = 22 * 1024 };
 
-/* Clears the stack below the caller's frame, and the registers: call it after all work on secrets.
- * */
+/* Clears the stack below the caller's frame, and the registers, after all work on secrets. */
 void secrets_clear_traces(void);
 
 /* Clears the traces of a call, and returns its answer. */

@@ -1,4 +1,4 @@
-/* Settings: costs and the salt behind them, as a text and as numbers. */
+/* Settings: costs followed by a salt, as a text. */
 #pragma once
 
 #include "rigzumal.h"

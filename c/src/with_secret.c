@@ -81,7 +81,7 @@ int rigzumal_check_with_secret(const char *record, const void *password, size_t 
                                               1);
 }
 
-/* A secret that failed to load counts as one. */
+/* Whether the inputs have a secret or associated data; a null one with a size counts too. */
 static bool has_secret(const struct rigzumal_inputs *inputs) {
     return inputs->secret != NULL || inputs->secret_size != 0 || inputs->associated != NULL ||
            inputs->associated_size != 0;

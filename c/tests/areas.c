@@ -1,6 +1,6 @@
-/* Kept areas go to one thread at a time, none is lost, and none is kept over the bound. This test
- * includes src/heap.c with a rest before each atomic step, so that another thread meets work that
- * isn't one step. */
+/* Each kept area has one thread at a time, none is lost, and the heap keeps none over the bound.
+ * This test includes src/heap.c with a rest before each atomic step, so that other threads run
+ * between the steps. */
 #define _GNU_SOURCE
 #include "check.h"
 
@@ -34,7 +34,7 @@ enum { THREADS = 8, TURNS = 150, SIZE = 64 * KIB, KEPT = 64 * MIB };
 
 static _Atomic(size_t) mapped;
 
-/* The number of steps of this thread before the bound is lowered, or a call uses an area, or -1. */
+/* The steps of this thread before the bound is lowered, or before a call uses an area; or -1. */
 static _Thread_local int steps_to_lowering = -1, steps_to_call = -1;
 
 static void rest(void) {
@@ -68,7 +68,7 @@ WRAP(int, madvise, void *start, size_t size, int advice) {
     return __real_madvise(start, size, advice);
 }
 
-/* Returns areas while other threads take them: each once. */
+/* Trims the kept areas while other threads use them: the heap unmaps each once. */
 static void *give_kept(void *unused) {
     for (int turn = 0; turn < TURNS; turn++) {
         size_t size = heap_trim();
@@ -90,7 +90,7 @@ static void *work(void *number) {
     return NULL;
 }
 
-/* An area that is returned while the bound is lowered isn't kept, before each step. */
+/* The heap doesn't keep an area if the bound is lowered meanwhile, before any step. */
 static void lower_bound(void) {
     for (int step = 0; steps_to_lowering < 0; step++) {
         heap_keep(KEPT);
@@ -101,7 +101,7 @@ static void lower_bound(void) {
     }
 }
 
-/* Nor is the area of a call that begins and ends while the bound is lowered. */
+/* The heap doesn't keep the area of a call that begins and ends while the bound is lowered. */
 static void call_while_lowered(void) {
     int step = 0;
     for (; steps_to_call < 0; step += PLACES / 8) {

@@ -1,5 +1,5 @@
-/* The tests for each processor and each compiler: each call of tests/jobs.c, the standards'
- * values, and the number of threads that a call starts. */
+/* The tests for each processor and each compiler: each call of tests/jobs.c, the values of the
+ * standards, and the number of threads that a call starts. */
 #include "check.h"
 #include "jobs.h"
 
@@ -24,8 +24,8 @@ static int are_hex(const unsigned char *bytes, size_t size, const char *wanted) 
     return wanted[2 * size] == '\0';
 }
 
-/* RFC 9106, section 5: the inputs of all three, and the tags of 5.1, 5.2 and 5.3, by some of each
- * number of threads. */
+/* RFC 9106, section 5: the inputs of all three vectors, and the tags of 5.1, 5.2 and 5.3, for
+ * several numbers of threads. */
 static void test_argon2_vectors(void) {
     static const char *const tags[3] = {
         "512b391b6f1162975371d30919734294f868e3be3984f3c1a13a4db9fabe4acb",
@@ -49,7 +49,7 @@ static void test_argon2_vectors(void) {
     }
 }
 
-/* RFC 7914, section 12: the first and the third. */
+/* RFC 7914, section 12: the first and the third vector. */
 static void test_scrypt_vectors(void) {
     static const char empty[] =
         "77d6576238657b203b19ca42c18a0497f16b4844e3074ae8dfdffa3fede21442"
@@ -88,13 +88,13 @@ static void test_usual_values(void) {
     CHECK(RIGZUMAL_SALT_SIZE_MIN == 8 && RIGZUMAL_SALT_SIZE_MAX == 48);
     CHECK(RIGZUMAL_TAG_SIZE_MIN == 4 && RIGZUMAL_TAG_SIZE_MAX == 64);
     CHECK(RIGZUMAL_ARGON2D == 0 && RIGZUMAL_ARGON2I == 1 && RIGZUMAL_ARGON2ID == 2);
-    CHECK(RIGZUMAL_REPLY_CHANGED == 11 && RIGZUMAL_REPLY_NO_ACCOUNT == 12); /* a store's */
+    CHECK(RIGZUMAL_REPLY_CHANGED == 11 && RIGZUMAL_REPLY_NO_ACCOUNT == 12); /* of a store */
     CHECK(RIGZUMAL_SCRYPT == 3 && RIGZUMAL_VERSION_10 == 0x10 && RIGZUMAL_VERSION_13 == 0x13);
     CHECK(strcmp(rigzumal_version(), RIGZUMAL_LIBRARY_VERSION) == 0);
 }
 
-/* Kept memory is returned once, and the next call is as before; a call with a new bound returns the
- * old one, and releases the kept memory. */
+/* rigzumal_trim returns the kept memory once, and the next call works as before. A call with a new
+ * bound returns the old one, and releases the kept memory. */
 static void test_trim_and_keep(void) {
     enum { MIB = 1024 * 1024, AREA = 16 * MIB };
     static const size_t bounds[] = {64 * MIB, 0, 64 * MIB};
@@ -109,8 +109,8 @@ static void test_trim_and_keep(void) {
     }
 }
 
-/* The number of threads that a call starts for its three lanes: one beside the caller's, where two
- * are to work; in argon2.h one for each lane, or as many as a context says. */
+/* Returns the number of threads that a call starts for its three lanes: one beside the caller's for
+ * two threads. A call of argon2.h has one thread for each lane, or as many as its context says. */
 static int helpers_of(const struct job *job) {
     if (job->trouble == BAD_RECORD)
         return 0;

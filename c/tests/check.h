@@ -24,7 +24,7 @@
         }                                                                                          \
     } while (0)
 
-/* A pointer and its size, as calls take them: an array, and a literal without its zero byte. */
+/* A pointer and its size: of an array, and of a literal without its zero byte. */
 #define ARRAY(array) (array), sizeof(array)
 #define LITERAL(text) (text), sizeof(text) - 1
 #define NO_BYTES NULL, 0
@@ -47,7 +47,7 @@ static inline int is_all(const void *start, int byte, size_t size) {
     return 1;
 }
 
-/* The status of a child that ends by itself. */
+/* Returns the status of a child that ends by itself. */
 static inline int status_of(pid_t child) {
     int status;
     CHECK(child > 0 && waitpid(child, &status, 0) == child && WIFEXITED(status));

@@ -1,11 +1,10 @@
-/* After each call no eight bytes of the password, the secret, the tag or the tag's letters stand in
- * any memory of the process but what the caller handed in, nor in the vector registers. Each call
- * is made on a stack of its own, where its thread then turns round with no further call, while this
- * one looks.
+/* After each call, only the caller's own memory contains eight bytes of the password, the secret,
+ * the tag or the tag's letters: no other memory of the process does, and no vector register. Each
+ * call runs on its own stack. Its thread then spins without a further call, while this one looks.
  *
- * Where argon2.h's flags have the inputs cleared they are gone once a tag in parts is begun, with
- * their hash, H0 of RFC 9106, section 3.2: the first segment looks for them. The hash comes from
- * the test that runs this, in hexadecimal. */
+ * If a flag of argon2.h clears the inputs, they are gone once a tag in parts has begun, with their
+ * hash, H0 of RFC 9106, section 3.2: the first segment looks for them. The test that runs this
+ * program passes the hash in hexadecimal. */
 #define _GNU_SOURCE
 #include "builds.h"
 #include "check.h"
@@ -29,7 +28,7 @@ static void add_letters(const char *record) {
 
 static const struct job *job;
 
-/* The build's own, in whose places look_first and look_first_of_two stand. */
+/* The build's own functions, which look_first and look_first_of_two replace. */
 static __typeof__(cred_argon2_segment) *work_segment, *work_two_segments;
 static int looks, found_begun;
 
@@ -78,7 +77,7 @@ static void *make_call(void *unused) {
 }
 
 static int found_after(const struct job *tried) {
-    rigzumal_trim(); /* so that what is kept afterwards is this call's */
+    rigzumal_trim(); /* so that the memory kept afterwards is this call's */
     job = tried;
     atomic_store(&is_done, 0);
     atomic_store(&may_end, 0);
@@ -97,7 +96,7 @@ static int found_after(const struct job *tried) {
     return found;
 }
 
-/* The scan itself is tested on a call that leaves a copy of the tag. */
+/* A call that leaves a copy of the tag tests the scan itself. */
 extern unsigned char left_behind[WINDOW];
 unsigned char left_behind[WINDOW];
 
@@ -106,7 +105,7 @@ static int leaves_a_copy(struct vault *from) {
     return RIGZUMAL_OK;
 }
 
-/* This many bytes, in pages without others. */
+/* processor_clear_bytes clears as many bytes as its size says, and no others. */
 static void try_clearing(void) {
     unsigned char bytes[64];
     memset(bytes, 0x5a, sizeof bytes);
@@ -114,7 +113,7 @@ static void try_clearing(void) {
     CHECK(is_all(bytes, 0x5a, 16) && is_all(bytes + 16, 0, 32) && is_all(bytes + 48, 0x5a, 16));
 }
 
-/* The bytes that may be nowhere else: the secrets, and behind them their hash. */
+/* Fills the mapping with the bytes that may be nowhere else: the secrets, and then their hash. */
 static void make_vault(const char *digits) {
     vault = map_apart(sizeof *vault + HASH);
     fill_vault(vault);

@@ -1,18 +1,19 @@
-/* The area that a thread cuts its blocks from: the thread has one for a call, whatever the order in
- * which the blocks are freed. The system may have the pages that the call used, once all blocks are
- * freed, and no larger area goes in its place. */
+/* The area from which a thread cuts its blocks. The thread has one for a call, in whatever order
+ * the call frees its blocks. Once all blocks are free, the system may reclaim the pages that the
+ * call used, and the heap gives up no larger area for this one. */
 #define _GNU_SOURCE
 #include "watched_memory.h"
 
-/* Frees a block; the system then may have this many bytes from there on, and no others. */
+/* Frees a block. The system may then reclaim this many bytes from `start` on, and no others. */
 static void check_offer(unsigned char *freed, const unsigned char *start, size_t size) {
     memset(advised, 0, sizeof advised);
     rattle_dealloc(freed);
     CHECK(is_advised(MADV_FREE, start, size) && advised[MADV_FREE].size == size);
 }
 
-/* The area isn't kept and taken again for each block. The system may have what was used of it at
- * one time, though less of it was used last, or by an earlier call more. */
+/* The thread keeps its area between two blocks of a call. Afterwards the system may reclaim the
+ * most bytes that this call used at one time, even if its last blocks used fewer, or an earlier
+ * call more. */
 static void test_blocks_of_a_call(void) {
     rattle_dealloc(take_block(AREA));
     unsigned char *small = take_block(100), *start = take_block(5 * MIB);
@@ -27,8 +28,8 @@ static void test_blocks_of_a_call(void) {
     CHECK(heap_trim() == AREA && mapped == 0);
 }
 
-/* A block is cut behind those that are in use, and the whole of an empty area is used again: the
- * thread gives up none. */
+/* The heap cuts a block behind those in use, and uses the whole of an empty area again: the thread
+ * gives up no area. */
 static void test_orders(void) {
     unsigned char *small = take_block(100), *start = NULL;
     memset(advised, 0, sizeof advised);
@@ -51,8 +52,8 @@ static void test_orders(void) {
     rattle_dealloc(small);
 }
 
-/* The system may have what a block used of its own area, and all of an area that blocks were cut
- * from before the thread's present one. */
+/* The system may reclaim the part of its own area that a block used, and the whole of an area from
+ * which the heap cut blocks before the present one. */
 static void test_offers(void) {
     rattle_dealloc(take_block(40 * MIB));
     unsigned char *large = take_block(18 * MIB);
@@ -68,7 +69,7 @@ static void test_offers(void) {
     CHECK(mapped == 0);
 }
 
-/* An empty area makes room: for a larger block, and for one that doesn't fit into it. */
+/* The heap gives up an empty area for a larger block, and for one that doesn't fit into it. */
 static void test_little_room(void) {
     unsigned char *small = take_block(100);
     rattle_dealloc(take_block(MIB));
@@ -88,7 +89,7 @@ static void test_little_room(void) {
     CHECK(heap_trim() == 2 * HUGE_PAGE && mapped == 0);
 }
 
-/* An empty area doesn't take the place of a larger one that was freed later. */
+/* An empty area doesn't replace a larger one that was freed later. */
 static void test_larger_area(void) {
     unsigned char *small = take_block(100), *cut = take_block(MIB), *large = take_block(KEPT);
     rattle_dealloc(cut);

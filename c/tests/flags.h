@@ -6,8 +6,8 @@
 #include <stdbool.h>
 #include <stdint.h>
 
-/* Whether /proc/self/smaps gives the mapping of an address this flag: "dd" is in no core dump, "wf"
- * is zero in a child, "sh" is shared. */
+/* Whether the mapping of an address has this flag in /proc/self/smaps: "dd" means that it is in no
+ * core dump, "wf" that a child reads zeros, "sh" that it is shared. */
 static inline bool has_flag(const void *address, const char *flag) {
     FILE *maps = fopen("/proc/self/smaps", "r");
     CHECK(maps != NULL);
@@ -24,7 +24,7 @@ static inline bool has_flag(const void *address, const char *flag) {
     return has;
 }
 
-/* Whether the system gets the requests of madvise: qemu-user passes none on. */
+/* Whether the system receives the requests of madvise: qemu-user passes none on. */
 #ifndef HAS_ADVICE
 #define HAS_ADVICE true
 #endif

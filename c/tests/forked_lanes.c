@@ -1,7 +1,7 @@
-/* A child that is forked while threads work lanes finds nothing of their work: neither in the
+/* A child that is forked while threads work lanes finds no part of their work, neither in the
  * memory nor on the helpers' stacks, and its own threads can fork. After the call the helpers'
- * stacks are unmapped. src/lanes.c and src/heap.c are over a stand-in for a segment's export that
- * leaves marks in both, on helpers alone, and waits for the fork. */
+ * stacks are unmapped. src/lanes.c and src/heap.c run over a stand-in for a segment's export. The
+ * stand-in leaves marks in both places, only on helpers, and waits for the fork. */
 #define _GNU_SOURCE
 #include "flags.h"
 #include "lanes.h"
@@ -14,14 +14,14 @@
 
 enum { LANES = 4, SEGMENT = 64, TURNS = 10 };
 
-/* It stands at a stack's top, so that calls begin at other places of a page. */
+/* This data is at a stack's top, so that calls begin at other places of a page. */
 static _Thread_local volatile char local[THREAD_LOCAL];
 
 static pthread_t caller;
 static _Atomic(int) marked, is_forked;
 
-/* All of a helper's stack is in no core dump, but its highest page. Nobody may touch the page below
- * it. */
+/* A core dump has only the highest page of a helper's stack. The page below the stack has no
+ * access. */
 static void check_stack(void) {
     size_t page_size = (size_t)sysconf(_SC_PAGESIZE);
     pthread_attr_t attributes;
@@ -39,7 +39,7 @@ static void check_stack(void) {
 
 static uint8_t work_segment(const struct given_segment *it) {
     if (!pthread_equal(pthread_self(), caller)) {
-        char here; /* in no core dump, as long as it is there */
+        char here; /* in no core dump while the stack exists */
         CHECK(is_hidden(&here));
         check_stack();
         leave_marks();
@@ -52,7 +52,7 @@ static uint8_t work_segment(const struct given_segment *it) {
     return 0;
 }
 
-/* Stacks and what a child doesn't get of them are whole pages of any system, up to 64 KiB each. */
+/* Stacks, and the parts that a child reads as zero, are whole pages of any system, up to 64 KiB. */
 
 enum { LARGEST_PAGE = 64 * 1024 };
 
@@ -94,7 +94,7 @@ static int marks_left(void) {
     return found_in_process("forked_lanes", mark);
 }
 
-/* A thread that forks: its child has the thread's stack as it is. */
+/* A thread that forks: the child has the thread's stack unchanged. */
 static void *fork_here(void *unused) {
     volatile unsigned char depths[16 * 1024];
     for (size_t i = 0; i < sizeof depths; i++)
@@ -108,7 +108,7 @@ static void *fork_here(void *unused) {
     return unused;
 }
 
-/* In as many threads as there were helpers, which have those stacks that the C library kept. */
+/* Forks in as many threads as the call had helpers: they get any stacks that the C library kept. */
 static void fork_in_threads(void) {
     pthread_t threads[LANES];
     for (int i = 0; i < LANES; i++)
@@ -124,7 +124,7 @@ static void be_child(void) {
     _exit(0);
 }
 
-/* The number of bytes that the process has mapped. */
+/* Returns the number of bytes that the process has mapped. */
 static unsigned long mapped(void) {
     unsigned long pages = 0;
     FILE *counts = fopen("/proc/self/statm", "r");

@@ -1,5 +1,5 @@
-/* Calls before the C library's: getrandom acts as a test sets it, this many of four threads are
- * refused, the others are counted, and there are sixteen processors. */
+/* Replaces calls of the C library: getrandom acts as a test sets it. Of four threads this many are
+ * refused, and the others are counted. The machine seems to have sixteen processors. */
 #define _GNU_SOURCE
 #include "check.h"
 

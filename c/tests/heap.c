@@ -1,6 +1,6 @@
-/* The memory by itself. Blocks of all sizes taken, changed in size and given back in any order keep
- * what was written in them and nobody else's; areas are mapped, advised, kept between calls and
- * given back. A request that can't be granted is refused, and harms nothing. */
+/* The heap by itself. The test allocates, resizes and frees blocks of all sizes in any order: each
+ * block keeps its own bytes. The heap maps areas, advises the system, keeps areas between calls,
+ * and unmaps them. The heap refuses a request that can't be granted, and changes no block. */
 #define _GNU_SOURCE
 #include "flags.h"
 #include "watched_memory.h"
@@ -41,7 +41,7 @@ static void fill_block(struct block *block, struct tried tried, size_t size) {
     memset(block->start, block->byte, size);
 }
 
-/* A block whose size changes: its first bytes go along. */
+/* Resizes a block, which keeps its first bytes. */
 static void change(struct block *block) {
     size_t size = drawn_size();
     if (block->start == NULL) {
@@ -73,8 +73,8 @@ static void test_random_blocks(void) {
     CHECK(mapped <= KEPT && mapped >= KEPT / 2);
 }
 
-/* The block that was freed last is used again first, while another block is below it, whatever its
- * size was. */
+/* The heap first uses the space of the last freed block again, whatever its size was, while another
+ * block is below it. */
 static void test_used_again(void) {
     static const size_t sizes[] = {5 * MIB, 5 * MIB + 1, 5 * MIB + 63};
     for (size_t i = 0; i < COUNT(sizes); i++) {
@@ -87,7 +87,7 @@ static void test_used_again(void) {
     }
 }
 
-/* Memory for callers that clear it themselves is zero, wherever it comes from. */
+/* Memory for callers that clear their memory themselves is zero, wherever it comes from. */
 static void test_zeros(void) {
     static const size_t sizes[] = {1024, 48 * KIB, 64 * KIB, 5 * MIB, AREA, AREA, 1024, 40 * MIB};
     unsigned char *taken[COUNT(sizes)];
@@ -107,8 +107,8 @@ static void test_zeros(void) {
     }
 }
 
-/* More blocks at one time than the table begins with, and than it has after it has grown once.
- * If the table can't grow, a block is refused, and the existing ones stay. */
+/* Allocates more blocks at one time than the first table holds, and than it holds after one growth.
+ * If the table can't grow, the heap refuses a block, and the existing ones stay. */
 static void test_many_blocks(void) {
     enum { MANY = 200 };
     struct block many[MANY];
@@ -131,11 +131,11 @@ static void test_many_blocks(void) {
     }
 }
 
-/* Nearly 4 TiB: as many huge pages as the number of an area can say. */
+/* Nearly 4 TiB: as many huge pages as the number of an area can express. */
 #define LARGEST_AREA ((size_t)HUGE_PAGE * (HUGE_PAGE - 1))
 
-/* A block that can't have another size stays as it is. None is promised that begins at more than 64
- * bytes. A refused request leaves a thread no block. */
+/* A block that can't be resized stays unchanged. The heap refuses an alignment of over 64 bytes.
+ * After a refused request the thread has no new block. */
 static void *be_refused(void *unused) {
     static const struct {
         size_t size, align;
@@ -163,9 +163,9 @@ static void test_refusals(void) {
     CHECK(pthread_join(thread, NULL) == 0);
 }
 
-/* A child reads zeros where a block of its parent's is, and changes nothing of it. The child ends
- * with a message if it frees such a block, whatever it has allocated itself: its call would return
- * a wrong answer. */
+/* A child reads zeros in a block of its parent, and doesn't change the parent's bytes. If the child
+ * frees such a block, it ends with a message, whatever it has allocated itself: its call would
+ * return a wrong answer. */
 static void check_child(unsigned char *start, size_t size) {
     int streams[2], status;
     char said[80] = "";
@@ -185,9 +185,9 @@ static void check_child(unsigned char *start, size_t size) {
     CHECK(strstr(said, "a forked child continued its parent's call\n") != NULL);
 }
 
-/* The whole of a new mapping is to have huge pages, once, and the rest is unmapped. It is the
- * process's own, in no core dump, and reads as zero in a forked child, which changes nothing of it.
- * The system may have the pages of what is kept. */
+/* The heap asks once for huge pages for the whole of a new mapping, and unmaps the rest. The
+ * mapping is private, is in no core dump, and reads as zero in a forked child, which doesn't change
+ * it for the parent. The system may reclaim the pages that the heap keeps. */
 static void test_mappings(void) {
     static const size_t sizes[] = {64 * KIB, 5 * MIB, AREA, 40 * MIB, KEPT, 70 * MIB};
     for (size_t i = 0; i < COUNT(sizes); i++) {
@@ -213,7 +213,7 @@ static void test_mappings(void) {
     }
 }
 
-/* A child of a namespace's first process, which is the first of its own namespace. */
+/* Tests a child of a namespace's first process: the child is the first of its own namespace. */
 static void test_first_processes(void) {
     are_all_first = HAS_ADVICE;
     unsigned char *start = take_block(AREA);
@@ -239,7 +239,7 @@ static void keep_blocks(int count, size_t size, int kept) {
     CHECK(mapped == (size_t)kept * size);
 }
 
-/* Uses this many of the kept blocks, with no mapping: the others are freed, each once. */
+/* Uses this many of the kept areas, and maps none: the trim unmaps the others, each once. */
 static void take_kept_blocks(int count, size_t size, int kept) {
     unsigned char *taken[160];
     most_mapped = mapped;
@@ -254,8 +254,8 @@ static void take_kept_blocks(int count, size_t size, int kept) {
     CHECK(heap_trim() == (size_t)count * size && mapped == 0);
 }
 
-/* Blocks that areas are cut for, and larger ones, are kept up to a bound: of 2 GiB that many
- * callers use at one time too, but no more than there are places for. */
+/* The heap keeps areas of cut blocks and of larger ones up to a bound, also of 2 GiB that many
+ * callers use at one time, but no more areas than it has places. */
 static void test_kept_areas(void) {
     static const struct {
         int blocks, kept;
@@ -271,7 +271,7 @@ static void test_kept_areas(void) {
                 {128, 128, AREA, (size_t)128 * AREA},
                 {130, 128, AREA, (size_t)140 * AREA}};
     for (size_t i = 0; i < COUNT(rows); i++) {
-        int kept = rows[i].kept, least = kept > 4 ? kept : 0; /* of many all are taken */
+        int kept = rows[i].kept, least = kept > 4 ? kept : 0; /* of many areas, the test uses all */
         heap_keep(rows[i].bound);
         for (int taken = kept; taken >= least; taken--) {
             keep_blocks(rows[i].blocks, rows[i].size, kept);
@@ -281,8 +281,8 @@ static void test_kept_areas(void) {
     heap_keep(KEPT);
 }
 
-/* The smallest area that is large enough is taken. The block freed last is kept, in the place of
- * the smallest if there is no room for all. */
+/* The heap uses the smallest area that is large enough. It keeps the area of the last freed block,
+ * instead of the smallest area if the bound has no room for all. */
 static void test_replaced_areas(void) {
     unsigned char *first[3], *last = take_block(30 * MIB);
     for (int i = 0; i < 3; i++)
@@ -301,8 +301,8 @@ static void test_replaced_areas(void) {
     CHECK(heap_trim() == 50 * MIB && mapped == 0);
 }
 
-/* The pages that are kept of a larger block are the first of the next one: cleared, and with one
- * mapping for all. Where they can't be moved the block is a new one. */
+/* The kept pages of a larger block are the first pages of the next one: cleared, and with one
+ * mapping for all. If the system can't move them, the block is a new one. */
 static void test_grown_areas(void) {
     for (int turn = 0; turn < 4; turn++) {
         moved = 0;
@@ -313,14 +313,13 @@ static void test_grown_areas(void) {
         CHECK(is_hidden(start) && is_hidden(start + 99 * MIB));
         memset(start, 1, 100 * MIB);
         rattle_dealloc(start);
-        CHECK(mapped == (turn == 3 ? 2 * KEPT : KEPT)); /* those that were not moved are left */
+        CHECK(mapped == (turn == 3 ? 2 * KEPT : KEPT)); /* pages that weren't moved stay */
     }
     is_refusing_moves = false;
     mapped -= KEPT;
 }
 
-/* A program may keep more, less, or nothing. The call that changes the bound frees the kept memory.
- * */
+/* A program may keep more memory, less, or none. A change of the bound frees the kept memory. */
 static void test_bounds(void) {
     static const struct {
         size_t bound, kept;
@@ -342,14 +341,14 @@ static void test_bounds(void) {
     heap_keep(KEPT);
 }
 
-/* Where no area can be mapped large blocks have as little as they need, with the same flags, and
- * what is kept is given up for one that would else be refused. */
+/* If the heap can't map an area for several blocks, a large block has the smallest possible area,
+ * with the same flags. The heap gives up kept areas for a block that it would otherwise refuse. */
 static void test_little_room(void) {
     most_mapped = 3 * HUGE_PAGE;
     unsigned char *first = heap_take_zeros(64 * KIB), *second = heap_take_zeros(HUGE_PAGE);
     CHECK(first != NULL && second != NULL && mapped == 2 * HUGE_PAGE);
     CHECK(is_hidden(second));
-    CHECK(heap_take_zeros(HUGE_PAGE) == NULL); /* its start is to be aligned */
+    CHECK(heap_take_zeros(HUGE_PAGE) == NULL); /* the alignment of its start needs more */
     heap_give_zeros(first);
     heap_give_zeros(second);
     most_mapped = SIZE_MAX;

@@ -1,5 +1,5 @@
-/* Calls in a program that gets signals, cancels its threads, forks, and may start no thread: each
- * tag is right, helpers handle no signal, and none is there after the call. */
+/* Calls in a program that receives signals, cancels its threads, forks, and may start no thread:
+ * each tag is right, helpers handle no signal, and none remains after the call. */
 #define _GNU_SOURCE
 #include "flags.h"
 #include "rigzumal.h"
@@ -48,7 +48,7 @@ static void *nothing(void *unused) {
     return unused;
 }
 
-/* A joined thread may be listed for a moment more. */
+/* The system may list a joined thread for a moment more. */
 static void check_threads(void) {
     for (int turn = 0; turn < 200000 && threads_now() > threads_before; turn++)
         usleep(500);
@@ -135,8 +135,8 @@ static void fork_in_handler(int number) {
         forked = _Fork(); /* fork waits for malloc's lock, which the call may hold */
 }
 
-/* A child that a handler forks in the midst of a call, and that goes on with the call, returns a
- * right answer or ends by abort. It neither returns a wrong answer nor waits for ever. */
+/* If a handler forks during a call, and the child continues the call, the child returns a right
+ * answer or ends by abort. It neither returns a wrong answer nor waits for ever. */
 static void test_forks_in_calls(void) {
     struct sigaction action = {.sa_handler = fork_in_handler};
     CHECK(sigaction(SIGALRM, &action, NULL) == 0);
@@ -162,7 +162,7 @@ static void test_forks_in_calls(void) {
     CHECK(aborted > 0);
 }
 
-/* Calls in a child that may start no thread, while its parent calls too: neither reaches the
+/* Calls in a child that may start no thread, while its parent calls too: neither changes the
  * other's memory. */
 static void test_no_threads(void) {
     pid_t child = fork();

@@ -13,7 +13,7 @@ void (*look_at)(void *answer, size_t size);
     OF_KIND("$argon2i$v=19$m=72,t=1,p=3$c2l4dGVlbiBvZiBzYWx0Lg",                                   \
             "$argon2id$v=19$m=72,t=1,p=3$c2l4dGVlbiBvZiBzYWx0Lg")
 
-/* The inputs of a call, with its trouble. */
+/* The inputs of a call, with its fault. */
 
 static int has_trouble(const struct vault *it, enum trouble trouble) {
     return it->job->trouble == trouble;
@@ -84,7 +84,7 @@ static const struct {
     [RIGZUMAL_REMOVE] = {RIGZUMAL_REPLY_REMOVED, RIGZUMAL_REPLY_WRONG},
 };
 
-/* OK or MISMATCH by the reply, and otherwise the fault, or -1. */
+/* Returns OK or MISMATCH for the reply, otherwise the fault, or -1. */
 static int verdict_of(int fault, uint32_t operation, uint32_t reply) {
     if (look_at != NULL) {
         look_at(&fault, sizeof fault);
@@ -138,9 +138,9 @@ static int libargon2_verify_ctx(struct vault *it) {
     return argon2_verify_ctx(&context, (const char *)it->tag_with_secret, Argon2_id);
 }
 
-/* The inputs that the caller wants cleared are cleared. After a refusal they are as they were, and
- * a second try is of the same password; or if the tag was begun they are gone, and a second try is
- * refused too. */
+/* The call clears the inputs that the flags name. After a refusal the inputs are unchanged, and a
+ * second call has the same password. If the tag has begun, the inputs are gone, and a second call
+ * is refused too. */
 static int clearing(struct vault *it, argon2_context context) {
     context.pwd = memcpy(it->given_password, it->password, sizeof it->password);
     context.secret = memcpy(it->given_secret, it->secret, sizeof it->secret);

@@ -1,4 +1,4 @@
-/* Every call that reads a secret, of rigzumal.h and of argon2.h, with its secrets in one place. */
+/* Each call of rigzumal.h and argon2.h that reads a secret, with its secrets in one place. */
 #pragma once
 
 #include "rigzumal.h"
@@ -10,7 +10,7 @@ enum { TAG = 40, KEY = 48, ENCODED = 200, LONG_TAG = 80, TEXT_ROOM = RIGZUMAL_TE
 /* The fault of a call's inputs. */
 enum trouble { NO_TROUBLE, OTHER_PASSWORD, OTHER_SECRET, BAD_RECORD, LITTLE_ROOM };
 
-/* All secrets, and all output: after a call no other memory may hold any of it. */
+/* All secrets and all output: after a call no other memory may contain a part of them. */
 struct vault {
     unsigned char password[48], secret[40];
     unsigned char given_password[48], given_secret[40]; /* those that a call clears */
@@ -19,10 +19,10 @@ struct vault {
     char record[TEXT_ROOM], record_with_secret[TEXT_ROOM], scrypt_record[TEXT_ROOM];
     char bad_record[TEXT_ROOM];   /* with a field too many */
     char cheap_record[TEXT_ROOM]; /* with a cost out of range */
-    char setting[TEXT_ROOM];      /* with the tag where a salt ought to be */
+    char setting[TEXT_ROOM];      /* with the tag in the place of the salt */
     char text[TEXT_ROOM];
     unsigned char made[LONG_TAG];
-    const struct job *job; /* that is under way */
+    const struct job *job; /* the running one */
 };
 
 struct job {
@@ -30,20 +30,20 @@ struct job {
     int (*call)(struct vault *vault);
     int answer;
     enum trouble trouble;
-    uint32_t number; /* a cost, an operation or a size, where a call has one that differs */
+    uint32_t number; /* a cost, an operation or a size, if it differs between jobs */
 };
 
 extern const struct job jobs[];
 extern const int job_count;
 
-/* The kind and the version of their tags: Argon2id's of 0x13, unless a test sets others. */
+/* The kind and the version of the tags: Argon2id and 0x13, unless a test sets others. */
 extern uint32_t job_kind, job_version;
 
-/* The function of a test that sees an answer before a job does; or null. */
+/* A test's function that sees an answer before the job does, or null. */
 extern void (*look_at)(void *answer, size_t size);
 
 /* Fills the vault: the secrets by a rule, and the rest by the calls. */
 void fill_vault(struct vault *vault);
 
-/* The answer of a job's call. */
+/* Returns the answer of a job's call. */
 int answer_of(const struct job *job, struct vault *vault);

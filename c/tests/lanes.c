@@ -1,5 +1,5 @@
-/* src/lanes.c over stand-ins for the exports and for the heap, with threads refused at random,
- * answers that aren't 0, and memory of the caller's. */
+/* src/lanes.c over stand-ins for the exports and for the heap. The system refuses threads at
+ * random, parts return faults, and the caller may pass memory. */
 #define _GNU_SOURCE
 #include "stand_ins.h"
 #include "watched_lanes.h"
@@ -10,7 +10,7 @@ static void set_numbers(uint32_t lanes, uint32_t passes, size_t segment) {
     now.slice = segment * lanes;
 }
 
-/* Begins a turn of random numbers, at times with memory of its caller, for all slices. */
+/* Begins a turn with random numbers, in some turns with the caller's memory for all slices. */
 static void begin_turn(bool has_memory) {
     memset((void *)&now, 0, sizeof now);
     set_numbers(1 + random_below(9), 1 + random_below(3), 2 + random_below(6));
@@ -26,7 +26,7 @@ static void begin_turn(bool has_memory) {
     }
 }
 
-/* Tests the answer of a turn, if all of its work is done. */
+/* Tests the answer of a turn, and whether all of its work is done. */
 static void try_threads(uint32_t threads, int wanted) {
     int state, before = random_below(2) == 0 ? PTHREAD_CANCEL_ENABLE : PTHREAD_CANCEL_DISABLE;
     size_t size = 0;
@@ -75,7 +75,7 @@ static void test_large_numbers(void) {
     }
 }
 
-/* More segments than 32 bits count: in a child, which ends well when it works a late one. */
+/* More segments than 32 bits count, in a child, which ends with success at a late one. */
 static void test_many_segments(void) {
     pid_t child = fork();
     if (child == 0) {
@@ -90,7 +90,7 @@ static void test_many_segments(void) {
     CHECK_NUMBER(status_of(child), 0);
 }
 
-/* Signals that the caller blocks stay blocked, and the others stay open. */
+/* Signals that the caller blocks stay blocked, and the others stay unblocked. */
 static void test_blocked_signals(void) {
     sigset_t some, before;
     sigemptyset(&some);
@@ -101,7 +101,8 @@ static void test_blocked_signals(void) {
     pthread_sigmask(SIG_SETMASK, &before, NULL);
 }
 
-/* In a program whose threads have small stacks, of 64 KiB or the least that the system allows. */
+/* Runs in a program whose threads have small stacks, of 64 KiB or the least that the system allows.
+ */
 static void test_small_stacks(void) {
     size_t least = (size_t)__real_sysconf(_SC_THREAD_STACK_MIN);
     pthread_attr_t attributes;
@@ -114,7 +115,8 @@ static void test_small_stacks(void) {
     pthread_attr_destroy(&attributes);
 }
 
-/* After a segment's fault no later one is worked. After any the memory is given back, cleared. */
+/* After a segment's fault no thread works a later one. After any fault the memory is cleared and
+ * freed. */
 static void test_faults(int turns) {
     for (int turn = 0; turn < turns; turn++) {
         begin_turn(turn % 2 == 0);
@@ -160,14 +162,14 @@ static void test_useful_threads(void) {
     CHECK(threads_for(UINT32_MAX, UINT32_MAX, UINT32_MAX) == 255);
     processors = 1;
     CHECK(threads_for(4, ENOUGH, 4) == 1);
-    processors = 0; /* the system doesn't say which */
+    processors = 0; /* the system reports none */
     CHECK(threads_for(9, ENOUGH, 9) == 5 && threads_for(4, ENOUGH, 4) == 4);
     online = -1;
     CHECK(threads_for(9, ENOUGH, 9) == 1);
     processors = 16;
 }
 
-/* Which signals there are says the system: the C library keeps some, and qemu-user. */
+/* Asks the system for all signals: the C library reserves some, and so does qemu-user. */
 static void find_all_signals(void) {
     sigset_t all, before;
     sigfillset(&all);
@@ -176,7 +178,7 @@ static void find_all_signals(void) {
     CHECK(pthread_sigmask(SIG_SETMASK, &before, NULL) == 0 && blocked_signals() != all_signals);
 }
 
-/* Words: how many turns, and whether marks are looked for, which no sanitizer allows. */
+/* The arguments: the number of turns, and whether to look for marks, which no sanitizer allows. */
 int main(int given, char **words) {
     CHECK(given >= 2);
     int turns = atoi(words[1]);

@@ -1,4 +1,4 @@
-/* Builds that nobody calls, in place of the proved ones; with -DLEFT_OUT the newest is empty. */
+/* Builds that no test calls, instead of the proved ones; with -DLEFT_OUT the newest is empty. */
 #include "builds.h"
 
 #include <stdlib.h>

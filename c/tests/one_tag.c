@@ -1,4 +1,4 @@
-/* One tag of this many KiB by one lane and one pass, whose instructions valgrind counts. */
+/* Computes one tag with this many KiB, one lane and one pass; valgrind counts the instructions. */
 #include "check.h"
 #include "rigzumal.h"
 

@@ -1,7 +1,7 @@
-/* Each request for memory refused in turn, at each call of tests/jobs.c: the answer is MEMORY and
- * nothing is written, until one more request is granted and the answer is right. The linker puts
- * the functions below before those of the C library. The compiler's sanitizer and valgrind find
- * leaks. */
+/* Refuses each request for memory in turn, in each call of tests/jobs.c: the call answers MEMORY,
+ * and writes no output. Once no request is refused, the answer is right. The linker puts the
+ * functions below before those of the C library. The compiler's sanitizer and valgrind find leaks.
+ */
 #define _GNU_SOURCE
 #include "check.h"
 #include "jobs.h"
@@ -12,8 +12,8 @@
 #include <stdbool.h>
 #include <sys/mman.h>
 
-static long granted;      /* how many requests are granted before one is refused */
-static int refuses_later; /* whether those after it are refused too */
+static long granted;      /* the number of granted requests before the refused one */
+static int refuses_later; /* whether later ones are refused too */
 static int refused;
 
 static int refuses_next(void) {
@@ -42,12 +42,12 @@ WRAP(void *, mmap, void *at, size_t size, int protection, int flags, int file, o
 /* The inputs of each call, and the bytes that it leaves if nothing is refused. */
 static struct vault given, wanted;
 
-/* Runs the call with all requests granted except the one after this many, and later ones if so set:
- * the call is right, or writes nothing. Returns whether one was refused. */
+/* Runs the call, grants this many requests, and refuses the next one, with later ones if
+ * refuses_later is set: the call is right, or writes no output. Returns whether it refused one. */
 static bool try_refusal(const struct job *job, long before) {
     static struct vault left;
     left = given;
-    rigzumal_trim(); /* each area is asked for anew */
+    rigzumal_trim(); /* so that the call asks the system for each area */
     refused = 0;
     granted = before;
     int answer = answer_of(job, &left);
@@ -60,8 +60,8 @@ static bool try_refusal(const struct job *job, long before) {
     return refused;
 }
 
-/* Refuses each request of the call in turn, and returns their number. A request for an area
- * may be refused without harm, as a smaller block can stand for it. */
+/* Refuses each request of the call in turn, and returns their number. A refused request for an area
+ * may be harmless, since a smaller area can replace it. */
 static long try_refusals(const struct job *job) {
     wanted = given;
     CHECK_NUMBER(answer_of(job, &wanted), job->answer);

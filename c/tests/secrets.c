@@ -1,6 +1,6 @@
-/* No conditional jump and no address depends on a secret, to be run under valgrind: its memcheck
- * counts those that do, with the passwords, tags and letters of tags marked as undefined. Where a
- * tag is judged there is one such jump, by the verdict, whichever byte of the tag is wrong. */
+/* No conditional jump and no address depends on a secret. The program marks the passwords, tags and
+ * letters of tags as undefined, and valgrind's memcheck counts the jumps and addresses that depend
+ * on them. A call that judges a tag has one such jump, by the verdict, whichever byte is wrong. */
 #include "check.h"
 #include "jobs.h"
 
@@ -18,7 +18,7 @@ static void show(void *start, size_t size) {
     VALGRIND_MAKE_MEM_DEFINED(start, size);
 }
 
-/* A comparison that stops at the first wrong byte, by which the count itself is tried. */
+/* A comparison that stops at the first wrong byte, which tests the count itself. */
 static int leaking_check(struct vault *it) {
     int is_same = 1;
     for (size_t i = 0; i < sizeof it->password && is_same; i++)
@@ -38,7 +38,7 @@ static struct job job_of(const char *name) {
 /* The index of the wrong byte in the text's tag. */
 enum damage { NO_BYTE, FIRST_BYTE, LAST_BYTE, DAMAGES };
 
-/* Another letter in its place. The last has bits that stand for nothing, and are 0. */
+/* Replaces a letter by another one. The last letter has unused bits, which are 0. */
 static void do_damage(char *text, enum damage damage) {
     char *first = strrchr(text, '$') + 1, *last = text + strlen(text) - 1;
     char *at = damage == FIRST_BYTE ? first : last;
@@ -46,7 +46,7 @@ static void do_damage(char *text, enum damage damage) {
         *at = *at == 'A' ? 'g' : 'A';
 }
 
-/* The number of jumps and addresses that depend on secrets in a call that answers so. */
+/* Returns the number of jumps and addresses that depend on secrets in a call with this answer. */
 static unsigned leaks_of(const struct job *job, int wanted) {
     hide(ARRAY(vault.password));
     hide(ARRAY(vault.secret));
@@ -60,7 +60,7 @@ static unsigned leaks_of(const struct job *job, int wanted) {
     return leaks;
 }
 
-/* The text whose tag a call judges. */
+/* Returns the text whose tag a call judges. */
 static char *judged_by(const struct job *job) {
     if (strstr(job->name, "long tag") != NULL)
         return vault.long_string;
@@ -68,8 +68,7 @@ static char *judged_by(const struct job *job) {
     return has_secret ? vault.record_with_secret : vault.record;
 }
 
-/* A call that judges a tag looks so often at the verdict, where the proved code ends in threads or
- * C compares. */
+/* A call that judges a tag branches on the verdict this many times. */
 static void try_judgement(const struct job *job, unsigned looks) {
     int mismatch = strncmp(job->name, "argon2", 6) == 0 ? -35 : RIGZUMAL_MISMATCH;
     for (enum damage damage = NO_BYTE; damage < DAMAGES; damage++) {
@@ -79,15 +78,15 @@ static void try_judgement(const struct job *job, unsigned looks) {
     }
 }
 
-/* The record's tag, which is secret while it is read: `rigzumal_record_fault` alone reads it so,
- * since a check says by its verdict alone whether it was the password's. */
+/* Marks the letters of the record's tag as secret, for the reading of a text: only
+ * `rigzumal_record_fault` runs with this mark, since the verdict of a check depends on the tag. */
 static void hide_letters(void) {
     char *letters = strrchr(vault.record, '$') + 1;
     hide(letters, strlen(letters));
 }
 
-/* Makes the one call that is named, for tags of a kind: "i", "id", or "old" for 0x10's; and how
- * often it looks at a verdict, if it judges a tag. */
+/* The arguments: the name of a call, the kind of tags ("i", "id", or "old" for 0x10), and, if the
+ * call judges a tag, the number of its branches on the verdict. */
 int main(int count, char **words) {
     CHECK(count >= 3 && RUNNING_ON_VALGRIND);
     look_at = show;

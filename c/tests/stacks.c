@@ -1,8 +1,8 @@
-/* Each call on small stacks: of RIGZUMAL_STACK_SIZE bytes, and of a thread with 32 KiB or the least
- * that the system allows. Below each stack no page can be read or written, so that a call which
- * reaches deeper ends the program. On a painted stack, of which it clears nothing, a call shows how
- * deep it reaches: a fifth more is cleared. The program is bound lazily, and LD_BIND_NOT has each
- * call of the C library looked up anew. */
+/* Runs each call on small stacks: of RIGZUMAL_STACK_SIZE bytes, and of a thread with 32 KiB or the
+ * least that the system allows. The page below each stack has no access, so that a call that
+ * reaches deeper ends the program. On a painted stack, without the clearing, the test measures how
+ * deep a call reaches: the library clears a fifth more. The program is bound lazily, and with
+ * LD_BIND_NOT the loader looks up each call of the C library again. */
 #define _GNU_SOURCE
 #include "check.h"
 #include "jobs.h"
@@ -28,7 +28,7 @@ WRAP(void, secrets_clear_traces, void) {
         __real_secrets_clear_traces();
 }
 
-/* A stack with a page below it that isn't there for anyone. */
+/* Maps a stack above a page without access. */
 static unsigned char *map_stack(size_t size) {
     unsigned char *mapping = mmap(NULL, PAGE + size, PROT_NONE, MAP_PRIVATE | MAP_ANONYMOUS, -1, 0);
     CHECK(mapping != MAP_FAILED);

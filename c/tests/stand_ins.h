@@ -1,4 +1,4 @@
-/* A build of stand-ins, and marks that they leave where the work would leave words of blocks. */
+/* A build of stand-ins, and marks that they leave in the places of words of blocks. */
 #pragma once
 
 #include "builds.h"
@@ -33,7 +33,7 @@ static uint8_t take_segment(const struct tag_numbers *numbers, const struct segm
     return work_segment(&given);
 }
 
-static _Atomic(int) pairs; /* how often two segments were worked by one call */
+static _Atomic(int) pairs; /* the number of calls that worked two segments */
 
 static uint8_t take_two_segments(const struct tag_numbers *numbers,
                                  const struct segment_index *index,
@@ -60,7 +60,7 @@ WRAP(const struct build *, processor_build, void) {
     return &stand_ins;
 }
 
-/* A word that stands in no other data of the program: it is apart. */
+/* A word that no other data of the program contains, in a separate mapping. */
 static const uint64_t *mark;
 
 static void make_mark(void) {

@@ -1,5 +1,5 @@
-/* Threads that call at the same time, with areas that go from one to another, each turn with
- * another number of threads in the call. */
+/* Threads that call at the same time, with areas that pass from one thread to another. Each turn
+ * has another number of threads in a call. */
 #include "check.h"
 #include "rigzumal.h"
 
@@ -20,7 +20,7 @@ static void make_tag(unsigned char *tag, int which, uint32_t threads) {
                  RIGZUMAL_OK);
 }
 
-/* A record with a generated salt, and the parts of texts: each thread gets its own. */
+/* Builds a record with a generated salt, and reads the parts of texts: each thread has its own. */
 static void try_texts(void) {
     char record[RIGZUMAL_TEXT_SIZE], said[32];
     struct rigzumal_parts parts;

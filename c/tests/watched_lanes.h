@@ -1,5 +1,5 @@
-/* The proved parts and the heap in src/lanes.c's place: stand-ins, which rest at random and look at
- * what they are given, when, how often and on which thread, as src/tag_parts.h has it. */
+/* Stand-ins for the proved parts and for the heap, below src/lanes.c. The stand-ins rest at random,
+ * and check their inputs, order, number and thread by the rules of src/tag_parts.h. */
 #pragma once
 
 #include "lanes.h"
@@ -26,14 +26,14 @@ enum {
     STAMPS = 2
 };
 
-/* The call that is under way. */
+/* The running call. */
 static struct watched {
     struct tag_numbers numbers;
     size_t segment, slice; /* in blocks */
     pthread_t caller;
     struct argon2_block *slices[SLICES];
     struct argon2_block *callers; /* the caller's memory, or null */
-    uint64_t signals;             /* what the caller's thread blocks */
+    uint64_t signals;             /* those that the caller's thread blocks */
     int begin_answer, end_answer, refused_slice;
     uint64_t bad_segment, last_segment;
     _Atomic(int) takes, gives, begins, ends, starts, joins, alive;
@@ -42,12 +42,12 @@ static struct watched {
 } now;
 
 static uint32_t refusals;   /* of four threads */
-static int processors = 16; /* that a thread may run on; of 0 the system says nothing */
+static int processors = 16; /* those that a thread may run on; 0: the system reports none */
 static long online = 5;
 static uint64_t all_signals; /* those that a program can block */
 
-/* The stand-ins' counts order nothing, so that the sanitizer of threads sees the order of
- * src/lanes.c alone. */
+/* The stand-ins' counts order no memory accesses, so that the sanitizer of threads sees only the
+ * order of src/lanes.c. */
 
 static int count(_Atomic(int) *counter) {
     return atomic_fetch_add_explicit(counter, 1, memory_order_relaxed);
@@ -74,7 +74,7 @@ static int is_caller(void) {
     return pthread_equal(pthread_self(), now.caller);
 }
 
-/* The signals that this thread blocks, a bit for each. */
+/* Returns the signals that this thread blocks, a bit for each. */
 static uint64_t blocked_signals(void) {
     sigset_t blocked;
     uint64_t bits;
@@ -100,9 +100,9 @@ static void stamp(struct argon2_block *blocks, size_t count, uint64_t stamp) {
         blocks[i].words[0] = blocks[i].words[127] = stamp;
 }
 
-/* The stamp in a slice that was worked last as number g of all, or never. */
+/* Returns the stamp of the last work on a slice: number g of all slices, or none. */
 static uint64_t stamp_of(int64_t g) {
-    return g >= 0 ? (uint64_t)g + STAMPS : g == -SLICES ? 1 : 0; /* the first was begun */
+    return g >= 0 ? (uint64_t)g + STAMPS : g == -SLICES ? 1 : 0; /* begin stamps the first slice */
 }
 
 void *heap_take_zeros(size_t size) {
@@ -120,7 +120,7 @@ uint64_t process_number(void) {
     return (uint64_t)getpid();
 }
 
-/* It is asked while nobody can fork any more before the wait. */
+/* lanes.c calls this once no handler can fork before the wait. */
 void process_end_child_of(uint64_t number) {
     CHECK(number == process_number());
     check_all_are_blocked();
@@ -134,7 +134,7 @@ void heap_give_zeros(void *start) {
     free(start);
 }
 
-/* A task's begin and end: its inputs are the call that is under way. */
+/* A task's begin and end: its inputs are the running call. */
 
 static uint8_t begin(const void *inputs, struct argon2_block *first, size_t blocks) {
     CHECK(inputs == &now && is_caller() && count(&now.begins) == 0 && now.starts == 0);
@@ -146,14 +146,14 @@ static uint8_t begin(const void *inputs, struct argon2_block *first, size_t bloc
     return (uint8_t)now.begin_answer;
 }
 
-/* The slices before number g have its own stamps, and its own blocks those of the pass before. */
+/* Each earlier slice has its stamp, and the segment's own blocks have that of the pass before. */
 static void check_stamps(int64_t g, const struct given_segment *it) {
     for (int i = 0; i < SLICES - 1; i++)
         CHECK(are_stamped(it->earlier[i].blocks, now.slice, stamp_of(g - SLICES + 1 + i)));
     CHECK(are_stamped(it->own, now.segment, stamp_of(g - SLICES)));
 }
 
-/* The caller's thread is as it was, but that it can't be cancelled. */
+/* The caller's thread is unchanged, except that it can't be cancelled. */
 static void look_at_thread(void) {
     if (!is_caller()) {
         leave_marks();
@@ -215,8 +215,7 @@ static uint8_t end(const void *inputs, const struct argon2_block *last, size_t b
     return (uint8_t)now.end_answer;
 }
 
-/* After a fault the other threads go on while the thread that signalled them rests: its later work
- * comes too late. */
+/* After a fault the thread that woke the others rests, so that its later work comes too late. */
 WRAP(int, pthread_mutex_unlock, pthread_mutex_t *lock) {
     int answer = __real_pthread_mutex_unlock(lock);
     if (seen(&now.has_fault))

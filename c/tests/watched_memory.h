@@ -1,5 +1,5 @@
-/* The requests of src/heap.c to the system and to the C library, which the linker has these
- * functions see first: freed memory is zero. */
+/* The requests of src/heap.c to the system and the C library: the linker calls these functions
+ * first. They check that freed memory is zero. */
 #pragma once
 
 #include "check.h"
@@ -12,9 +12,9 @@
 enum { PAGE = 4096, KIB = 1024, MIB = 1024 * KIB };
 enum { HUGE_PAGE = 2 * MIB, AREA = 16 * MIB, KEPT = 4 * AREA, MOST_PIECES = 256 };
 
-static size_t mapped;                 /* how many bytes are */
-static size_t most_mapped = SIZE_MAX; /* more is refused */
-static size_t moved;                  /* by mremap, of all calls */
+static size_t mapped;                 /* bytes */
+static size_t most_mapped = SIZE_MAX; /* beyond these, mmap fails */
+static size_t moved;                  /* bytes that all calls moved by mremap */
 
 /* The refused requests: blocks of the C library, the table of blocks, moves. */
 static bool is_refusing, is_refusing_tables, is_refusing_moves;
@@ -26,7 +26,7 @@ static struct advised {
     int times;
 } advised[128];
 
-/* Blocks of the C library that are held. */
+/* The allocated blocks of the C library. */
 static int held;
 static struct piece {
     void *start;
@@ -67,7 +67,7 @@ WRAP(void *, mmap, void *at, size_t size, int protection, int flags, int file, o
     if (mapped + size > most_mapped)
         return MAP_FAILED;
     mapped += size;
-    /* where no huge page begins: systems differ in that */
+    /* at a place where no huge page begins, since systems differ in this */
     unsigned char *start = __real_mmap(at, size + PAGE, protection, flags, file, offset);
     CHECK(start != MAP_FAILED);
     bool is_aligned = (uintptr_t)start % HUGE_PAGE == 0;
@@ -79,7 +79,7 @@ WRAP(void *, mremap, void *old, size_t size, size_t new_size, int flags, void *t
     CHECK(new_size == size && is_all(old, 0, PAGE));
     if (is_refusing_moves)
         return MAP_FAILED;
-    mapped -= size; /* they take the place of as many */
+    mapped -= size; /* the moved pages replace as many others */
     moved += size;
     return __real_mremap(old, size, new_size, flags, to);
 }
@@ -90,13 +90,13 @@ WRAP(int, madvise, void *start, size_t size, int advice) {
     return __real_madvise(start, size, advice);
 }
 
-/* Whether the system got this advice once, for all of a stretch. */
+/* Whether the system received this advice once, for a whole range. */
 static inline bool is_advised(int advice, const unsigned char *start, size_t size) {
     const struct advised *it = &advised[advice];
     return it->times == 1 && it->start <= start && start + size <= it->start + it->size;
 }
 
-/* A block that isn't refused. */
+/* Allocates a block, and fails if the heap refuses it. */
 static unsigned char *take_block(size_t size) {
     struct tried tried = rattle_alloc(size, 8);
     CHECK(tried.ok);

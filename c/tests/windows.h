@@ -1,4 +1,4 @@
-/* Windows: eight bytes that may be nowhere in the process but in a separate mapping. */
+/* Windows: eight bytes that may be in a separate mapping, and nowhere else in the process. */
 #pragma once
 
 #include "check.h"
@@ -23,7 +23,7 @@ static void add_windows(const void *start, size_t size) {
     }
 }
 
-/* Memory in a mapping of its own: it can be run, as no other can. */
+/* Returns memory in its own mapping, which is executable, unlike all others. */
 static void *map_apart(size_t size) {
     void *start = mmap(NULL, size, PROT_READ | PROT_WRITE, MAP_PRIVATE | MAP_ANONYMOUS, -1, 0);
     CHECK(start != MAP_FAILED);
@@ -40,7 +40,7 @@ static int is_window(const unsigned char *at) {
     return 0;
 }
 
-/* The first place from here on where a window may begin: most memory is zeros, and no window is. */
+/* Returns the next place where a window may begin: most memory is zeros, and no window is. */
 static uintptr_t after_zeros(uintptr_t at, uintptr_t end) {
     while (at % WINDOW == 0 && at + 2 * WINDOW <= end && ((const uint64_t *)at)[0] == 0 &&
            ((const uint64_t *)at)[1] == 0)
@@ -48,8 +48,8 @@ static uintptr_t after_zeros(uintptr_t at, uintptr_t end) {
     return at;
 }
 
-/* The number of windows in the writable memory of the process, but for `apart` and for the
- * first thread's stack, on which no call is looked at. */
+/* Returns the number of windows in the writable memory of the process, except in `apart` and on the
+ * first thread's stack, on which no tested call runs. */
 static int found_in_process(const char *name, const void *apart) {
     FILE *maps = fopen("/proc/self/maps", "r");
     CHECK(maps != NULL);

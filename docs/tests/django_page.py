@@ -1,5 +1,5 @@
-"""Tests to copy into a project with docs/DJANGO.md's settings: test_pages.py runs them in new
-ones."""
+"""Tests to copy into a project with docs/DJANGO.md's settings; test_pages.py runs them in new
+projects."""
 
 from django.contrib.auth import authenticate, get_user_model, hashers
 from django.test import TestCase

@@ -1,5 +1,5 @@
-"""The code of docs/DJANGO.md in a project with a model of users of its own: test_pages.py puts this
-file into it as people/tests.py, and the page's calls beside it."""
+"""The code of docs/DJANGO.md in a project with its own user model: test_pages.py writes this file
+into the project as people/tests.py, with the page's calls beside it."""
 
 import pathlib
 from types import SimpleNamespace
@@ -37,7 +37,7 @@ class SamplesTest(TestCase):
             self.assertTrue(theirs.__module__.startswith("rigzumal.django."), theirs)
 
     def test_a_guess_at_a_record_of_old_costs(self):
-        """A guess leaves a record of old costs; only the right password replaces it."""
+        """A guess leaves a record with old costs; only the right password replaces it."""
         old = hashers.make_password("first", hasher="pbkdf2_sha256")
         for login in (
             lambda password: authenticate(username="ann", password=password),
@@ -52,7 +52,7 @@ class SamplesTest(TestCase):
             self.assertStored("first")
 
     def test_own_costs(self):
-        """A record of ours is rehashed at the next login."""
+        """The next login rehashes a record of ours."""
         own = ["people.hashers.Argon2", "rigzumal.django.hashers.ScryptPasswordHasher"]
         with override_settings(PASSWORD_HASHERS=own):
             self.assertIsNotNone(authenticate(username="ann", password="first"))

@@ -3,7 +3,7 @@
 require __DIR__ . '/php_check.php';
 require $argv[1];
 
-/** Does something once before the next UPDATE, or after the next rows were read. */
+/** Runs a function once, before the next UPDATE or after the next read of rows. */
 class Between extends PDO
 {
     public ?Closure $before = null;
@@ -78,7 +78,7 @@ foreach ([2, 3, 4, 99] as $id) {
 check(change($db, 1, 'guess', 'new') === null && change($db, 1, 'secret', 'new') === [1, record($db)], 'a change');
 check(!login($db, 'ann', 'secret') && login($db, 'ann', 'new'), 'after it');
 
-// An older service's records of bcrypt move at a login; one that is locked stays out, and as it is.
+// An older service's records of bcrypt move at a login. A locked user can't log in, and keeps the record.
 $bcrypt = password_hash('secret', PASSWORD_BCRYPT, ['cost' => 4]);
 $locked = ['lok' => "!$bcrypt", 'star' => "*$bcrypt", 'cut' => substr($bcrypt, 0, -9), 'nologin' => 'nologin'];
 $insert = $db->prepare('INSERT OR REPLACE INTO users (name, record) VALUES (?, ?)');
@@ -98,7 +98,7 @@ check(read($db, 'bea')[1] === $bcrypt && login($db, 'bea', 'secret') === read($d
 check(password_get_info(read($db, 'bea')[1])['options'] == COSTS, 'its record moves');
 check(login($db, 'bea', 'secret') && !login($db, 'bea', 'guess'), 'and counts then');
 
-// A name without a record costs a hash: in processor time, the least of three.
+// A name without a record costs a hash: the test compares the least processor time of three runs.
 $spend = function (string $name) use ($db): float {
     for ($least = INF, $turn = 0; $turn < 3; $turn++) {
         $before = getrusage();

@@ -1,5 +1,5 @@
 <?php
-// The parts that the tests of docs/PHP.md share. Each runs over the library that is built here.
+// The shared parts of the tests of docs/PHP.md. Each test runs over the library that make built.
 
 function check(bool $right, string $what): void
 {
@@ -9,7 +9,7 @@ function check(bool $right, string $what): void
     }
 }
 
-/** Does what is due, if something is, and no second time. */
+/** Runs the waiting function, if there is one, and only once. */
 function once(?Closure &$due): void
 {
     [$act, $due] = [$due, null];

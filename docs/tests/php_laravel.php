@@ -39,7 +39,7 @@ class Seen extends User
     }
 }
 
-/** Does something once after the next check of a password, and counts hashes. */
+/** Runs a function once after the next check of a password, and counts hashes. */
 class Between extends Argon2IdHasher
 {
     public ?Closure $after = null;
@@ -71,7 +71,7 @@ class Between extends Argon2IdHasher
     }
 }
 
-/** Laravel's time box, which doesn't wait here, and says whether it is open. */
+/** Laravel's time box, which doesn't wait here, and shows whether it is open. */
 class Box extends Timebox
 {
     public static bool $open = false;
@@ -87,7 +87,7 @@ class Box extends Timebox
     }
 }
 
-/** The part of Laravel's auth that the middleware asks for: one guard. */
+/** The part of Laravel's auth that the middleware needs: one guard. */
 class OneGuard implements Factory
 {
     public function __construct(public SessionGuard $guard)
@@ -156,7 +156,7 @@ check(!$login('stolen') && $login('new'), 'a login is looked at again');
 
 $set('old');
 $user = User::first();
-$hasher->after = fn () => $set('old'); // the same password anew
+$hasher->after = fn () => $set('old'); // a new record of the same password
 check($provider->validateCredentials($user, ['password' => 'old']), 'at what stands');
 check($user->password === User::first()->password && !$user->isDirty(), 'the user has what stands');
 $user->remember_token = 'x';
@@ -187,7 +187,7 @@ $user = User::first();
 $set('another');
 check(!$provider->put($user, $user->getAuthPassword(), 'late') && $login('another'), 'a reset compares');
 
-$set('old', $hasher); // a session of the old password ends with it, also where it began amid the change
+$set('old', $hasher); // a session of the old password ends with it, even if it began during the change
 $session = new Store('s', $handler);
 $ask = function (SessionGuard $guard) use ($session): bool {
     $request = new Request();
@@ -213,7 +213,7 @@ $hasher->after = fn () => User::query()->where('name', 'ann')->delete();
 check(!$provider->validateCredentials($user, ['password' => 'stolen']), 'a user who is gone is refused');
 User::create(['name' => 'ann', 'password' => $cheap->make('stolen')]);
 
-$user = User::query()->where('name', 'ann')->first(); // as Laravel 11 does it: the same without the condition
+$user = User::query()->where('name', 'ann')->first(); // as Laravel 11 does: the same without the condition
 check($hasher->check('stolen', $user->password), 'right');
 $set('new');
 $user->forceFill(['password' => $hasher->make('stolen')])->save();

@@ -86,7 +86,7 @@ $hashers = new PasswordHasherFactory(
 );
 $upgrader = new CompareAndSetUpgrader($db);
 
-/** A login, as Symfony's authenticator manager has it done; the user as the session keeps her. */
+/** Logs in like Symfony's authenticator manager, and returns the user as the session keeps her. */
 $login = function (string $password, ?Closure $between = null) use ($hashers, $upgrader, $stands): ?User {
     $user = new User(1, $stands());
     $badges = [new PasswordUpgradeBadge($password, $upgrader)];

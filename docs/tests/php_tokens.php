@@ -1,6 +1,6 @@
 <?php
-// Runs the reset of a password in docs/PHP.md's plain code at costs that cost nothing, with hundreds
-// of tokens: php php_tokens.php CODE.
+// Runs the reset of a password in docs/PHP.md's plain code with the lowest costs and hundreds of
+// tokens: php php_tokens.php CODE.
 require __DIR__ . '/php_check.php';
 $cheap = "const COSTS = ['memory_cost' => 64, 'time_cost' => 1, 'threads' => 1];";
 $code = preg_replace('/^const COSTS = .*;$/m', $cheap, file_get_contents($argv[1]), -1, $count);
@@ -16,8 +16,8 @@ function record(PDO $db): string
     return $db->query("SELECT record FROM users WHERE name = 'ann'")->fetchColumn();
 }
 
-// Two hundred tokens of one record, whose hashes are therefore those of each run: a hundred of them
-// are read as a float with an exponent, such as 4000000001.9e12, where the whole token is a number.
+// Two hundred tokens of one record, so that each run has the same hashes. If PHP casts whole tokens
+// to numbers, a hundred of them become a float with an exponent, such as 4000000001.9e12.
 $record = '$argon2id$v=19$m=64,t=1,p=1$c29tZXNhbHQ$3j0+S6gGV20Zdm+eoztdkLUvOKbucBG7gA8asDqV4P8';
 $restore = $db->prepare('UPDATE users SET record = ? WHERE id = 1');
 $tokens = [true => [], false => []];

@@ -1,5 +1,5 @@
-"""A page's hook for htpasswd's records, of the file that is named: logins with hostile fields over
-a table in SQLite."""
+"""Runs a page's hook for htpasswd's records, from the file that the argument names: logins with
+hostile fields over a table in SQLite."""
 
 import pathlib
 import sqlite3
@@ -50,7 +50,7 @@ def main():
         assert stands(name) == record, name
     for what, name in NAMES.items():
         assert accounts.login(text_of(name), PASSWORD) is Reply.NO_ACCOUNT, what
-    # Where passlib refuses to hash, a hash of ours makes the answer need as long.
+    # If passlib refuses to hash, the accounts compute a hash, so that the answer takes as long.
     assert foreign(BCRYPT, b"secret\0") is None
     assert foreign(BCRYPT, b"a guess") is False
 

@@ -1,5 +1,5 @@
-"""A page's change within the transaction of an ORM's session, of the file that is named: on SQLite,
-where SQLAlchemy's own transactions begin by BEGIN IMMEDIATE as its pages show."""
+"""Runs a page's change within the transaction of an ORM's session, from the file that the argument
+names. On SQLite, SQLAlchemy's own transactions begin by BEGIN IMMEDIATE, as its pages show."""
 
 import pathlib
 import sys
@@ -20,7 +20,7 @@ class User(Base):
 
 
 class Audit(Base):
-    """One row for each address, so that a second change of one is refused."""
+    """One row for each address, so that the table refuses a second change of one address."""
 
     __tablename__ = "audit"
     email = sqlalchemy.Column(sqlalchemy.String, primary_key=True)

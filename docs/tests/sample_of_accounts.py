@@ -1,4 +1,4 @@
-"""A page's login over a table in PostgreSQL, of the file that is named."""
+"""Runs a page's login over a table in PostgreSQL, from the file that the argument names."""
 
 import pathlib
 import sys

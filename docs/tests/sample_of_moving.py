@@ -1,5 +1,5 @@
-"""The samples of docs/MIGRATING.md with bcrypt in a table, an LDIF and their hooks, with users who
-must stay out and with hostile fields: sample_of_moving.py PAGE."""
+"""Runs the samples of docs/MIGRATING.md for bcrypt in a table and for an LDIF, with their hooks,
+with users who must not log in and with hostile fields: sample_of_moving.py PAGE."""
 
 import base64
 import pathlib
@@ -20,14 +20,14 @@ from tests.hostile_fields import NAMES, PASSWORD, PASSWORDS, text_of
 LOW = rigzumal.PasswordHasher(time_cost=1, memory_cost=64, parallelism=1)
 rigzumal.PasswordHasher = lambda: LOW
 BCRYPT = bcrypt.hashpw(PASSWORD, bcrypt.gensalt(4)).decode()
-LONG = PASSWORD.ljust(100, b"x")  # of which bcrypt takes 72 bytes
+LONG = PASSWORD.ljust(100, b"x")  # of which bcrypt reads 72 bytes
 SSHA = ldap_context.hash(PASSWORD, scheme="ldap_salted_sha1")
 CRYPT = ldap_context.hash(PASSWORD, scheme="ldap_sha512_crypt", rounds=1000)
-# Records at which every password is wrong, the record's own text too.
+# Records for which every password is wrong, also the record's own text.
 SHUT = {"star": "*", "mark": "!", "locked": f"!{BCRYPT}", "nothing": "", "plain": "secret"}
 SHUT |= {"none": None, "cut": BCRYPT[:-9], "shut": f"{{CRYPT}}!{CRYPT[7:]}", "nol": "nologin"}
 
-# Attributes of an entry: those who move, and those who don't.
+# The attributes of users who move, and of those who don't.
 OPEN = {
     "ann": f"userPassword: {SSHA}",
     "ben": f"userPassword:: {base64.b64encode(CRYPT.encode()).decode()}",
@@ -89,7 +89,7 @@ def check_logins(accounts: Accounts, names: list[str], shut: list[str]) -> None:
 
 
 def strict(call: Callable[[bytes, bytes], Any]) -> Callable[[bytes, bytes], Any]:
-    """A call of bcrypt, in the form of bcrypt 5."""
+    """Makes a call of bcrypt as strict as in bcrypt 5."""
 
     def called(password: bytes, other: bytes) -> Any:
         if len(password) > 72:
@@ -100,7 +100,7 @@ def strict(call: Callable[[bytes, bytes], Any]) -> Callable[[bytes, bytes], Any]
 
 
 def check_table(page: str) -> None:
-    """bcrypt in a service's own table, with a user who is no longer active."""
+    """Tests bcrypt in a service's own table, with a user who is no longer active."""
     for name, code in files(part(page, "bcrypt in a table of your own")).items():
         pathlib.Path(name).write_text(code)
     import shop
@@ -114,7 +114,7 @@ def check_table(page: str) -> None:
         assert not shop.log_in(name, PASSWORD), name
     assert [shop.log_in("ann", it) for it in ("a guess", PASSWORD)] == [False, True]
     check_logins(shop.accounts, ["ann"], [*SHUT])
-    # A long password moves as it was typed.
+    # A long password moves unchanged, with all of its bytes.
     long = bcrypt.hashpw(LONG[:72], bcrypt.gensalt(4)).decode()
     with shop.connect() as conn:
         conn.execute("INSERT INTO users VALUES ('lea', ?, 1)", [long])
@@ -127,7 +127,7 @@ def check_table(page: str) -> None:
 
 
 def check_ldif(page: str) -> None:
-    """An LDIF, by the page's Perl, and its hook."""
+    """Tests an LDIF with the page's Perl, and its hook."""
     text = part(page, "LDAP")
     code = files(text)["from_ldap.py"].partition("\nfor name in")[0]
     (perl,) = re.findall(r"^perl .*?> records$", text, re.S | re.M)
@@ -135,7 +135,7 @@ def check_ldif(page: str) -> None:
     for name in CODED:
         coded = base64.b64encode(name.encode()).decode()
         entries.append(f"dn: cn=x\nuid:: {coded}\nuserPassword: {SSHA}")
-    # A line is folded behind 76 letters.
+    # Each line is folded after 76 letters.
     folded = [re.sub("(?m)^(.{76})(?=.)", r"\1\n ", it) for it in entries]
     pathlib.Path("people.ldif").write_text("\n\n".join(folded) + "\n")
     subprocess.run(["bash", "-c", perl], check=True)

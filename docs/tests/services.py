@@ -1,5 +1,5 @@
 """The programs that test_pages.py runs around the services of python/README.md: a table in which
-Ada has a password, and then logins by this password, by another one, and by unknown names."""
+Ada has a password, and then logins with this password, with another one, and with unknown names."""
 
 BEFORE = """
 import sqlite3

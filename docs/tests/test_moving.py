@@ -1,4 +1,4 @@
-"""The hooks and lines of docs/MIGRATING.md, with users who must stay out and hostile fields.
+"""The hooks and lines of docs/MIGRATING.md, with users who must not log in and with hostile fields.
 test_pages.py tests the output of its commands."""
 
 import contextlib
@@ -16,7 +16,7 @@ from tests.helpers import PYTHON, TOP, Case, ended, need, need_module, run  # no
 from tests.hostile_fields import NAMES  # noqa: E402
 
 PAGE = TOP / "docs/MIGRATING.md"
-# Django's table in a database whose names differ in no case; and a project without a manage.py.
+# Django's table in a database that ignores the case of names, and a project without a manage.py.
 FOLDED = """CREATE TABLE auth_user (id INTEGER PRIMARY KEY, password TEXT,
 last_login TEXT, is_superuser BOOL, username TEXT COLLATE NOCASE UNIQUE, first_name TEXT,
 last_name TEXT, email TEXT, is_staff BOOL, is_active BOOL, date_joined TEXT)"""
@@ -54,7 +54,7 @@ class MovingTest(Case):
         self.run_sample("sample_of_moving.py", PAGE)
 
     def lines_of(self, title, command, lines):
-        """The output of a command on the page, up to its file of records, for a file's lines."""
+        """Runs a command of the page over a file with these lines, and returns its records."""
         part = PAGE.read_text().split(f"\n## {title}\n", 1)[1].split("\n## ", 1)[0]
         (found,) = re.findall(rf"^{command}.*> records$", part, re.M)
         room = self.room()
@@ -84,7 +84,7 @@ class MovingTest(Case):
         self.assertEqual(found, ["ann $apr1$x$y", "ben $2y$05$z", "c d {SHA}x="])
 
     def test_names_in_a_table_of_django(self):
-        """A name is no line of another user's, whatever a service let people sign up with."""
+        """No name becomes a line for another user, whatever names a service accepted."""
         need("sqlite3")
         (query,) = re.findall(r"^    (sqlite3 -separator .*) \| credkeep", PAGE.read_text(), re.M)
         room = self.room()

@@ -1,5 +1,5 @@
-"""The code on the pages: each piece of C, Python, Rust, PHP and shell that a page shows is
-compiled or run.
+"""The code on the pages: the tests compile or run each piece of C, Python, Rust and PHP that a page
+shows, and its shell commands for a move.
 
     /usr/bin/python3 docs/tests/test_pages.py [-k NAME ..]
 
@@ -55,17 +55,17 @@ TESTED = {
 
 
 def samples(page):
-    """The pieces of code on a page with their languages, except those from a file."""
+    """Returns the pieces of code on a page with their languages, except those from a file."""
     return BLOCK.findall(FROM_FILE.sub("", (TOP / page).read_text()))
 
 
 def sample_for(page, test):
-    """The code on a page that names its test."""
+    """Returns the pieces of code on a page that belong to a test."""
     return [code for (_, code), (_, named) in zip(samples(page), TESTED[page]) if named == test]
 
 
-# Of docs/DJANGO.md's pieces: what hashers, a model and URLs import, and settings of a project with
-# a model of its own, as where argon2-cffi isn't installed.
+# For the pieces of docs/DJANGO.md: the imports of hashers, a model and URLs, and the settings of a
+# project with its own model, on a machine without argon2-cffi.
 HASHER_IMPORTS = """from django.contrib.auth.hashers import MD5PasswordHasher
 from people.models import User
 from rigzumal.django.hashers import Argon2PasswordHasher
@@ -89,14 +89,14 @@ AUTH_USER_MODEL = "people.User"
 del RIGZUMAL_USER_COMPARES
 """
 
-# Costs of a record, and the typed password: the four cases of a sample that logs in.
+# The costs of a record, and the typed password: the four cases of a sample that logs in.
 OLD_COSTS, RIGHT, GUESS = "$argon2id$v=19$m=64,t=1,p=1", "correct horse", "a guess"
 # printf 'correct horse' | argon2 somesalt -id -t 1 -k 64 -p 1 -l 32 -e
 OLD_RECORD = f"{OLD_COSTS}$c29tZXNhbHQ$3j0+S6gGV20Zdm+eoztdkLUvOKbucBG7gA8asDqV4P8"
 LOGINS = [(is_old, typed) for is_old in (False, True) for typed in (RIGHT, GUESS)]
 
-# A program around a sample of C, with code in place of its dots. The program prints what the sample
-# does; its words are the record's costs and the typed password.
+# A program around a sample of C, with code instead of its dots. The program prints the sample's
+# actions; its arguments are the record's costs and the typed password.
 PROGRAM = """#include "rigzumal.h"
 #include <stdio.h>
 #include <string.h>
@@ -162,7 +162,7 @@ assert hasher.check_needs_rehash(record) is {is_old}
                     self.assertEqual(run(sys.executable, "-c", text, env=OVER_PACKAGE), said)
 
     def check_logins(self, code, program):
-        """A page's service, over a table in which Ada has a password, by a program that asks it."""
+        """Runs a page's service, over a table in which Ada has a password, with a program."""
         text = f"{services.BEFORE}{code}{program}"
         run(sys.executable, "-c", text, env=OVER_PACKAGE, at=self.folder)
 
@@ -179,7 +179,8 @@ assert hasher.check_needs_rehash(record) is {is_old}
         self.check_logins(code, services.FLASK)
 
     def check_c(self, code, rehashes):
-        """A sample of C accepts only the right password, and then rehashes only old records."""
+        """Tests that a sample of C accepts only the right password, and rehashes only old
+        records."""
         self.assertEqual(code.count("RIGZUMAL_ARGON2_COSTS"), 1 + rehashes)
         code = code.replace("RIGZUMAL_ARGON2_COSTS", "costs", 1)
         source, program = self.folder / "sample.c", self.folder / "sample"
@@ -209,7 +210,7 @@ assert hasher.check_needs_rehash(record) is {is_old}
         self.check_c(code.replace("...", TYPED), rehashes=True)
 
     def built_rust(self, name, code):
-        """A program over the crate, as one of its examples."""
+        """Builds a program over the crate, as one of its examples."""
         need("cargo")
         crate = self.folder / "crate"
         shutil.copytree(TOP / "rust", crate, ignore=shutil.ignore_patterns("target"))
@@ -249,7 +250,7 @@ assert hasher.check_needs_rehash(record) is {is_old}
                     self.assertEqual(len(said), is_old)
 
     def check_accounts(self, code):
-        """A login over a table in PostgreSQL."""
+        """Tests a login over a table in PostgreSQL."""
         need_module("psycopg")
         page = self.folder / "accounts.py"
         page.write_text(code)
@@ -276,8 +277,8 @@ assert hasher.check_needs_rehash(record) is {is_old}
         run(sys.executable, program, page, env=OVER_PACKAGE, at=self.folder)
 
     def check_django(self, settings, warned="no issues (0 silenced)"):
-        """Runs `check` and the tests of a project with these settings behind its own: only the
-        named messages may appear."""
+        """Runs `check` and the tests of a project with these settings after its own: only the named
+        messages may appear."""
         with open(self.folder / "service/settings.py", "a") as file:
             file.write(settings)
         env = {**OVER_PACKAGE, "DJANGO_SETTINGS_MODULE": "service.settings"}
@@ -289,14 +290,14 @@ assert hasher.check_needs_rehash(record) is {is_old}
         self.assertRegex(manage("test"), r"Ran [1-9]\d* tests? in")
 
     def begin_django(self):
-        """Begins a project, and returns the pieces of docs/DJANGO.md."""
+        """Creates a project, and returns the pieces of docs/DJANGO.md."""
         need_module("django")
         need("django-admin")
         run("django-admin", "startproject", "service", ".", at=self.folder, env=OVER_PACKAGE)
         return [code for _, code in samples("docs/DJANGO.md")]
 
     def test_samples_of_django(self):
-        """docs/DJANGO.md's model, URLs, views and hashers, where the model compares by itself."""
+        """docs/DJANGO.md's model, URLs, views and hashers, with a model that compares by itself."""
         settings, model, urls, views, costs, _, wrap, changed = self.begin_django()
         route, registered = urls.strip().split("\n")
         urls = f"{URL_IMPORTS}urlpatterns = [\n{route}\n]\n{registered}\n"

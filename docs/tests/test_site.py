@@ -38,7 +38,7 @@ class Site(Case):
         return (self.site / name).read_text()
 
     def test_site(self):
-        """All checks look at one build, since it takes long."""
+        """All checks use one build, which takes long."""
         self.check_pages()
         self.check_references()
         self.check_search()

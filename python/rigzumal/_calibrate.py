@@ -41,7 +41,7 @@ def is_safe(hasher: PasswordHasher) -> bool:
 def trials(
     target: float, memory: int, lanes: int, threads: int = 1, below: bool = False
 ) -> Iterator[Measured]:
-    """Yields the costs to try, in order; the last ones are the result.
+    """Measures and yields costs; the last ones are the result.
 
     As RFC 9106, section 4, advises, the trials use all of the memory (KiB), and then as many passes
     as the target (milliseconds) allows. If a single pass takes too long, the trials use less

@@ -73,7 +73,7 @@ class Words(argparse.ArgumentParser):
         args: Optional[Sequence[str]] = None,
         namespace: Optional[argparse.Namespace] = None,
     ) -> argparse.Namespace:
-        """Parses like ArgumentParser, but never shows a refused word, which may be a password."""
+        """Parses like ArgumentParser, but doesn't show an unknown word, which may be a password."""
         given, others = self.parse_known_args(args, namespace)
         if others:
             options = [*_options_of(self, getattr(given, "command", ""))]
@@ -124,7 +124,7 @@ def ended(command: Callable[[], int]) -> int:
     stream."""
     try:
         with warnings.catch_warnings():
-            warnings.simplefilter("ignore", LowMemoryWarning)  # `memory` has a line of its own
+            warnings.simplefilter("ignore", LowMemoryWarning)  # `memory` prints its own line
             return command()
     except Refusal as refusal:
         say(str(refusal))
@@ -185,7 +185,8 @@ def hasher_of(given: argparse.Namespace) -> Union[PasswordHasher, ScryptHasher]:
 def read_password(prompt: str = "Password", *, is_new: bool = False) -> bytes:
     """Reads the password: all of standard input, or the user's typing, twice for a new password.
 
-    Raises Refusal if the two differ, if the user types nothing, or if reading fails.
+    Raises Refusal if the two differ, if the typing ends without a line, or if standard input is
+    closed.
     """
     if sys.stdin is None:
         raise Refusal("standard input is closed", Status.STREAM)
@@ -201,7 +202,7 @@ def read_password(prompt: str = "Password", *, is_new: bool = False) -> bytes:
 
 
 def is_empty(password: bytes) -> bool:
-    """Whether a password is only a line end, as from an unset variable."""
+    """Whether a password is empty or has only line ends, as from an unset variable."""
     return not password.strip(b"\r\n")
 
 

@@ -24,7 +24,7 @@ Bytes: TypeAlias = "Union[bytes, bytearray, memoryview]"
 _SCRYPT: Final = 3
 _MOST: Final = 2**32 - 1
 _MOST_MEMORY: Final = 2 * 1024 * 1024  # KiB
-LOW_MEMORY: Final = 8192  # KiB; a caller who passes less more often means MiB
+LOW_MEMORY: Final = 8192  # KiB; a caller who passes less probably means MiB
 _has_warned = False
 
 # The faults in rigzumal.h for a number out of its range.
@@ -99,10 +99,11 @@ class _Hasher(Frozen):
             salt: 8 to 48 bytes (for scrypt 1 to 48); by default getrandom(2) generates one.
 
         Raises:
-            InvalidNumbersError: the salt is too short or too long.
+            InvalidNumbersError: the salt or the password has a wrong size.
             OutOfMemoryError: the free memory was too small.
             NoRandomError: the system returned no random bytes.
             TypeError: the password is neither bytes nor str, or the salt isn't bytes.
+            ValueError: UTF-8 can't encode the password.
         """
         chosen: Union[bytes, int] = self.salt_len
         if salt is not None:
@@ -119,6 +120,7 @@ class _Hasher(Frozen):
             VerifyMismatchError: the record belongs to another password.
             InvalidRecordError: the text isn't a record; the exception names its first fault.
             OutOfMemoryError: the free memory was too small.
+            TypeError, ValueError: as in `hash`.
         """
         self._verified(hash, password)
         return True
@@ -126,8 +128,7 @@ class _Hasher(Frozen):
     def _verified(self, hash: Secret, password: Secret) -> int:
         """Returns the index of the secret with which the record was hashed."""
         for place, secret in enumerate(self._secrets()):
-            # A hasher without a secret verifies records of scrypt too; a hasher with a secret
-            # doesn't.
+            # An empty secret means none. With a secret, the library refuses a record of scrypt.
             fault = _library.check(hash, password, secret or None, self.threads)
             if fault not in (_library.MISMATCH, _library.SCHEME):
                 break
@@ -148,7 +149,7 @@ class _Hasher(Frozen):
         return self.hash(password) if is_old else None
 
     def check_needs_rehash(self, hash: Secret) -> bool:
-        """Whether the record has another scheme, other costs or other sizes than a new one.
+        """Whether the record has another scheme, version, cost or size than a new one.
 
         The record doesn't show its secret: only `verify_and_rehash` can determine which secret the
         record needs. Raises InvalidRecordError for a text that isn't a record.
@@ -160,7 +161,7 @@ class _Hasher(Frozen):
 
 
 def _is_record(password: Secret) -> bool:
-    """Whether a password is a record: other libraries take these two arguments in the other
+    """Whether a password is a record: other libraries have these two arguments in the other
     order."""
     return isinstance(password, (str, bytes)) and _library.is_record(password)
 
@@ -180,19 +181,20 @@ class PasswordHasher(_Hasher):
             be empty, so that an unset variable causes an error. No repr shows the secret.
         threads: the number of threads that may compute the lanes of one record, including the
             caller's; records don't show this number. Use 1 in a service, where other logins use the
-            other processors. Use `parallelism` in a program that hashes one password at a time. On
-            four idle processors, 64 MiB and four lanes then take a third of the time. The library
-            starts at most one thread for each processor, and none below 4 MiB.
+            other processors. In a program that hashes one password at a time, pass the number of
+            lanes. On four idle processors, a hash with 64 MiB and four lanes then takes a third of
+            the time. The library starts at most one thread for each processor, and none below
+            4 MiB.
         secrets: the new pepper and older ones, instead of `secret`, to rotate peppers. A new
-            record uses the first, which is then `secret`. `verify` tries all of them, so a wrong
-            password costs a hash for each. `verify_and_rehash` replaces records with older peppers.
-            b"" among the older ones stands for records without a pepper.
+            record uses the first, which is then `secret`. `verify` tries one after another, so a
+            wrong password costs a hash for each. `verify_and_rehash` replaces records with older
+            peppers. b"" among the older ones means records without a pepper, also of scrypt.
 
     Raises:
         InvalidNumbersError: a number is out of range.
         TypeError: a number isn't an int, or a secret isn't bytes.
-        ValueError: no such kind exists, the caller passes both secret and secrets, or a new record
-            would have an empty secret.
+        ValueError: the kind doesn't exist, `secret` isn't the first of `secrets`, or `secrets` or
+            the pepper of new records is empty.
 
     The constructor warns of a memory_cost below 8192 (8 MiB) with LowMemoryWarning, once in each
     process.
@@ -263,7 +265,7 @@ class ScryptHasher(_Hasher):
     """Hashes passwords into records by scrypt (RFC 7914), and verifies them.
 
     Attributes:
-        log2_n: the cost N as a power of two, 1 to 23, below 16 * r.
+        log2_n: the exponent of the cost N, a power of two: 1 to 23, below 16 * r.
         block_size: r, 1 to 255. The table has 128 * r * N bytes, at most 2 GiB.
         parallelism: p, 1 to 255; the caller's thread does all of the work.
         hash_len: the size of the key in bytes, 4 to 64.
@@ -289,7 +291,7 @@ class ScryptHasher(_Hasher):
         salt_len: int = 16,
     ) -> None:
         in_range("block_size", block_size, 1, 255, _BLOCK_SIZE)
-        # 2 GiB are 2^24 of 128 bytes.
+        # 2 GiB are 2^24 times 128 bytes.
         of_table = (2**24 // block_size).bit_length() - 1
         most = min(16 * block_size - 1, of_table)
         self._set(
@@ -325,8 +327,9 @@ def argon2(
 
     Raises:
         InvalidNumbersError: a number is out of range.
+        OverflowError: a number is negative, or 2^32 or more.
         OutOfMemoryError: the free memory was too small.
-        TypeError: an input isn't bytes, or a number isn't an int.
+        TypeError: an input has a wrong type, or a number isn't an int.
     """
     whole_number("type", type)
     numbers = (type, version, memory_cost, time_cost, parallelism)
@@ -346,8 +349,9 @@ def scrypt(
 
     Raises:
         InvalidNumbersError: a number is out of range.
+        OverflowError: a number is negative, or 2^32 or more.
         OutOfMemoryError: the free memory was too small.
-        TypeError: an input isn't bytes, or a number isn't an int.
+        TypeError: an input has a wrong type, or a number isn't an int.
     """
     costs = _library.ScryptNumbers(*map(checked, (log2_n, r, p)))
     data = (*pair(_library.bytes_of(password)), *pair(_library.data_of(salt)))

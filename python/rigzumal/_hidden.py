@@ -1,8 +1,8 @@
 """Keeps passwords out of error reports.
 
 Sentry, cgitb, rich and Django's debug page show the variables of each frame that an exception has
-passed, except those with certain names. Each public call that receives a password or a pepper
-therefore clears these frames before an exception leaves it.
+passed, except those with certain names. Public calls of the hashers, accounts and Django modules
+that receive a password or a pepper therefore clear these frames before an exception leaves them.
 """
 
 from __future__ import annotations
@@ -76,6 +76,6 @@ def _empty(
             if is_hidden(trace.tb_frame):
                 try:
                     trace.tb_frame.clear()
-                except RuntimeError:  # it runs: `hidden` empties its own
+                except RuntimeError:  # the frame of `hidden` still runs, and has no password
                     pass
             trace = trace.tb_next

@@ -14,7 +14,7 @@ if TYPE_CHECKING:
     from typing_extensions import TypeAlias
 
 Secret: TypeAlias = "Union[bytes, str]"
-"""A password, for example: bytes, or text, which stands for its bytes in UTF-8."""
+"""A password, for example: bytes, or text, which the package encodes in UTF-8."""
 
 TEXT_SIZE: Final = 513
 OK: Final = 0
@@ -57,7 +57,7 @@ class InvalidRecordError(RigzumalError, ValueError):
 
 
 class InvalidNumbersError(RigzumalError, ValueError):
-    """A cost, a kind, a version or a size is out of range."""
+    """A number is out of range, such as a cost or a size."""
 
 
 class NoRandomError(RigzumalError):
@@ -181,8 +181,8 @@ NAME: Final = "librigzumal.so.1"
 def _path() -> str:
     """Returns the library's path: the file that RIGZUMAL_LIBRARY names.
 
-    If the variable is unset, the path is that of the first library found: in the package, in make's
-    output, in the folder lib of the package's prefix, or in the system.
+    If the variable is unset or empty, the path is that of the first library found: in the package,
+    in make's output, in the folder lib of the package's prefix, or in the system.
     """
     named = os.environ.get("RIGZUMAL_LIBRARY")
     if named:
@@ -238,7 +238,8 @@ def trim() -> int:
     size in bytes.
 
     The library keeps the memory of simultaneous hashes, up to the bound of `keep`. A system that is
-    short of memory reclaims it without this call. Use this call in a program that seldom hashes.
+    short of memory reclaims the kept memory without this call. Use `trim` in a program that seldom
+    hashes.
     """
     return int(_library.rigzumal_trim())
 
@@ -246,8 +247,9 @@ def trim() -> int:
 def keep(most: int) -> int:
     """Sets the bound on the kept memory, in bytes, and returns the previous bound.
 
-    The default is 64 MiB, or the value of the environment variable RIGZUMAL_KEEP. With 0 the
-    library keeps no memory.
+    The library rounds the bound down to a multiple of 2 MiB, and releases the kept memory. The
+    default is 64 MiB, or the value of the environment variable RIGZUMAL_KEEP. With 0 the library
+    keeps no memory.
     """
     whole_number("most", most)
     if not 0 <= most < 2**63:

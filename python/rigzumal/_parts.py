@@ -34,7 +34,7 @@ class Parts(Frozen):
 
     @property
     def costs(self) -> tuple[str, int, int, int, int]:
-        """The scheme, version and numbers, which determine whether a rehash is needed."""
+        """The scheme, the version and the three numbers."""
         return self.scheme, self.version, self.memory, self.passes, self.lanes
 
 

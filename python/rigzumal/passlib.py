@@ -5,10 +5,10 @@
 >>> from passlib.context import CryptContext
 >>> context = CryptContext(["argon2", "scrypt"], argon2__memory_cost=65536)
 
-The settings, the strings and the errors are those of passlib: each handler reads the strings of
-passlib's handler with the same name, and passlib's handler reads ours. `max_threads` is the number
-of threads that may compute the lanes of an Argon2 record. By default it is the number of lanes, as
-in passlib; set `argon2__max_threads=1` in a service with many simultaneous logins.
+The settings and the strings are those of passlib: each handler reads the strings of passlib's
+handler with the same name, and passlib's handler reads ours. `max_threads` is the number of threads
+that may compute the lanes of an Argon2 record: by default one for each lane, as in passlib. In a
+service with many simultaneous logins, set `argon2__max_threads=1`.
 """
 
 # mypy: allow-subclassing-any

@@ -40,7 +40,7 @@ errors! {
     Shape = 1,
     /// A text's scheme is none of argon2d, argon2i, argon2id and scrypt.
     Scheme = 2,
-    /// Unsupported version: settings need 19, records 19 or 16.
+    /// Unsupported version: settings need 19, records 19, 16 or none.
     Version = 3,
     /// The costs are not in the form of the scheme.
     Params = 4,

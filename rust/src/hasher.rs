@@ -126,7 +126,7 @@ impl Hasher {
     }
 
     /// Returns the hasher with up to this many threads for the lanes of each record. Threads make
-    /// one login faster on an idle machine; a service does more logins a second without them.
+    /// one login faster on an idle machine, but not many logins at once.
     #[must_use]
     pub fn threads(self, threads: u32) -> Hasher {
         Hasher { threads, ..self }
@@ -164,8 +164,8 @@ impl Hasher {
     /// Returns a new record of the password with this salt, which must be fresh.
     ///
     /// # Errors
-    /// Those of [`hash_password`](Hasher::hash_password) except the last; [`Error::Salt`] for the
-    /// salt's size, and [`Error::Shape`] for an empty salt.
+    /// Those of [`hash_password`](Hasher::hash_password) except the last; [`Error::Salt`] or
+    /// [`Error::TooLong`] for the salt's size, and [`Error::Shape`] for an empty salt.
     pub fn hash_password_with_salt(&self, password: &[u8], salt: &[u8]) -> Result<Record, Error> {
         ffi::record(self, &self.costs.text(), password, Some(salt)).map(Record::of_library)
     }
@@ -173,13 +173,13 @@ impl Hasher {
     /// Checks whether the record is one of the password, whatever its costs.
     ///
     /// # Errors
-    /// [`Error::Mismatch`] for a record of another password; [`Error::InputSize`];
-    /// [`Error::Memory`].
+    /// [`Error::Mismatch`] for a record of another password; [`Error::Scheme`] for a record of
+    /// scrypt if the hasher has a secret; [`Error::InputSize`]; [`Error::Memory`].
     pub fn verify_password(&self, password: &[u8], record: &Record) -> Result<(), Error> {
         ffi::check(record.as_c_str(), password, self.secret_bytes(), self.threads)
     }
 
-    /// Whether the record has another scheme, other costs or other sizes than a new one.
+    /// Whether the record has another scheme, version, cost or size than a new one.
     #[must_use]
     pub fn needs_rehash(&self, record: &Record) -> bool {
         let costs = self.costs.text();

@@ -105,8 +105,8 @@ pub fn trim() -> usize {
     ffi::trim()
 }
 
-/// Bounds the bytes that the library keeps from now on, 0 for none, and returns the old bound. The
-/// first bound is 64 MiB, or `RIGZUMAL_KEEP` in the environment.
+/// Bounds the bytes that the library keeps from now on, rounded down to a multiple of 2 MiB, and
+/// returns the old bound. The first bound is 64 MiB, or `RIGZUMAL_KEEP` in the environment.
 #[allow(clippy::must_use_candidate)] // it is called for what it does
 pub fn keep(most: usize) -> usize {
     ffi::keep(most)

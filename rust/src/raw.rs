@@ -125,8 +125,7 @@ impl Scrypt {
     /// Fills `out`, of 1 byte or more, with the key.
     ///
     /// # Errors
-    /// [`Error::ScryptCost`] to [`Error::KeySize`] for the numbers and sizes;
-    /// [`Error::InputSize`]; [`Error::Memory`].
+    /// [`Error::ScryptCost`] to [`Error::KeySize`] for the numbers and sizes; [`Error::Memory`].
     pub fn hash_password_into(
         self,
         password: &[u8],

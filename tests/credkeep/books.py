@@ -1,4 +1,4 @@
-"""A kept book in a room of its own: the program on its file, as a command and as a service."""
+"""A book in its own folder: runs credkeep on its file, as a command and as a service."""
 
 import base64
 import contextlib

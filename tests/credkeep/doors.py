@@ -1,6 +1,6 @@
-"""The doors to a book: commands as words, and the lines of a service.
+"""The doors to a book: the commands of credkeep, and the lines of a service.
 
-Each door puts an operation, a line of tests/operations.py, in its own form.
+Each door converts an operation, a line of tests/operations.py, to its own form.
 """
 
 import base64

@@ -1,5 +1,5 @@
-"""64 clients at once: the answers of a service of tagged lines are those of one history, and a
-change that was answered before a kill is kept."""
+"""64 clients at once: the answers of a service of tagged lines are those of one history, and the
+book keeps each change that the service answered before a kill."""
 
 import random
 import signal

@@ -1,4 +1,4 @@
-"""The file: its format, its mode, its locks and its damages."""
+"""The file: its format, its mode, its locks, and damaged files."""
 
 import contextlib
 import os

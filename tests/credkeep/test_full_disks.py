@@ -1,5 +1,5 @@
-"""Full disks, and files that can't grow: answered changes are kept, and a message names the failed
-one."""
+"""Full disks, and files that can't grow: the book keeps answered changes, and a message names the
+failed one."""
 
 from tests.credkeep.books import RECORD, SERVE, Accounts, Book, BookTest, lined
 from tests.helpers import Ended, need_root, small_disk, small_files

@@ -1,5 +1,5 @@
-"""Services killed at random moments: answered changes are kept. test_refused_calls.py has commands,
-and test_clients.py many clients."""
+"""Kills of services at random moments: the book keeps answered changes. test_refused_calls.py kills
+commands, and test_clients.py has many clients."""
 
 import signal
 import time

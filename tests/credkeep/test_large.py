@@ -1,5 +1,5 @@
-"""A book of RIGZUMAL_ACCOUNTS accounts, skipped without that variable: with 100000, some ten
-minutes."""
+"""A book of RIGZUMAL_ACCOUNTS accounts. Without this variable the tests skip themselves; with
+100000 accounts they take some ten minutes."""
 
 import contextlib
 import os

@@ -1,4 +1,4 @@
-"""The log beside a file: its changes, its damages, and the file that it belongs to."""
+"""The log beside a file: its changes, its damage, and the file to which it belongs."""
 
 import json
 import random

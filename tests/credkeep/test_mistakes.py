@@ -1,4 +1,4 @@
-"""Common mistakes at a shell, and the words that each message must have: the message alone shows
+"""Common mistakes at a shell, and the words that each message must contain: the message alone tells
 its reader what to type."""
 
 import os

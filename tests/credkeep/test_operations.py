@@ -1,4 +1,4 @@
-"""Each operation on an account, with each answer that it has: at every door the same."""
+"""Each operation on an account, with each of its answers, which are the same at each door."""
 
 from tests.credkeep.books import RECORD, SALT, TAG, BookTest, fails
 from tests.credkeep.doors import DOORS, Tagged, perform

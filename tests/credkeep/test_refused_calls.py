@@ -1,5 +1,5 @@
-"""Calls of the system, each refused or killed in turn by strace: the book is the one before or the
-one after."""
+"""strace refuses each system call in turn, or kills the program at it: the book is the one before
+or the one after."""
 
 import functools
 import tempfile

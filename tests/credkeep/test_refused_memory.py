@@ -1,5 +1,5 @@
-"""Each request for memory of a run is refused in turn: the run ends with a status of its own, and
-its answered changes are kept."""
+"""A shim refuses each request for memory of a run in turn: the run ends with its own status, and
+the book keeps answered changes."""
 
 import re
 from collections.abc import Callable

@@ -1,5 +1,4 @@
-"""A service: the time for which it answers, the causes of its end, and its answers without
-memory."""
+"""A service: how long it answers, why it ends, and its answers without memory."""
 
 import resource
 import time

@@ -1,4 +1,4 @@
-"""A service behind a socket, which another program listens at: docs/SERVING.md shows both."""
+"""A service behind a socket at which another program listens: docs/SERVING.md shows both."""
 
 import contextlib
 import os

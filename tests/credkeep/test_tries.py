@@ -1,5 +1,4 @@
-"""A service that limits failed tries, from the line to its answer: the part that no clause
-covers."""
+"""A service that limits failed tries, from the line to its answer, which no clause covers."""
 
 import contextlib
 import itertools

@@ -1,6 +1,6 @@
 """Packages have the same bytes, at each place and time and for each user, and the tarball of `make
-dist` builds without rt. It needs gcc and git, and for the packages dpkg-dev. Objects of the
-programs that no build kept are stand-ins here."""
+dist` builds without rt. The tests need gcc and git, and for the packages dpkg-dev. If no build kept
+the programs' objects, the tests use stand-ins."""
 
 import hashlib
 import json

@@ -1,8 +1,9 @@
 """An empty Debian 12 without rt: from the tarball of `make dist`, by make and a C compiler, to the
 programs, a server and PAM.
 
-It needs root, the objects that `make dist` kept, and debootstrap with Debian's mirror, or in
-EMPTY_ROOT a folder with such a Debian, which is copied. What make took is printed.
+The test needs root, the objects that `make dist` kept, and debootstrap with Debian's mirror.
+Instead of the mirror, EMPTY_ROOT may name a folder with such a Debian, which the test copies. The
+test prints the time of make.
 """
 
 import os

@@ -1,5 +1,5 @@
-"""bin/credkeep-server with a clock of the tests, for failed tries and the dates of an old file: the
-file that CLOCK names has its seconds."""
+"""bin/credkeep-server with the tests' clock, for failed tries and the dates of an old file: the
+file that CLOCK names contains its seconds."""
 
 import os
 import pathlib

@@ -1,30 +1,30 @@
 #!/usr/bin/python3
-"""A book for tests, in place of credkeep: its hashes cost nothing, and it fails as it is told to.
+"""A book for tests, instead of credkeep: its hashes cost nothing, and it fails on demand.
 
     fast_book.py [--wait SECONDS] FILE serve --tagged [OPTION VALUE]..
     fast_book.py [--wait SECONDS] FILE import|export|backup ..          fast_files.py has these
 
-It answers the tagged lines of docs/SERVING.md from N threads, and keeps its accounts in FILE, which
-it only appends to, a line for each change. In the environment CLOCK names a file with the seconds
-by which failed tries wait, and BOOK_FAULTS has words:
+The book answers the tagged lines of docs/SERVING.md from N threads, and appends a line to FILE for
+each change. In the environment, CLOCK names a file with the seconds of the clock for failed tries,
+and BOOK_FAULTS contains words:
 
-    late            each answer comes after 0 to 0.05 s, so in any order
+    late            each answer comes after 0 to 0.05 s, and so in any order
     slow=S          each answer that would cost a hash comes after S seconds
-    garbage         between answers it writes lines that are none
-    dies=N          it ends with status 5 once it has N answers, amid another without its line end
+    garbage         between answers the book writes lines that are no answers
+    dies=N          the book ends with status 5 after N answers, within another one
     killed=N        the same, by a signal
-    kills=N         it has its server killed in place of answer N, which is done
-    mute=WORD       lines with this operation are never answered
-    endless         before each answer to a verify it writes a line of 4 MiB
-    answers=TEXT    each verify is answered by TEXT
-    refuses=WORD    lines with this operation are answered by `bad 4 memory`
-    loses=N         each Nth change is answered, and not kept
-    opens=S         it takes so many seconds until it answers
-    shut=PATH       it ends with status 5 before it answers, while there is a file PATH
-    import=WORD     an import waits while there is a file WORD, or is killed amid it (`killed`), or
+    kills=N         the book kills its server instead of answer N, whose change is stored
+    mute=WORD       the book never answers lines with this operation
+    endless         before each answer to a verify the book writes a line of 4 MiB
+    answers=TEXT    the book answers each verify by TEXT
+    refuses=WORD    the book answers lines with this operation by `bad 4 memory`
+    loses=N         the book answers each Nth change, but doesn't store it
+    opens=S         the book answers only after S seconds
+    shut=PATH       while the file PATH exists, the book ends with status 5 before it answers
+    import=WORD     an import waits while the file WORD exists, or is killed amid it (`killed`), or
                     finds no room on the disk (`full`)
 
-BOOK_LOG names a file to which each line that came is appended, without its tag.
+BOOK_LOG names a file to which the book appends each received line, without its tag.
 """
 
 import base64

@@ -1,5 +1,5 @@
-"""The commands of fast_book.py that have its file for themselves, or copy it: those of credkeep by
-the same names, with its answers and its statuses."""
+"""The commands of fast_book.py that need exclusive use of its file, or copy it. They have the
+names, the answers and the statuses of credkeep's."""
 
 import fcntl
 import os

@@ -1,5 +1,5 @@
-"""A machine of its own for Debian's programs: namespaces, layers over its folders, the PAM module,
-a server."""
+"""A separate machine for Debian's programs: namespaces, layers over folders, the PAM module, and a
+server."""
 
 import functools
 import os

@@ -1,7 +1,7 @@
-"""Tests of bin/credkeep-server over credkeep itself: the marks of accounts, from whose answers the
-other tests' book mustn't differ, and that each way to the book's file heeds and keeps.
+"""Tests of bin/credkeep-server over credkeep itself: the marks of accounts. The other tests' book
+must give the same answers, and each way to the book's file must respect and keep the marks.
 
-They need the built credkeep, or one named by CREDKEEP.
+The tests need the built credkeep, or the one that CREDKEEP names.
 """
 
 from typing import Any

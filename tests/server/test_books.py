@@ -1,7 +1,7 @@
-"""Tests of bin/credkeep-server over credkeep itself, from whose answers the other tests' book
-mustn't differ.
+"""Tests of bin/credkeep-server over credkeep itself. The other tests' book must give the same
+answers.
 
-They need the built credkeep, or one named by CREDKEEP.
+The tests need the built credkeep, or the one that CREDKEEP names.
 """
 
 import contextlib

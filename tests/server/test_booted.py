@@ -1,8 +1,9 @@
-"""The packages in a Debian of their own: its systemd is the first process, and PAM asks the book.
+"""The packages in a separate Debian: its systemd is the first process, and PAM asks the book.
 
-It needs root, the built programs, and debootstrap with Debian's mirror, or the bases of earlier
-runs, which are copied: in BOOT minbase with what INCLUDED says, in EMPTY with what EMPTY says. The
-machine's own files, processes, network and settings stay as they are.
+The tests need root, the built programs, and debootstrap with Debian's mirror. Instead of the
+mirror, they copy the bases of earlier runs: BOOT names a minbase with the packages of INCLUDED, and
+EMPTY one with those of EMPTY. The machine's own files, processes, network and settings don't
+change.
 """
 
 import os

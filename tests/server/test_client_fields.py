@@ -1,7 +1,7 @@
 """Tests of clients with hostile names and passwords, and of the samples of clients on pages: those
 of rigzumal.server, and the PHP function of docs/SERVERS.md.
 
-They need the library in c/out, or named by RIGZUMAL_LIBRARY; the last ones need php.
+The tests need the library in c/out, or the one that RIGZUMAL_LIBRARY names; the last ones need php.
 """
 
 import asyncio

@@ -1,6 +1,6 @@
 """Tests of rigzumal.server, for threads and for asyncio.
 
-They need the library in c/out, or named by RIGZUMAL_LIBRARY.
+The tests need the library in c/out, or the one that RIGZUMAL_LIBRARY names.
 """
 
 import asyncio

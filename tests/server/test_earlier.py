@@ -1,5 +1,5 @@
-"""Tests of bin/credkeep-server over a book beside which an earlier version kept its marks: the book
-takes them at the first start, before anybody is let in."""
+"""Tests of bin/credkeep-server over a book beside which an earlier version kept its marks: the
+first start writes them to the book, before anybody can log in."""
 
 import base64
 import contextlib

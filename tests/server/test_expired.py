@@ -1,5 +1,5 @@
-"""A password in /etc/shadow that must be changed is changed at the login, beside the book, by
-Debian's own su, login and sshd."""
+"""If a user must change a password in /etc/shadow, Debian's own su, login and sshd change it at the
+login, beside the book."""
 
 import pathlib
 import shutil

@@ -1,5 +1,4 @@
-"""Tests of bin/credkeep-server: users of an old file who are barred by dates, or by fields of
-Dovecot."""
+"""Tests of bin/credkeep-server: users of an old file whom dates or fields of Dovecot bar."""
 
 from foreign_case import MAKERS, ForeignCase, made_by
 from served import TOP

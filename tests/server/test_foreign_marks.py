@@ -1,5 +1,5 @@
 """Tests of bin/credkeep-server: users of an htpasswd file who are locked, or must change the
-password, before they move. test_orders.py has each kill amid their lines."""
+password, before they move. test_orders.py has each kill between their lines."""
 
 from foreign_case import MAKERS, ForeignCase, made_by
 from served import TOP, need

@@ -1,9 +1,9 @@
 """Debian's own programs, unchanged, log users of the machine in by the book, as docs/SERVERS.md
-tells them to.
+describes.
 
-Nothing of the machine is changed, and no process is left. The files that a program reads are
-written from the page, word for word. credkeep itself is asked where it is built, and the fast book
-otherwise, or by BOOK=fast.
+The tests don't change the machine, and leave no process. They write the files that a program reads
+from the page, word for word. They ask credkeep itself if it is built, and otherwise, or with
+BOOK=fast, the fast book.
 """
 
 import contextlib

@@ -1,6 +1,6 @@
 """Kills of the server, of its book and of its imports, between changes of each kind: no answered
-change is lost, and none is half done. KILLS in the environment is the number of kills (300),
-KILLS_SEED their seed."""
+change is lost, and none is half done. KILLS in the environment is the number of kills (by default
+300), and KILLS_SEED is their seed."""
 
 import concurrent.futures
 import os

@@ -1,5 +1,5 @@
-"""Tests of bin/credkeep-server: the messages of its mistakes, and the options that the book
-gets."""
+"""Tests of bin/credkeep-server: its messages about wrong options, and the options that it passes to
+the book."""
 
 import contextlib
 import os

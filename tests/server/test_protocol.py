@@ -1,4 +1,4 @@
-"""Tests of the server's tables of operations and answers: every program and page agrees with
+"""Tests of the server's tables of operations and answers: each program and page agrees with
 them."""
 
 import importlib

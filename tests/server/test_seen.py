@@ -1,5 +1,5 @@
-"""Tests of bin/credkeep-server: its counts, logs and audit log, and the messages of its own
-mistakes."""
+"""Tests of bin/credkeep-server: its counts, logs and audit log, and its messages about its own
+faults."""
 
 import datetime
 import json

@@ -1,4 +1,4 @@
-"""Debian's web and mail servers, unchanged, ask the book as docs/SERVERS.md tells them to: see
+"""Debian's web and mail servers, unchanged, ask the book as docs/SERVERS.md describes: see
 test_logins.py."""
 
 import base64

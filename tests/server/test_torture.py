@@ -1,11 +1,11 @@
 """64 clients on 8 accounts through the server's sockets, while the server and the book are killed.
 
-Every new password is another one, so an answer that lets a password in names the record of that
-moment. python/tests/accounts/torture judges these, and those without an answer as made once or
-never. An answer that doesn't let a password in is judged apart: it must not lie within the time in
-which that password surely stood. What was answered before a kill has to be there after it.
-TORTURE_SECONDS in the environment is how long it goes on (60, with a kill every three),
-TORTURE_SEED its seed.
+Each new password is different, so an answer that accepts a password names the record of that
+moment. python/tests/accounts/torture judges these answers; an operation without an answer happened
+once or never. The test judges refusals separately: no refusal may fall into the time in which that
+password was certainly right. After a kill the book must have each change that was answered before.
+TORTURE_SECONDS in the environment is the length of the test (by default 60, with a kill every three
+seconds), and TORTURE_SEED is its seed.
 """
 
 import concurrent.futures

@@ -1,5 +1,5 @@
-"""Tests of bin/credkeep-server: imports that fail, hang, are killed or stopped. Nothing that was
-answered is lost, and the service goes on."""
+"""Tests of bin/credkeep-server: imports that fail, hang, are killed or stopped. No answered change
+is lost, and the service continues."""
 
 import contextlib
 import os

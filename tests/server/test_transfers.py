@@ -1,4 +1,4 @@
-"""Tests of bin/credkeep-server: many accounts into a served book, and all of them out of it."""
+"""Tests of bin/credkeep-server: imports, exports and backups of a served book."""
 
 import json
 import os

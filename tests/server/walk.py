@@ -1,5 +1,5 @@
-"""The commands of a new user in an empty Debian that has booted, by docs/SERVERS.md: test_booted.py
-runs it there."""
+"""The commands of docs/SERVERS.md for a new user, in an empty Debian that has booted.
+test_booted.py runs this program there."""
 
 import pathlib
 import re

@@ -1,8 +1,8 @@
-/* Before the C library: counts the syncs of a program, the most threads that it started and
- * hadn't joined yet, and the memory in bytes: the most that was asked for at any time and not yet
- * given back, and all that was ever asked for. It tells them as the program ends. A list of
- * /proc's may name an ended thread. It refuses the request for memory whose number REFUSE_NTH
- * has, and says so. The toolchain has no headers. */
+/* Replaces calls of the C library, and counts the syncs of a program, the most threads that it had
+ * started and not yet joined, and its memory in bytes: the most allocated at any time, and all ever
+ * requested. The shim reports the counts when the program ends. A list in /proc may name an ended
+ * thread. The shim refuses the request for memory with the number REFUSE_NTH, and reports that. The
+ * toolchain has no headers. */
 typedef __SIZE_TYPE__ size_t;
 
 #ifdef __aarch64__
@@ -74,7 +74,7 @@ static int is_refused(void) {
     return 1;
 }
 
-/* Counts a block of memory, or none, that a request for so many bytes was answered with. */
+/* Counts the block, or none, that a request for this many bytes returned. */
 static void *count_block(void *block, size_t size) {
     ADD(asked, (long)size);
     if (block)
@@ -118,7 +118,7 @@ void free(void *old) {
     NEXT(free)(old);
 }
 
-/* The program ends by this, and runs no destructors. */
+/* The program ends by this call, which runs no destructors. */
 void _exit(int code) {
     char told[200];
     int size = snprintf(told, sizeof told, "SYNCS %ld\nTHREADS %ld\nPEAK %ld\nASKED %ld\n", syncs,

@@ -1,5 +1,5 @@
-/* Before the C library: the steady clock of a program. It shows the seconds that the file CLOCK
- * has. The toolchain has no headers. */
+/* Replaces a call of the C library: the monotonic clock shows the seconds in the file CLOCK. The
+ * toolchain has no headers. */
 typedef __SIZE_TYPE__ size_t;
 
 #ifdef __aarch64__

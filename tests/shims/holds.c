@@ -1,6 +1,6 @@
-/* Before the C library: syncs that wait. While there is a pipe by the name in HOLD, each sync first
- * reads a byte of it; at its end, when nobody has it open to write, they go on. The toolchain has
- * no headers. */
+/* Replaces calls of the C library: while the pipe that HOLD names exists, each sync first reads a
+ * byte from it. Once no process has the pipe open for writing, syncs continue. The toolchain has no
+ * headers. */
 typedef __SIZE_TYPE__ size_t;
 
 #ifdef __aarch64__

@@ -1,4 +1,4 @@
-"""tools/completions.py: what the shells complete, over programs that show clap's help."""
+"""tools/completions.py: the completions of each shell, over programs with clap's help."""
 
 import contextlib
 import os

@@ -1,4 +1,4 @@
-"""tools/debian_packages.py: the state in which it leaves a machine."""
+"""tools/debian_packages.py: the state of a machine after it ran."""
 
 import signal
 import subprocess

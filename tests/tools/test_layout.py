@@ -1,5 +1,5 @@
-"""The layout of all Python of the tree: black by pyproject.toml, and tests that need no program;
-and checks of the shell's scripts and of the manuals."""
+"""The layout of all Python code in the tree (black by pyproject.toml, and checks that need no
+program), and checks of the shell scripts and of the manuals."""
 
 import ast
 import pathlib

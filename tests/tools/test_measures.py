@@ -1,4 +1,4 @@
-"""The code that the figures rest on: bench/turns.py and bench/c/libraries.py."""
+"""The code that computes the benchmarks' figures: bench/turns.py and bench/c/libraries.py."""
 
 import pathlib
 import sys

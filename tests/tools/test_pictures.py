@@ -1,4 +1,4 @@
-"""tools/pictures.py: bars that are those of their table, and pictures of another text."""
+"""tools/pictures.py: bars that agree with their table, and pictures that differ from their text."""
 
 import re
 import sys

@@ -1,4 +1,4 @@
-"""Tests of tools/plants.py: its plants are of the tree as it is, and what refuses one."""
+"""Tests of tools/plants.py: each plant's text is in the tree, and which tests refuse a plant."""
 
 import sys
 from unittest import mock

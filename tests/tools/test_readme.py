@@ -1,4 +1,4 @@
-"""tools/readme.py: which blocks of a page are sessions, and which are run."""
+"""tools/readme.py: which blocks of a page are sessions, and which sessions it runs."""
 
 import sys
 import unittest

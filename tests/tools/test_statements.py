@@ -1,4 +1,4 @@
-"""tools/statements.py: the lines that each change of two crates changes."""
+"""tools/statements.py: the lines that change with each change of two crates."""
 
 import re
 import sys

@@ -1,5 +1,5 @@
-"""docs/ARCHITECTURE.md's table of the files that a request passes: each file exists, stands once in
-its row, and has an earlier one in that row which leads to it."""
+"""docs/ARCHITECTURE.md's table of the files that a request passes: each file exists, is in its row
+once, and an earlier file of that row leads to it."""
 
 import ast
 import functools

@@ -1,5 +1,5 @@
-"""The messages of the tree's commands without the toolchain, in a clean copy: each that needs rt
-looks for it first. tests/packages tests what a C compiler builds without rt."""
+"""The messages of the tree's commands without the toolchain, in a clean copy: each command that
+needs rt looks for it first. tests/packages has the builds without rt."""
 
 import os
 import pathlib

@@ -3,17 +3,17 @@
  *     driver FOLDER SERVICE USER TASK.. < ANSWERS
  *
  * A task is authenticate, strict (it disallows empty passwords), setcred, account, change or
- * expired (a change of expired passwords). The user - has no name yet. Each prompt takes a line of
- * ANSWERS, in hexadecimal digits; at the end of them the conversation fails, or isn't over if
- * AGAIN=1 is in the environment. It prints `prompt TEXT` and `log TEXT` as they come, `TASK NUMBER`
- * for each task, and `open N`: how many more files are open at the end than before, or were handed
- * on to a child's program.
+ * expired (a change of expired passwords). The user - has no name yet. Each prompt reads a line of
+ * ANSWERS, in hexadecimal digits. After the last line the conversation fails, or isn't over if
+ * AGAIN=1 is in the environment. The driver prints `prompt TEXT` and `log TEXT` as they come, `TASK
+ * NUMBER` for each task, and `open N`: the number of files that the tasks left open, or that a
+ * child's program would inherit.
  *
  * In the environment: PIECES=1 makes send and recv move one byte at a time, and interrupts every
- * other call of each kind. STOPS=1 stops the driver as the module closes its socket, after the
+ * other call of each kind. STOPS=1 stops the driver when the module closes its socket, after the
  * answer, and at the end, so that a test can search its memory. THREADS=N runs the tasks in N
- * threads at once, each for the user USER0, USER1 .. with its own name as every answer. JUMPS=1
- * sets the clock on the wall an hour forward at each look. */
+ * threads at once, each for the user USER0, USER1 .. with its own name as each answer. JUMPS=1
+ * sets the wall clock forward by an hour at each reading. */
 #define _GNU_SOURCE
 #include <dirent.h>
 #include <errno.h>
@@ -98,7 +98,7 @@ void pam_syslog(const pam_handle_t *pamh, int priority, const char *format, ...)
     va_end(values);
 }
 
-/* The answer to a prompt: the thread's name, or a line of standard input. */
+/* Returns the answer to a prompt: the thread's name, or a line of standard input. */
 static char *answer(const char *name) {
     if (name != NULL)
         return strdup(name);

@@ -1,6 +1,5 @@
-/* After secrets_clear_traces every vector and mask register is zero, but for the lower halves of v8
- * to v15, which a call preserves; and so is every general register that a call need not preserve.
- */
+/* After secrets_clear_traces each vector and mask register is zero, except the lower halves of v8
+ * to v15, which a call preserves. So is each general register that a call need not preserve. */
 #include "check.h"
 #include "secrets.h"
 #include "stored.h"
@@ -18,7 +17,7 @@ static uint64_t general[GENERAL];
 #define FILL_GENERAL(n) "mov x" #n ", x9\n\t"
 #define STORE_GENERAL(n) "str x" #n ", [x20, #8 * " #n "]\n\t"
 
-/* secrets_clear_traces is called with a mark in each register. */
+/* Calls secrets_clear_traces with a mark in each register. */
 static void call_marked(struct vectors here) {
     register uint64_t mark __asm__("x9") = UINT64_C(0x5a5a5a5a5a5a5a5a);
     register uint64_t *to __asm__("x20") = general;

@@ -1,4 +1,4 @@
-/* The vector registers, stored: as SVE has them, where the processor has it. */
+/* The stored vector registers: with SVE's lengths if the processor has SVE. */
 #pragma once
 
 #include "processor.h"
@@ -10,7 +10,7 @@
 enum { VECTORS = 32, VECTOR_SIZE = 256, MASKS = 17, MASK_SIZE = VECTOR_SIZE / 8 };
 
 struct stored {
-    unsigned char vectors[VECTORS * VECTOR_SIZE]; /* one behind another, each of its size here */
+    unsigned char vectors[VECTORS * VECTOR_SIZE]; /* one after another, each of its size here */
     unsigned char masks[MASKS * MASK_SIZE];       /* p0 to p15 and FFR */
 };
 
@@ -31,8 +31,7 @@ static inline struct vectors vectors_here(void) {
 #define STORE_LONG(n) "str z" #n ", [%0, #" #n ", mul vl]\n\t"
 #define STORE_MASK(n) "str p" #n ", [%1, #" #n ", mul vl]\n\t"
 
-/* Expanded where it is used, so that no call comes between this and the registers that it stores.
- * */
+/* Inlined, so that no call comes between this function and the registers that it stores. */
 static inline __attribute__((always_inline)) void store_registers(struct vectors here,
                                                                   struct stored *to) {
     if (here.has_masks)

@@ -1,6 +1,6 @@
-/* Says which build is chosen, on processors that lack a feature each: this one, or in lacking/ one
- * that has all but one, of which the words say the leaf of cpuid and the bit. Each leaf is read
- * once, as a virtual machine answers slowly. */
+/* Prints the build that the library chooses: for this processor, or, with lacking/, for one that
+ * lacks a single feature, whose leaf of cpuid and bit the arguments name. The library reads each
+ * leaf once, since a virtual machine answers slowly. */
 #include "builds.h"
 #include "check.h"
 

@@ -1,6 +1,6 @@
-/* After secrets_clear_traces every vector and mask register that there is is zero, and so is every
- * general one that a call need not preserve. A system that keeps fewer, of which KEPT is the bits,
- * has no other touched. */
+/* After secrets_clear_traces each vector and mask register of the processor is zero, and so is each
+ * general register that a call need not preserve. If a system keeps fewer registers, whose bits are
+ * KEPT, the call touches no others. */
 #include "check.h"
 #include "secrets.h"
 #include "stored.h"
@@ -9,7 +9,7 @@
 #define KEPT 0xff
 #endif
 
-/* In lacking/ the processor hasn't AVX512VL. */
+/* With lacking/ the processor lacks AVX512VL. */
 unsigned features_of(unsigned leaf, unsigned found);
 unsigned features_of(unsigned leaf, unsigned found) {
     return leaf == 7 ? found & ~(1u << 31) : found;
@@ -23,8 +23,8 @@ enum { AVX_STATE = 0x4, AVX512_STATE = 0xe0, GENERAL = 9 };
 #define FILL_GENERAL(at, name) "mov %%r12, %%" #name "\n\t"
 #define STORE_GENERAL(at, name) "mov %%" #name ", " #at "(%%rbx)\n\t"
 
-/* secrets_clear_traces is called with the mark in each general register that it need not preserve,
- * below what this function may have on the stack. */
+/* Calls secrets_clear_traces with the mark in each general register that the call need not
+ * preserve, below this function's own data on the stack. */
 static void call_marked(uint64_t mark, uint64_t found[GENERAL]) {
     register uint64_t held __asm__("r12") = mark;
     register uint64_t *to __asm__("rbx") = found;

@@ -1,4 +1,4 @@
-/* The vector and mask registers, filled and stored: all that this processor has. */
+/* Fills and stores the vector and mask registers: all that this processor has. */
 #pragma once
 
 #include "processor.h"
@@ -38,7 +38,7 @@ static inline struct vectors vectors_here(void) {
     return (struct vectors){VECTORS / 2, __builtin_cpu_supports("avx") ? 32 : 16};
 }
 
-/* Fills or stores each that there is. */
+/* Fills or stores each register of this processor. */
 #define EACH(done)                                                                                 \
     if (here.count == VECTORS) {                                                                   \
         THIRTY_TWO(done##_WIDEST)                                                                  \
@@ -49,8 +49,7 @@ static inline struct vectors vectors_here(void) {
         SIXTEEN(done)                                                                              \
     }
 
-/* Expanded where they are used, so that no call comes between these and the registers that they
- * store. */
+/* Inlined, so that no call comes between these functions and the registers that they store. */
 #define HERE static inline __attribute__((always_inline))
 
 HERE void fill_registers(struct vectors here, const unsigned char mark[VECTOR_SIZE]) {

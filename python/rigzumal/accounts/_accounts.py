@@ -31,15 +31,16 @@ class Accounts(Operations[Pool]):
 
     Args:
         pool: a callable that returns a context manager of a connection to the primary. After any
-            exception (even a BaseException, such as an interrupt or a cancelled task) it must close
-            the connection, or roll back, before it lends the connection again.
+            exception (even a BaseException, such as an interrupt or a cancelled task) the pool must
+            close the connection, or roll back before it lends the connection again.
         dialect: the dialect of the database, with the names of the table and its columns.
         hasher: PasswordHasher or ScryptHasher, for the costs of new records. Its tags must have 32
-            bytes. Its `threads` has no effect. With a secret, a scrypt record counts as one of
-            another scheme. With `secrets`, a login replaces a record with an older secret.
+            bytes. Its `threads` has no effect. With a secret, a scrypt record raises
+            InvalidRecordError, unless `secrets` contains b"". A login replaces a record whose
+            secret is an older one of `secrets`.
         replica: a pool of a replica, for the copies of records. The replica may lag, since each
             answer depends on the primary's record. If the replica is down or refuses, operations
-            read copies from the primary too.
+            read copies from the primary.
         foreign: a function that checks passwords against records of other schemes, as (text,
             password) -> bool or None. After any other answer the operation raises a TypeError, and
             stores nothing.
@@ -52,13 +53,13 @@ class Accounts(Operations[Pool]):
         confirm: whether to confirm an answer without a change, such as a verify's, by writing the
             record again. Use `confirm` with servers that show a change before the change is safe
             (MariaDB without a binary log). A login then costs as much as a change.
-        least_length: the minimum length of a new password; logins have no such bound.
+        least_length: the minimum number of characters of a new password; logins have no such bound.
         prepare: a function, such as `rigzumal.opaque_string`, that turns a password that is text,
             new or present, into the text for the hash. Use it from the table's first record on: a
             record of a different form of the password counts as one of another password.
 
     Raises:
-        TypeError: the pool, the dialect, the hasher or the hook has a wrong type.
+        TypeError: an argument has a wrong type.
         ValueError: a number, or the size of the hasher's tag, is out of range.
         InvalidRecordError: an entry of `upgrade_from` isn't costs.
 
@@ -75,12 +76,13 @@ class Accounts(Operations[Pool]):
         TypeError: the key's type differs from its column's, or a password is neither
             bytes nor text; the operation read no row. A hook returned a wrong answer,
             or `also` has ended the transaction; the operation wrote no record.
-        ValueError: a new password is too short, isn't UTF-8 or has over 256 bytes, or `prepare`
-            refuses it. An enrolment also refuses a name that is empty, or begins or ends with a
-            blank. The operation read no row. A present password of such a form counts as wrong,
-            after one hash.
+        ValueError: a new password is too short or has over 256 bytes, or UTF-8 can't encode it, or
+            `prepare` refuses it. An enrolment also refuses a name that is empty, begins or ends
+            with a blank, or begins with a byte order mark. The operation read no row. A present
+            password of over 256 bytes, or that UTF-8 or `prepare` refuses, counts as wrong, after
+            the usual hashes.
         StoreFault: the table, the server or the connection has a fault.
-        InvalidRecordError: the record has another scheme, and no hook accepts it.
+        InvalidRecordError: the record has another scheme, and the accounts have no `foreign`.
         Unavailable: no server completed the operation in time, and the operation stored nothing.
         OutcomeUnknown: after a change, or with `also`, COMMIT had no answer, and the row doesn't
             show whether the server stored the change.
@@ -115,7 +117,7 @@ class Accounts(Operations[Pool]):
         """Verifies the password, and replaces a record whose costs are too low.
 
         The replies are those of `verify`, even if the server can't write the new record (a full
-        disk, an unknown outcome).
+        disk, or, without `also`, an unknown outcome).
         """
         return self._done(self._login(key, password, also))
 
@@ -248,13 +250,12 @@ def _awaited(
 
 
 class AsyncAccounts(Operations[AsyncPool]):
-    """`Accounts` with coroutines, over psycopg's AsyncConnection.
+    """`Accounts` with coroutines, over psycopg's AsyncConnection or aiosqlite.
 
     Arguments, replies and exceptions are as in `Accounts`. `also` and `foreign` may be coroutine
-    functions.
-    Hashes, and a `foreign` that is a plain function, run in threads of the executor, so that other
-    tasks continue. If a task is cancelled during a change, the change may or may not be stored, as
-    after `OutcomeUnknown`.
+    functions. Hashes, and a `foreign` that is a plain function, run in threads of the executor, so
+    that other tasks continue. If a task is cancelled during a change, the change may or may not be
+    stored, as after `OutcomeUnknown`.
 
     Args:
         executor: a ThreadPoolExecutor, only for AsyncAccounts. Each of its threads may

@@ -18,7 +18,7 @@ from rigzumal.accounts.dialects._faults import Fault, error as fault_of, warning
 LOGGER: Final = logging.getLogger("rigzumal.accounts")
 """Warns of retries and unknown outcomes, without a name, record or password."""
 
-_AT_ONCE: Final = 0.5  # seconds in which a pool's dead connections are used up
+_AT_ONCE: Final = 0.5  # seconds in which lost connections don't lengthen the pauses
 _LONGEST: Final = 400  # letters of a reason
 _AWAY: Final = 5.0  # seconds for which a replica that failed isn't asked
 _DSN_PASSWORD: Final = re.compile(
@@ -39,11 +39,11 @@ class Connections:
     table: Table
     patience: float
     _is_passed_over: bool = field(default=False, init=False)
-    _asked_from: float = field(default=0.0, init=False)  # on, the replica
+    _asked_from: float = field(default=0.0, init=False)  # the time of the replica's next job
 
     async def at_replica(self, job: Job[Any]) -> Any:
         """Runs a job once at the replica. Returns Undone if no replica exists, if the replica fails
-        or refuses, or if it failed or refused a moment ago."""
+        or refuses, or if the replica failed or refused within the last five seconds."""
         begun = time.monotonic()
         if self.replica is None or begun < self._asked_from:
             return Undone(None)

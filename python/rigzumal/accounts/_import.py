@@ -28,7 +28,7 @@ from rigzumal.accounts.pools import Pool
 
 BATCH = 50_000  # lines of an import that one COMMIT stores
 SHARE = 1000  # lines that one statement adds
-FEW = 200  # lines that one statement puts into existing rows: each key is compared with all
+FEW = 200  # lines that one statement puts into existing rows: it compares each key with all
 _KEY: Final[Callable[[Line], Any]] = operator.itemgetter(0)
 _NO_UTF8: Final = re.compile("[\udc80-\udcff]")
 
@@ -79,14 +79,15 @@ class Import:
     dialect: Dialect
     pool: Pool
     takes_foreign: bool = False  # records of other schemes, for a hook to judge
-    are_new: bool = True  # the names so far
-    copies: bool = True  # whether the engine still takes lines in its own way
+    are_new: bool = True  # whether all names so far were new
+    copies: bool = True  # whether the engine still accepts batches in its own way
 
     def take(self, file: pathlib.Path, key_of: Callable[[str], Key]) -> dict[str, int]:
         """Adds the accounts in lines "NAME RECORD", and counts the outcomes.
 
-        The command reads all lines before it adds the first account, and reads them again for each
-        batch. The command reports refused lines on standard error.
+        The command reads all lines before it adds the first account, and raises Refusal for a bad
+        line. Then it reads the lines again, batch by batch, and reports each account with another
+        record on standard error.
         """
         with _read_twice(file) as lines:
             total = self._checked(self._records(lines, key_of))

@@ -133,7 +133,7 @@ class Judge:
             raise TypeError(f"`foreign` must be a function, not a {kind}")
         self._hasher, self.foreign = hasher, foreign
         self._upgraded: dict[str, bool] = {}
-        # b"" among older secrets stands for records without one.
+        # b"" among older secrets means records without one.
         self._secrets = tuple(it or None for it in hasher._secrets())
         self._secret = self._secrets[0]
         self.sample = f"{self._setting()}${encoded(os.urandom(_TAG_SIZE))}"
@@ -199,7 +199,7 @@ class Judge:
         return _wrong(request), copy
 
     def _at_record(self, request: Request, copy: str) -> tuple[Reply, Copy]:
-        """Returns the result for a record of ours, under any of the secrets."""
+        """Returns the result for a record of ours, and tries one secret after another."""
         secrets = self._secrets
         if None in secrets and copy.startswith("$scrypt$"):
             secrets = (None,)
@@ -268,9 +268,9 @@ class Judge:
     def goes_up(self, found: Parts) -> bool:
         """Whether an upgrade replaces a record with these numbers.
 
-        A chain of upgrades never leads back: within one scheme, neither version, memory nor work
-        decreases, and one of them increases. Two versions of a service with different costs
-        therefore never replace each other's records in turn.
+        Without `upgrade_from` no chain of upgrades leads back: within one scheme, neither version,
+        memory nor work decreases, and one of them increases. Two versions of a service with
+        different costs therefore never replace each other's records in turn.
         """
         if found.costs in self._old:
             return True

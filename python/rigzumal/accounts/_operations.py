@@ -29,7 +29,7 @@ from rigzumal.accounts.pools import check_pool
 
 AnyPool = TypeVar("AnyPool")
 
-_REFUSALS: Final = 3  # refusals of a COMMIT of unknown effect, until no other follows
+_REFUSALS: Final = 3  # refused COMMITs after which an operation leaves its outcome unknown
 
 AS_A_VERIFY: Final = {
     Reply.KEPT: Reply.YES,
@@ -95,7 +95,7 @@ class Operations(Generic[AnyPool]):
             return AS_A_VERIFY.get(reply, reply)
         except OutcomeUnknown:
             if also is not None:
-                raise  # its rows may stand
+                raise  # the server may have stored the rows of `also`
         except NoConnection:
             raise  # another look would wait for a connection too
         except (StoreFault, OutOfMemoryError, Unavailable):
@@ -198,14 +198,14 @@ class Operations(Generic[AnyPool]):
     async def _settled(self, worked: Worked, also: Hook) -> Answer:
         """Finds out whether a change was stored if its COMMIT had no answer.
 
-        The operation writes a record only once, since its salt is fresh. If the row has the new
+        No other operation writes the same record, since its salt is fresh. If the row has the new
         record, the server therefore wrote the change. The change may not have reached the disk or
         the standby, so the operation writes the record again: the COMMIT of that write waits for
         both, and a SELECT wouldn't.
 
         If the row still has the copy, the server hasn't stored the change so far, and the operation
-        sends the change again: a replaced record never returns. NULL may return, if another client
-        has removed the record since: a second enrolment would restore the record.
+        sends the change again: a replaced record never returns. NULL returns if another client has
+        removed the new record meanwhile, so the operation doesn't send an enrolment again.
         """
         waits, why = Waits(self._connections.patience, time.monotonic(), 0.01), ""
         refusals = 0
@@ -227,8 +227,7 @@ class Operations(Generic[AnyPool]):
         raise _unknown(worked, why)
 
     def _is_refusal(self, cause: Optional[BaseException]) -> bool:
-        """Whether the server answered a COMMIT with an error, as it always does while its disk
-        fails."""
+        """Whether the server answered a COMMIT with an error, as while its disk fails."""
         return cause is not None and self._dialect.verdict(cause) is Verdict.REFUSED
 
     async def _put_again(self, worked: Worked, also: Hook) -> bool:
@@ -242,7 +241,7 @@ class Operations(Generic[AnyPool]):
         now = await self._connections.patiently(self._looking(request.key))
         if now == after and after is not None:
             again = Worked(Ticket(request, after), worked.reply, after)
-            also = None  # they were committed with it
+            also = None  # the server committed its rows with the record
         elif now == copy and copy is not None:
             again = worked
         else:

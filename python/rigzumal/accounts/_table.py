@@ -345,8 +345,9 @@ class Table:
     def _raise(self, error: Exception) -> NoReturn:
         """Raises the exception that an error means.
 
-        The exception contains only the number, and is raised outside the handler: a driver's text
-        may quote the refused row, including the record.
+        The exception contains the error's kind and number, and its text only if a table, a column
+        or a right is missing: other texts of a driver may quote the refused row, with the record.
+        For the same reason the method runs outside the handler.
         """
         if not is_of_driver(error):
             raise error

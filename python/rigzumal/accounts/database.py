@@ -35,7 +35,8 @@ class Database:
     """A database by its URL, and how to connect to it.
 
     Raises:
-        ValueError: the URL's scheme is unknown, or the URL names no file.
+        ValueError: the URL's scheme is unknown, the URL names no file, or its user's name or
+            password has a character that needs an escape.
     """
 
     url: str = field(repr=False)

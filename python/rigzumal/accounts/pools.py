@@ -80,8 +80,8 @@ def lent(pool: Any, enter: str) -> Any:
 class _Held:
     """A connection that closes with its thread, in the process that opened it."""
 
-    conn: Any = None  # after an interrupted __init__: the pid of no process
-    pid, is_lent = 0, False
+    conn: Any = None
+    pid, is_lent = 0, False  # after an interrupted __init__: no process has the pid 0
 
     def __init__(self, conn: Any) -> None:
         self.conn, self.pid = conn, os.getpid()
@@ -95,7 +95,7 @@ class _Held:
 
 
 class PerThread:
-    """Keeps one connection for each thread, and closes it after any exception and with its thread.
+    """Keeps one connection for each thread, and closes it after any exception or with the thread.
 
     `connect` opens a connection in autocommit. After a fork the child opens its own connection, and
     doesn't use its parent's.

@@ -124,7 +124,7 @@ class Request:
         try:
             present = bytes_of_password(password)
         except ValueError:
-            # A try gets an answer, not an exception, whatever its password.
+            # A login gets an answer, not an exception, whatever its password.
             if kind is Kind.ENROL:
                 raise
             present, can_be_right = b"", False
@@ -175,7 +175,7 @@ class Unavailable(AccountsError):
 
 
 class NoConnection(Unavailable):
-    """The pool had no free connection, even at the last try."""
+    """The pool lent no connection, even at the last try."""
 
 
 class OutcomeUnknown(AccountsError):

@@ -6,9 +6,10 @@
 True
 
 Differences: this module has no `core`, no `ffi` and none of the functions that argon2-cffi calls
-legacy. It doesn't accept a bool as a number, and the only versions are 16 and 19. As in
-argon2-cffi, `parallelism` is also the number of threads. However, the library starts at most one
-thread for each processor, and none below 4 MiB. Each exception is also an exception of `rigzumal`.
+legacy. The module refuses a bool as a number, and all versions except 16 and 19. As in argon2-cffi,
+`parallelism` is also the number of threads. However, the library starts at most one thread for each
+processor, and none below 4 MiB. HashingError, VerificationError and InvalidHashError are also
+`rigzumal.RigzumalError`.
 """
 
 from rigzumal.argon2_cffi import exceptions, low_level, profiles

@@ -137,7 +137,8 @@ class PasswordHasher:
         Raises:
             VerifyMismatchError: the hash belongs to another password.
             VerificationError: the verification failed for another reason.
-            InvalidHashError: the hash doesn't begin with a kind of Argon2, or isn't a C string.
+            InvalidHashError: the hash begins with no kind of Argon2, is text outside of ASCII, or
+                has a zero byte.
         """
         try:
             encoded = _bytes_of(hash, "ascii")

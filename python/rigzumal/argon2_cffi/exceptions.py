@@ -1,4 +1,4 @@
-"""The exceptions of argon2-cffi; each is also an exception of `rigzumal`."""
+"""The exceptions of argon2-cffi: all but the last are also `rigzumal.RigzumalError`."""
 
 from __future__ import annotations
 

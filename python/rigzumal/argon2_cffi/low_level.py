@@ -13,8 +13,8 @@ from rigzumal._parts import decoded, encoded
 from rigzumal.argon2_cffi.exceptions import HashingError, InvalidHashError
 from rigzumal.argon2_cffi.exceptions import VerificationError, VerifyMismatchError
 
-# As in rigzumal's own modules, only type checkers import typing, dataclasses, re and hmac here,
-# since these imports take longer than all else.
+# These imports need more time than all else, so only type checkers import typing, and functions
+# import re, dataclasses and hmac when they run.
 TYPE_CHECKING = False
 if TYPE_CHECKING:
     import re
@@ -39,7 +39,7 @@ _FORM: Final = (
     rf"\$m={_NUMBER},t={_NUMBER},p={_NUMBER}\${_BASE64}\${_BASE64}"
 )
 _VERSIONS: Final = (0x10, 0x13)
-_NO_VERSION: Final = 18  # argon2-cffi's number for a hash without a version; it stands for 0x10
+_NO_VERSION: Final = 18  # argon2-cffi's number for a hash without a version, which is of 0x10
 _MOST_LANES: Final = 255
 
 # Faults of records that argon2-cffi reads, but perhaps not the library: a number, or the length of
@@ -248,7 +248,7 @@ def _first_fault(it: Parameters) -> Optional[int]:
 
 
 def _tag(it: Parameters, secret: bytes, salt: bytes) -> bytes:
-    """Computes the tag for these parameters, with a thread for each lane."""
+    """Computes the tag for these parameters, with up to one thread for each lane."""
     numbers: dict[str, Any] = {**vars(it), "type": rigzumal.Type(it.type.value)}
     del numbers["salt_len"]
     return rigzumal.argon2(secret, salt, threads=it.parallelism, **numbers)
@@ -265,7 +265,7 @@ def hash_secret_raw(
     type: Type,
     version: int = ARGON2_VERSION,
 ) -> bytes:
-    """Computes the tag of hash_len bytes, with memory_cost in KiB and a thread for each lane.
+    """Computes the tag of hash_len bytes, with memory_cost in KiB and up to a thread for each lane.
 
     Raises:
         HashingError: a number or a size is out of range, or memory is short.
@@ -305,8 +305,8 @@ def hash_secret(
 
 @hidden
 def verify_secret(hash: bytes, secret: bytes, type: Type) -> Literal[True]:
-    """Returns True if the encoded hash has this type and the secret is right, on a thread for each
-    lane.
+    """Returns True if the encoded hash has this type and the secret is right, with up to a thread
+    for each lane.
 
     Raises:
         VerifyMismatchError: the hash belongs to another secret.

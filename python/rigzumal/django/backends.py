@@ -72,5 +72,5 @@ def _spend(password: Any) -> None:
     """Hashes the typed password, so that the answer takes as long as for a wrong password."""
     try:
         hashers.make_password(password)
-    except ValueError:  # UTF-8 can't encode the text, so an empty password stands for it
+    except ValueError:  # UTF-8 can't encode the text, so an empty password replaces it
         hashers.make_password("")

@@ -103,7 +103,7 @@ def backends(**_: Any) -> Messages:
     """Reports W001: no backend compares. W002: an additional backend doesn't compare. E012: a
     backend can't be imported. W014: the model compares, but under Django's own backend.
 
-    A model's check_password compares under any backend that calls it.
+    If the model compares, its check_password does so under any backend that calls this method.
     """
     listed, faults = _classes("AUTHENTICATION_BACKENDS", "E012")
     yield from faults

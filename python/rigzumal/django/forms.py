@@ -81,7 +81,7 @@ class PasswordChangeForm(_Comparing, forms.PasswordChangeForm):
 
 
 class SetPasswordForm(_Comparing, forms.SetPasswordForm):
-    """Sets the password of a user who followed a link; the link becomes invalid with the record."""
+    """Sets the password of a user who followed a link, which a new record makes invalid."""
 
     def _write(self) -> None:
         passwords.set_password(self.user, self.cleaned_data["new_password1"])

@@ -80,7 +80,7 @@ class _RecordHasher(BasePasswordHasher):
         try:
             parts = self.decode(encoded)
             made = self._made(password, parts)
-        # OverflowError: a number of over 2^32.
+        # OverflowError: a number of 2^32 or more.
         except (ValueError, OverflowError):
             self.encode(b"", self.salt())
             return False
@@ -124,7 +124,7 @@ class Argon2PasswordHasher(_RecordHasher):
         time_cost: passes.
         memory_cost: in KiB, from 8 for each lane to 2097152.
         parallelism: lanes, 1 to 255; a login computes all of them on its own thread.
-        hash_len: the size of the tag in bytes; an existing record may have fewer, down to 16.
+        hash_len: the size of the tag in bytes; existing records with 16 or more stay.
     """
 
     algorithm = "argon2"

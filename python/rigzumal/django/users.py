@@ -172,7 +172,7 @@ class CompareAndSetMixin(models.Model):
         return made
 
 
-# Otherwise it would come before AbstractUser's own.
+# Otherwise this Meta would come before AbstractUser's.
 del CompareAndSetMixin.Meta
 
 

@@ -3,8 +3,8 @@
     book = Client("/run/rigzumal/users/login.sock")
     if book.verify("ada", password) is Reply.YES: ...
 
-`rigzumal.server.aio` has the client for asyncio. The login socket allows verify, change and known,
-and the admin socket allows all operations.
+`rigzumal.server.aio` has the client for asyncio. By default the login socket allows verify, change
+and known, and the admin socket allows all operations.
 """
 
 from rigzumal.server._client import LOGIN_SOCKET, Client, Denied, Later, Refused, Reply

@@ -65,7 +65,7 @@ class ServerError(Exception):
 
 
 class Unavailable(ServerError):
-    """No answer arrived in time: a requested change may or may not be stored."""
+    """No valid answer arrived in time: a requested change may or may not be stored."""
 
 
 class Later(ServerError):
@@ -77,7 +77,9 @@ class Denied(ServerError):
 
 
 class Refused(ServerError):
-    """The server refused the line, by a number and a word of docs/ERRORS.md, and changed nothing.
+    """The server or the client refused the line, by a number and a word of docs/ERRORS.md.
+
+    The refused line changed no account.
 
     Attributes:
         number: the number of the refusal, such as 3.
@@ -274,15 +276,15 @@ class Calls(Generic[Replied, Listed]):
 class Client(Calls[Reply, list[str]]):
     """Queries a book through a socket of credkeep-server.
 
-    Each call opens its own connection. Many threads may therefore use one client at the same time,
-    even after a fork, and nothing has to close it.
+    Each call opens and closes its own connection. Many threads may therefore use one client at the
+    same time, even after a fork.
 
     Args:
         path: the path of the socket.
         timeout: the time limit of a call, in seconds.
 
-    Each call may raise `ServerError`, and an administrator's calls ValueError for a
-    password of over 256 bytes.
+    Each call may raise `ServerError`. A call with a new password raises ValueError if the password
+    has over 256 bytes.
     """
 
     def __init__(

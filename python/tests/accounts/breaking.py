@@ -1,4 +1,5 @@
-"""Breaks parts of the accounts in a torture, whose histories must then be legal, or refused."""
+"""Breaks parts of the accounts in a torture: its history must then be legal, or the checker must
+refuse it."""
 
 import dataclasses
 import functools

@@ -1,4 +1,4 @@
-"""A small disk in memory, which only root can mount, and which is sometimes full."""
+"""A small disk in memory, which only root can mount, and which a test can fill."""
 
 import contextlib
 import os

@@ -1,7 +1,7 @@
 """The behaviour of every engine: test classes that test_engines.py runs over each engine, with
 those of of_tables.py and of_hooks.py.
 
-To test your own dialect, write a subclass of these with the attributes of an engine in
+To test your own dialect, write a subclass of these classes with the attributes of an engine in
 `engines.py`: its `kind` (a server that starts and connects), its `dialect`, and its settings.
 """
 

@@ -1,4 +1,4 @@
-"""The behaviour of every engine with a caller's hook: classes of tests, as those of
+"""The behaviour of each engine with a caller's hook: classes of tests, like those of
 of_engines.py."""
 
 import contextlib

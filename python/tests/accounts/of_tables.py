@@ -1,4 +1,4 @@
-"""The behaviour of every engine with its connections and tables: classes of tests, as those of
+"""The behaviour of each engine with its connections and tables: classes of tests, like those of
 of_engines.py."""
 
 import itertools

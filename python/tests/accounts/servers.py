@@ -1,4 +1,4 @@
-"""Private database servers in a temporary folder, stopped by their own pids."""
+"""Private database servers in a temporary folder, which the tests stop by their own pids."""
 
 import atexit
 import contextlib

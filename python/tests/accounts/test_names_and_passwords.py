@@ -1,5 +1,5 @@
 """Names and passwords that no new account may have, at each door; accounts that have such a name;
-and the bytes that are hashed for a typed password."""
+and the bytes that a typed password becomes for its hash."""
 
 import inspect
 import unicodedata

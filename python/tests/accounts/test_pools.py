@@ -1,4 +1,4 @@
-"""Pools, and what they do when a connection comes back."""
+"""Pools, and their handling of returned connections."""
 
 import asyncio
 import itertools

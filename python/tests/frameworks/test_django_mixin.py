@@ -1,4 +1,4 @@
-"""The mixin's saves compare, however the user was read and whatever is rolled back."""
+"""The mixin's saves compare, however the user was read, and after any rollback."""
 
 import copy
 import itertools

@@ -1,5 +1,5 @@
-"""Compares a model with the mixin with Django's own: they differ only in races, and a model's own
-methods are called."""
+"""Compares a model that has the mixin with Django's own: they differ only in races, and the mixin
+calls a model's own methods."""
 
 import itertools
 from unittest import mock

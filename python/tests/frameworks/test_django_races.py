@@ -1,5 +1,5 @@
-"""rigzumal.django against another process, which sets the password, rehashes it or deletes the
-user: each operation, at each moment, of models of each shape."""
+"""rigzumal.django beside another process, which sets the password, rehashes it or deletes the user:
+each operation, at each moment, for models of each shape."""
 
 import contextlib
 import itertools

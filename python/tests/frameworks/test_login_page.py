@@ -1,5 +1,5 @@
 """examples/login_page as an application: the answers of its forms, the ends of sessions, and the
-refused tries. DATABASE may name a PostgreSQL."""
+refused tries. DATABASE may name a PostgreSQL database."""
 
 import hashlib
 import itertools

@@ -1,6 +1,6 @@
 """examples/login_page in a real browser, without JavaScript.
 
-PICTURES may name a folder that gets a picture of each page.
+PICTURES may name a folder to which the test writes a picture of each page.
 """
 
 import os

@@ -1,5 +1,5 @@
-"""The tests that need a process or a server of their own: the tests of Django and of the login page
-on PostgreSQL, and Django's own tests."""
+"""The tests that need a separate process or server: the tests of Django and of the login page on
+PostgreSQL, and Django's own tests."""
 
 import functools
 import sys

@@ -2,8 +2,8 @@
 
     python3 argon2_cffi_own.py FOLDER-OF-ARGON2-CFFI'S-SOURCE
 
-They need pytest and hypothesis. Their source is in Debian's package python-argon2, whose
-orig tarball `apt-get source` gets.
+The tests need pytest and hypothesis. Their source is in the orig tarball of Debian's package
+python-argon2, which `apt-get source` downloads.
 """
 
 import pathlib

@@ -1,6 +1,6 @@
-"""The parts that the tests of the hashers share: the package's place, records of other programs,
-quick hashers, counts of the library's calls, and runs of Python apart. Each test imports this
-module first, so that the test and its processes find the package."""
+"""The shared parts of the hashers' tests: the package's place, records of other programs, quick
+hashers, counts of the library's calls, and runs of separate Pythons. Each test imports this module
+first, so that the test and its processes find the package."""
 
 import base64
 import os

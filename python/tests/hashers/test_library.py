@@ -1,4 +1,4 @@
-"""Tests of the search for the library, of the memory that it keeps, and of argon2-cffi's own tests
+"""Tests of the search for the library and of the memory that it keeps, and argon2-cffi's own tests
 over it."""
 
 import importlib

@@ -1,5 +1,5 @@
-"""Strings of other programs: our code reads them, and some of the programs read ours. A program
-that isn't installed is left out."""
+"""Strings of other programs: our code reads them, and some of the programs read ours. The tests
+omit a program that isn't installed."""
 
 import ctypes
 import ctypes.util

@@ -1,5 +1,5 @@
-"""Tests of the installed and the packed package, and of its types. Debian's
-packages for all of them: python3-venv, mypy, black, python3-django, python3-passlib, python3-flask.
+"""Tests of the installed and the packed package, and of its types. They need Debian's packages
+python3-venv, mypy, black, python3-django, python3-passlib and python3-flask.
 """
 
 import base64

@@ -17,7 +17,7 @@ from rigzumal.accounts.dialects._faults import warning
 
 UNCOMMITTED: Final = "READ UNCOMMITTED: operations would read uncommitted records"
 NOBODYS_RECORD: Final = f"$argon2id$v=19$m=8,t=1,p=1$bm9ib2R5J3M${'A' * 43}"
-"""A placeholder for "no record", within a transaction alone."""
+"""A placeholder for "no record", only within a transaction."""
 
 # 1213: a deadlock, or Galera's certification failed; 1205: the wait for a lock was too long; 1020:
 # the row has changed since it was read; 3024: MySQL's max_execution_time.

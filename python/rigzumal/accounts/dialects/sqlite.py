@@ -38,7 +38,7 @@ class Sqlite(Dialect):
         has_transaction = getattr(conn, "in_transaction", None)
         if not isinstance(has_transaction, bool):
             raise other_driver(conn, "sqlite3")
-        # Python 3.12 and later have the attribute; -1 stands for the older way.
+        # Python 3.12 and later have the attribute; -1 means the older way.
         autocommit = getattr(conn, "autocommit", -1)
         if autocommit == -1:
             autocommit = conn.isolation_level is None

@@ -1,4 +1,4 @@
-"""credkeep-server(8): lets many clients of Unix sockets query one kept book.
+"""credkeep-server(8): lets many clients of Unix sockets query one book.
 
 A request enters the modules in this order:
 

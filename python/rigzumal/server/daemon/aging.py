@@ -7,7 +7,7 @@ from typing import NamedTuple, Optional
 
 SECONDS_A_DAY = 86400
 SHADOW = 9  # fields of a line of shadow(5); a line may lack the last ones
-OLD_SHADOW = 5  # with the last change, the least and the most days of a password
+OLD_SHADOW = 5  # fields up to the last change, the least and the most days of a password
 NUMBER = re.compile(rb"[0-9]{0,9}")  # the C library refuses a sign too
 # The beginnings of Dovecot's extra fields that bar a user everywhere, or outside of some networks.
 BARS = (b"nologin", b"noauthenticate", b"allow_")
@@ -52,8 +52,8 @@ class Line:
     others: tuple[bytes, ...] = ()
 
     def days(self) -> Optional[Days]:
-        """The dates of the line, which an htpasswd file lacks; None if one of them isn't a
-        number."""
+        """Returns the dates of a line of shadow(5), or None if one of them isn't a number. Other
+        lines have no dates."""
         fields = self.others[: len(Days())]
         count = 2 + len(self.others)  # with the name and the record
         are_numbers = all(map(NUMBER.fullmatch, fields))

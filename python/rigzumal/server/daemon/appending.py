@@ -30,7 +30,7 @@ def status_of(path: str) -> os.stat_result:
 
 
 def private(path: str, flags: int) -> int:
-    """Opens a regular file, but no link, so that only its owner may read and write the file."""
+    """Opens a regular file, but no link. A new file is for its owner only."""
     with suppress(FileNotFoundError):
         status_of(path)
     return os.open(path, flags | os.O_NOFOLLOW | os.O_NONBLOCK, 0o600)
@@ -45,8 +45,8 @@ class GrowingFile:
         self.named = -1  # the inode of the file whose name is on the disk
 
     def append(self, text: bytes) -> None:
-        """Writes whole lines after the last whole line, since a fault may have left part of a
-        line."""
+        """Writes whole lines, and first ends the last line, of which a fault may have left only a
+        part."""
         with open(self.path, "ab+", buffering=0, opener=private) as file:
             found = os.fstat(file.fileno())
             end = os.pread(file.fileno(), 1, max(found.st_size - 1, 0))

@@ -53,7 +53,7 @@ def seconds_to_wait(answer: bytes) -> int:
 
 
 def is_answer(text: bytes) -> bool:
-    """Whether the text is a possible answer of the book: letters, or `later` with its seconds."""
+    """Whether the book can have sent this text: printable ASCII, with its seconds after `later`."""
     if not re.fullmatch(rb"[ -~]+", text):
         return False
     return text.split(b" ")[0] != LATER or 0 < seconds_to_wait(text) <= LONGEST_WAIT

@@ -42,7 +42,7 @@ class Client:
         self.is_ending = False  # the client may send no more requests
         self.is_watched = False  # the event loop reports when the socket has bytes to read
         self.running = 0  # requests without an answer
-        self.active = time.monotonic()  # the time of the last answer
+        self.active = time.monotonic()  # the time of the last answer, or of an import's last bytes
         self.queues = defaultdict[object, asyncio.Lock](asyncio.Lock)  # for each kind of places
         self.incoming: Optional[Incoming] = None  # the import whose text comes next
         self.answered = asyncio.Event()

@@ -31,7 +31,7 @@ FIRST_OF_SYSTEMD = 3  # the descriptor of its first socket: sd_listen_fds(3)
 PEER = struct.Struct("3i")  # of SO_PEERCRED: the peer's pid, uid and gid
 SUBORDINATE = "/etc/subuid"  # subuid(5): the uids that a person has in namespaces
 RANGE = re.compile(r"([^:\n]+):([0-9]{1,10}):([0-9]{1,10})\n?")  # a line of that file
-LEAST_SUBORDINATE = 60001  # the least uid to look up there: those of people are lower
+LEAST_SUBORDINATE = 60001  # the least uid to look up there: people have lower ones
 # The first two names of a control group: /system.slice/ssh.service, /user.slice/user-1000.slice.
 GROUP = re.compile(rb"^\d+:(?:name=systemd)?:((?:/[^/\n]+){1,2})", re.M)
 
@@ -145,8 +145,8 @@ class Door:
         return is_at_most_half and (own == 0 or taken < MOST_CLIENTS - LAST_PLACES)
 
     def let_in(self, service: Service, sock: socket.socket) -> bool:
-        """Whether the connection gets a place of its user; otherwise the client receives an
-        answer."""
+        """Whether the connection gets a place of its user. Otherwise a client that is still
+        connected receives an answer."""
         with suppress(OSError):  # if the client has sent nothing
             if not sock.recv(1, socket.MSG_PEEK):
                 sock.close()

@@ -20,7 +20,7 @@ SELDOM = 3600.0  # seconds
 MOST_KEYS = 65536  # the most keys of logged messages to remember
 logged_at = dict[Hashable, float]()  # the times at which log_seldom logged each key
 MARKED = re.compile(rb"([!-~]+)(?: ([a-z]+))? \d{4}-\d\d-\d\dT\d\d:\d\d:\d\dZ")
-MOST_LINES = 4096  # bytes of a journal that may wait for its disk
+MOST_LINES = 4096  # lines of a journal that may wait for its disk
 UNDOES = {b"unlock": b"lock", b"renew": b"expire"}  # each of these marks ends another
 
 
@@ -29,7 +29,7 @@ class Problem(Exception):
 
 
 def log_seldom(key: Hashable, text: str, *values: object) -> None:
-    """Logs messages with the same key once an hour."""
+    """Logs messages with the same key at most once an hour, for the last 65536 keys."""
     now = time.monotonic()
     if now >= logged_at.get(key, -SELDOM) + SELDOM:
         logged_at.pop(key, None)

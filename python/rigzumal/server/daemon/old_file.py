@@ -15,7 +15,7 @@ from .schemes import why_unknown
 STILL_SECONDS = 0.1  # seconds for which a file must not change before the server reads it
 MOST_LOOKS = 20  # looks at a changing file before the server reads it all the same
 MOST_TOLD = 20  # names in a line of the log
-MUST_CHANGE = b"expire"  # in HTPASSWD.moved: the user must change the password before the move
+MUST_CHANGE = b"expire"  # in HTPASSWD.moved: the user must change the password
 
 
 class OldFile:
@@ -54,8 +54,8 @@ class OldFile:
             log.warning(text, self.path, len(stuck), len(lines), users, dots)
 
     async def refresh(self) -> None:
-        """Reads the file again if it has changed. If the file is missing, the book decides, and the
-        file's last bars still count."""
+        """Reads the file again if it has changed. If the server can't read the file, the book
+        decides, and the file's last bars still count."""
         async with self.reading:
             try:
                 if version_of(self.path) != self.version:

@@ -1,4 +1,4 @@
-"""Checks passwords against the records of an htpasswd file, as nginx does."""
+"""Checks passwords against the records of an htpasswd file, except plain text and DES."""
 
 import base64
 import ctypes.util
@@ -32,7 +32,8 @@ def why_unknown(record: bytes) -> str:
 
 
 def is_right(record: bytes, password: bytes) -> bool:
-    """Whether a password is right for a record, as nginx decides it."""
+    """Whether a password is right for a record. Unlike in crypt, a password of over 72 bytes is
+    wrong for bcrypt, and one with a NUL is wrong."""
     is_cut = record.startswith(BCRYPT) and len(password) > LONGEST_BCRYPT
     if is_cut or b"\0" in password:
         return False

@@ -155,7 +155,7 @@ class Service:
         return SHORT if length < self.options.least_length else b""
 
     def places_for(self, operation: Operation) -> Places:
-        """Returns the queue of a request: for a hash, for the disk, or none."""
+        """Returns the places for which a request waits: those of hashes, changes or looks."""
         is_quick = operation.changes and self.hash_seconds <= SYNC_SECONDS
         if operation.hashes and not is_quick:
             return self.hashes
@@ -280,7 +280,7 @@ class Service:
     # ---- the audit log
 
     async def note(self, request: Request, answer: bytes) -> bool:
-        """Adds an answered change, or a right password, to the audit log. Returns False if the
+        """Adds a request to the audit log, if the log records its answer. Returns False if the
         write fails."""
         if not self.audit.path or not self.is_noted(request, answer):
             return True

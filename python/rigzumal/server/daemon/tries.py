@@ -10,7 +10,7 @@ from dataclasses import dataclass
 from .book import LONGEST_WAIT
 
 FORGOTTEN = 86400.0  # seconds
-COUNTED_BEYOND = 10  # the limit at which the wait is longest
+COUNTED_BEYOND = 10  # failures to count beyond the limit: the wait is then the longest
 
 
 @dataclass(frozen=True)

@@ -1,4 +1,4 @@
-"""The command; the package describes its words. Status 4 means an illegal history, or one that
+"""The command; the package describes its arguments. Status 4 means an illegal history, or one that
 shows nothing."""
 
 import argparse

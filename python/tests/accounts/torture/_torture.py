@@ -1,5 +1,5 @@
-"""The load on a database: the number of processes, and the logged operations that each one does on
-accounts."""
+"""The load on a database: the processes, and the operations that each of them runs on accounts and
+logs."""
 
 import asyncio
 import dataclasses

@@ -1,24 +1,24 @@
 """Decides whether each account's answers are those of one legal history.
 
-A history is legal if each operation can be given one moment between its call and its answer, so
-that its reply, and the record after it, are those of the whole operation on the record at that
-moment. An operation without an answer has one moment after its call, or didn't take place. The law
-`updates_are_one_history` of the crate cred_book proves this of any store whose update is one
-comparison and one writing, and of any function from what stands to a reply and what stands after:
-resets and texts of other schemes too.
+A history is legal if each operation has one moment between its call and its answer, such that its
+reply, and the record after it, are those of the whole operation on the record at that moment. An
+operation without an answer has one moment after its call, or didn't happen. The law
+`updates_are_one_history` of the crate cred_book proves this for any store whose update compares and
+writes in one step. It covers any function from a stored text to a reply and a new text: also resets
+and texts of other schemes.
 
 Why the check is exact. Each record has a fresh salt, so it exists during a single period, and each
 change names the record that it replaces. The changes of an account therefore form chains, and the
-order within a chain is fixed: it is possible if and only if the earliest moments, one after
+order within a chain is fixed. This order is possible if and only if the earliest moments, one after
 another, are in time. A chain can come before another, or before an operation without a record, if
 and only if none of its calls comes after an answer of the other. Moments for all of them exist if
-and only if each two have an order. Apart from sorting, this check takes time in proportion to the
+and only if each two have an order. Apart from sorting, the time of the check is proportional to the
 history.
 
-The attempt of an operation without an answer doesn't prove that the record which it read was
-stored: a crash may lose a record that no answer named. An attempt took place exactly if the answers
-require it: a record that an answer names had been stored, and a record that no longer exists had
-been replaced.
+The attempt of an operation without an answer doesn't prove that the store had the record which the
+operation read: a crash may lose a record that no answer named. An attempt happened exactly if the
+answers require it: the store had each record that an answer names, and another change replaced each
+record that no longer exists.
 """
 
 from __future__ import annotations

@@ -2,15 +2,15 @@
 
 The logs are lines of JSON, of any number of processes and of one clock (CLOCK_MONOTONIC):
 
-    {"event": "seed", "key", "record", "password", "costs"}    what stood at first
+    {"event": "seed", "key", "record", "password", "costs"}    the first record
     {"event": "call", "id", "time", "kind", "key", "password", "new_password", "costs"}
-    {"event": "try", "id", "before", "after", "reply"}  a change, before COMMIT is sent
+    {"event": "try", "id", "before", "after", "reply"}  a change, before the COMMIT
     {"event": "answer", "id", "time", "reply", "before", "after"}
-    {"event": "end", "key", "time", "record"}           what stands when all is over
+    {"event": "end", "key", "time", "record"}           the last record
 
 Records are texts, or null if no record exists. Passwords are labels. An answer's reply may be
-"unknown" (none came) or "failed" (surely nothing was done). Costs are numbers: an upgrade gets the
-answer "kept" unless its costs are higher than the record's.
+"unknown" (no answer came) or "failed" (the operation certainly changed nothing). Costs are numbers:
+the answer to an upgrade is "kept" unless its costs are higher than the record's.
 """
 
 import json

@@ -1,6 +1,6 @@
 """Django's `manage.py changepassword`, which never undoes a simultaneous change.
 
-Replaces Django's own command if INSTALLED_APPS has `rigzumal.django` before
+This command replaces Django's own if INSTALLED_APPS has `rigzumal.django` before
 `django.contrib.auth`.
 """
 

@@ -24,7 +24,8 @@ def end(status: int, text: str = "") -> NoReturn:
 
 
 def end_by(number: int, _: object) -> NoReturn:
-    """Ends the program only at the first signal, so that the echo is restored."""
+    """Ends the program at the first signal, and ignores later ones, so that the program restores
+    the echo."""
     for signal_number in SIGNALS:
         signal.signal(signal_number, signal.SIG_IGN)
     sys.exit(128 + number)
