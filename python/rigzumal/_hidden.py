@@ -1,8 +1,9 @@
 """Keeps passwords out of error reports.
 
 Sentry, cgitb, rich and Django's debug page show the variables of each frame that an exception has
-passed, except those with certain names. Public calls of the hashers, accounts and Django modules
-that receive a password or a pepper therefore clear these frames before an exception leaves them.
+passed, except those with certain names. Public calls of the hashers, accounts, Django modules
+and clients of the server therefore clear these frames before an exception leaves them, if they
+receive a password or a pepper.
 """
 
 from __future__ import annotations

@@ -5,6 +5,7 @@ The tests need the library in c/out, or the one that RIGZUMAL_LIBRARY names; the
 """
 
 import asyncio
+import base64
 import pathlib
 import re
 from collections.abc import Iterator
@@ -14,6 +15,7 @@ from client_case import ClientCase
 from machine import PAGE
 from served import LONGEST, TOP, Case, need
 from tests import hostile_fields
+from tests.frames import shown
 from tests.helpers import run
 from tests.hostile_fields import NAMES, PASSWORDS
 
@@ -117,6 +119,34 @@ class HostileFields(ClientCase):
             await asyncio.gather(*(honest() for _ in range(8)), visitor())
 
         self.run_with(service.path(), used)
+
+
+class Frames(ClientCase):
+    def test_no_frame_shows_a_password(self) -> None:
+        """No report of an exception shows a password, or the line with its base64: not if the
+        server is down, ends the connection, sends something else or is late, and not if the client
+        refuses the call."""
+        typed = "HUNTER22"
+        shows = (typed, base64.b64encode(typed.encode()).decode().rstrip("="))
+        asked = [("verify", "ada", typed), ("enrol", "ada", typed), ("reset", "ada", typed)]
+        asked += [("change", "ada", typed, typed)]
+        refused = [("enrol", "a b", typed), ("reset", "ada", typed * 99)]
+        refused += [("enrol", "ada", typed + "\ud800"), ("verify", "ada", [typed])]
+        down = self.room() / "none"
+        for path, timeout, calls in (
+            (down, LONGEST, asked + refused),
+            (self.peer(b""), LONGEST, asked),
+            (self.peer(b"x\n"), LONGEST, asked),
+            (self.peer(b"1 later\n"), LONGEST, asked),
+            (self.peer(b"", "waits"), 0.2, asked),
+        ):
+            for call in self.calls(path, timeout=timeout):
+                for words in calls:
+                    with self.subTest(path=path, words=words):
+                        try:
+                            self.fail(f"it answers {call(*words)}")
+                        except (self.server.ServerError, ValueError, TypeError) as error:
+                            self.assertEqual(shown(error, *shows), [])
 
 
 class Samples(ClientCase):

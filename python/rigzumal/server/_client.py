@@ -10,6 +10,7 @@ import time
 from dataclasses import dataclass
 from typing import TYPE_CHECKING, Final, Generic, Optional, TypeVar, Union
 
+from rigzumal._hidden import hidden
 from rigzumal._library import Secret, bytes_of
 
 LOGIN_SOCKET: Final = "/run/rigzumal/users/login.sock"
@@ -197,6 +198,7 @@ class Calls(Generic[Replied, Listed]):
     def _listed(self, asked: Question) -> Listed:
         raise NotImplementedError
 
+    @hidden
     def verify(self, name: str, password: Secret) -> Replied:
         """Checks the password. Returns YES, NO, ABSENT if the account has no record, or NO_ACCOUNT.
 
@@ -206,6 +208,7 @@ class Calls(Generic[Replied, Listed]):
         no = Reply.NO
         return self._reply(Question("verify", (name,), (password,), no, no))
 
+    @hidden
     def change(self, name: str, password: Secret, new_password: Secret) -> Replied:
         """Replaces the password. Returns REPLACED, WRONG if the old one is wrong, ABSENT or
         NO_ACCOUNT.
@@ -233,11 +236,13 @@ class Calls(Generic[Replied, Listed]):
         exists."""
         return self._reply(Question("account", (name,)))
 
+    @hidden
     def enrol(self, name: str, password: Secret) -> Replied:
         """Sets a first password. Returns ENROLLED, EXISTS if the account has a record or a lock, or
         NO_ACCOUNT."""
         return self._reply(Question("enrol", (name,), (password,)))
 
+    @hidden
     def reset(self, name: str, new_password: Secret) -> Replied:
         """Sets a password without the old one. Returns REPLACED, ENROLLED if the account had no
         record, or NO_ACCOUNT. A lock remains."""

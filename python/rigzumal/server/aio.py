@@ -11,6 +11,7 @@ import os
 from collections.abc import Coroutine
 from typing import Any, Optional, Union
 
+from rigzumal._hidden import hide
 from rigzumal.server._client import LOGIN_SOCKET, LONGEST_ANSWER, Calls, Question, Reply
 from rigzumal.server._client import Unavailable, answer_of
 
@@ -50,8 +51,12 @@ class Client(Calls[Coroutine[Any, Any, Reply], Coroutine[Any, Any, "list[str]"]]
             self._reading = None
 
     async def _reply(self, asked: Question) -> Reply:
-        known = asked.known_reply()
-        return asked.reply(*await self._line(asked)) if known is None else known
+        try:
+            known = asked.known_reply()
+            return asked.reply(*await self._line(asked)) if known is None else known
+        except BaseException as raised:
+            hide(raised)
+            raise
 
     async def _listed(self, asked: Question) -> list[str]:
         return answer_of(*await self._line(asked)).split()[1:]
