@@ -137,13 +137,14 @@ ANSWERS = {
         ask=4,
     ),
     "denied": Answer(
-        "the socket doesn't allow this operation, or no setting with it: ask at the admin socket",
+        "no such operation exists, or the socket doesn't allow it or a setting with it: ask at the"
+        " admin socket",
         http=403,
         ask=1,
     ),
     "unavailable": Answer(
-        "the book's process has ended, or is ending, and may or may not have stored a change: check"
-        " the account",
+        "the book's process has ended or is ending, or the server can't write a file of its own, such"
+        " as the audit log: check whether the book has stored the change",
         ask=5,
     ),
     "bad 1 exists": refused("the book, or the file of `--foreign`, already has the name", ask=4),
