@@ -145,7 +145,7 @@ def elapsed(parts: Mapping[str, float], longest: float) -> str:
 
 
 def chain(name: str, proofs: Mapping[str, float]) -> float:
-    """Returns the seconds of a proof and of the proofs for which it waits."""
+    """Returns the seconds of a proof and of the longest chain of proofs below it."""
     return proofs.get(name, 0) + max((chain(it, proofs) for it in below(name)), default=0)
 
 

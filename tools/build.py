@@ -105,8 +105,9 @@ class Progress:
 
     def pace(self, done):
         """Computes the ratio of a crate's time here to the estimate. The most recent times count
-        most, since the first ones of a build also prepare the needs of all crates. The sum begins
-        with a minute at the estimated pace."""
+        most, since the first ones of a build also prepare the needs of all crates. Both sums,
+        of times and of estimates, begin with a minute, so the first crate alone doesn't decide the
+        ratio."""
         taken = foreseen = 60
         weight = 1
         for name in reversed(done):

@@ -40,7 +40,7 @@ def libsodium():
 
 
 def need_initialised(sodium):
-    """Initialises libsodium; sodium_init returns 1 if it was called before."""
+    """Ends the program unless libsodium was initialised before: sodium_init then returns 1."""
     if sodium.sodium_init() != 1:
         sys.exit("libsodium isn't initialised")
 

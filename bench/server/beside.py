@@ -7,9 +7,9 @@
 OTHER is the top of a checkout with its built credkeep. Both servers run, and take turns. The script
 prints verifies and changes a second for each number of clients. Each client has its own account,
 and sends a line after each answer. Then the script prints the seconds of a start over this many
-accounts, from the server's process to its first answer. A figure is the best turn's. The ratios are
-of this tree over the other one, by the best turns and as the median of the turns. The files are in
-TMPDIR: changes include the syncs of that disk. Run this script on a machine without other work.
+accounts, from the server's process to its first answer. A figure is the best turn's. Two ratios
+compare this tree with the other one: that of their best turns, and the median of all turns' ratios.
+The files are in TMPDIR: changes include the syncs of that disk. Run this script on a machine without other work.
 """
 
 import argparse

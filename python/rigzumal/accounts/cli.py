@@ -5,7 +5,7 @@ At a terminal the command asks for a password; otherwise it reads the password
 from standard input, without one newline at the end. `change` reads two lines:
 the old password and the new one. The command refuses an empty password. The URL
 may be in RIGZUMAL_DATABASE instead, so that no list of processes shows it.
-Write options before COMMAND or after it.
+Write these options before COMMAND or after it.
 
 The exit statuses are those of credkeep: 0 success or yes, 1 a wrong argument, 2
 reading or writing failed, 3 out of memory, 4 no, 5 the database failed or has a

@@ -101,7 +101,8 @@ def _misspelt(setting: str) -> str:
 
 def backends(**_: Any) -> Messages:
     """Reports W001: no backend compares. W002: an additional backend doesn't compare. E012: a
-    backend can't be imported. W014: the model compares, but under Django's own backend.
+    backend can't be imported or isn't a class, or none is listed. W014: the model compares, but
+    under Django's own backend.
 
     If the model compares, its check_password does so under any backend that calls this method.
     """

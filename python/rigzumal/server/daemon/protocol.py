@@ -143,8 +143,8 @@ ANSWERS = {
         ask=1,
     ),
     "unavailable": Answer(
-        "the book's process has ended or is ending, or the server can't write a file of its own, such"
-        " as the audit log: check whether the book has stored the change",
+        "the book's process has ended or is ending, or the server can't write a file of its own,"
+        " such as the audit log: check whether the book has stored the change",
         ask=5,
     ),
     "bad 1 exists": refused("the book, or the file of `--foreign`, already has the name", ask=4),
