@@ -76,6 +76,17 @@ class MovingTest(Case):
         found = self.lines_of("Dovecot's passwd-file", "grep -vE", [*moves, *out])
         self.assertEqual(found, [f"{it.partition(':')[0]} $argon2x" for it in moves])
 
+    def test_other_schemes_of_dovecot(self):
+        """Without Dovecot's prefix a record is one that htpasswd's hook and the server know."""
+        (command,) = re.findall(r"`(sed -E 's/:[^`]*-CRYPT[^`]* users)`", PAGE.read_text())
+        kinds = {"BLF": "$2y$05$x", "SHA256": "$5$x$y", "SHA512": "$6$x$y"}
+        lines = [f"ann:{{{kind}-CRYPT}}{record}:1:1" for kind, record in kinds.items()]
+        others = ["ann:{SSHA}x=:1:1", "ann:{ARGON2ID}$argon2x:1:1"]
+        room = self.room()
+        (room / "users").write_text("\n".join([*lines, *others]) + "\n")
+        found = run("sh", "-c", command, at=room).splitlines()
+        self.assertEqual(found, [*(f"ann:{it}:1:1" for it in kinds.values()), *others])
+
     def test_lines_of_htpasswd(self):
         """Text after a record and a colon is a comment, as in Apache and nginx."""
         moves = ["ann:$apr1$x$y", "ben:$2y$05$z:his comment", "c d:{SHA}x=:a:b"]
