@@ -9,7 +9,8 @@ prints verifies and changes a second for each number of clients. Each client has
 and sends a line after each answer. Then the script prints the seconds of a start over this many
 accounts, from the server's process to its first answer. A figure is the best turn's. Two ratios
 compare this tree with the other one: that of their best turns, and the median of all turns' ratios.
-The files are in TMPDIR: changes include the syncs of that disk. Run this script on a machine without other work.
+The files are in TMPDIR: changes include the syncs of that disk. Run this script on a machine
+without other work.
 """
 
 import argparse
