@@ -20,7 +20,7 @@ class Plants(Case):
                 self.assertIn(plant.old, (TOP / plant.file).read_text())
                 self.assertNotEqual(jobs.jobs([plant.jobs]), [])
         page = (TOP / "docs/BUILDING.md").read_text()
-        self.assertIn(f"a mistake in each folder: {len(plants.PLANTS)} mistakes", page)
+        self.assertIn(f"refuse each of {len(plants.PLANTS)} mistakes", page)
 
     @each(
         ("right", ["one"], [], "one"),
