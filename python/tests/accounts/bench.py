@@ -3,7 +3,7 @@
     python3 python/tests/accounts/bench.py [sqlite] [postgres] [mariadb] [galera] [--logins]
                                            [--seconds 10] [--turns 10] [--processes 1,4,8,16]
 
-The script prints the tables of docs/SCALE.md in Markdown, for all engines in some half an hour.
+The script prints tables in Markdown, for all engines in some half an hour. docs/SCALE.md has some.
 With --logins the script prints only the tables of a login and a plain one, for three engines in
 some three minutes. The hashes cost almost nothing (64 KiB), so the figures show the database. Each
 process has a connection, and the table a thousand accounts. The rows of a table take turns, so that
