@@ -113,7 +113,8 @@ def status_of(port: int, user: str, password: str) -> int:
         return fault.code
 
 
-def web_logins(port: int, server: Service) -> None:
+def web_logins(port: int, server: Service, status_when_down: int) -> None:
+    """Logins at a site: right, wrong, unknown, disabled, changed, and while the server is down."""
     got = functools.partial(status_of, port)
     for user, password, status in (
         ("ada", "secret", 200),
@@ -127,7 +128,7 @@ def web_logins(port: int, server: Service) -> None:
     server.talk("admin reset ada {fresh} -> replaced")
     same([got("ada", "secret"), got("ada", "fresh")], [401, 200])
     server.stop()
-    same(got("ada", "fresh"), 401, "the server is down")
+    same(got("ada", "fresh"), status_when_down, "the server is down")
 
 
 def install_pages() -> None:
@@ -149,7 +150,7 @@ def fetched(user: str, port: int, count: int = 40) -> dict[int, int]:
 class Sites(Case):
     @in_namespaces
     def test_nginx(self, room: pathlib.Path) -> None:
-        web_logins(8080, run_nginx(room, "book", 8080))
+        web_logins(8080, run_nginx(room, "book", 8080), 401)
 
     @in_namespaces
     def test_nginx_cache(self, room: pathlib.Path) -> None:
@@ -192,7 +193,7 @@ class Sites(Case):
 
     @in_namespaces
     def test_apache(self, room: pathlib.Path) -> None:
-        web_logins(80, run_apache(room, "book.conf", "authnz_pam"))
+        web_logins(80, run_apache(room, "book.conf", "authnz_pam"), 401)
 
     @in_namespaces
     def test_apache_cache(self, room: pathlib.Path) -> None:

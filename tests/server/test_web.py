@@ -334,5 +334,4 @@ class Web(Case):
             return fetched("ada:secret", 8083, 1) == {200: 1} and server.stats()["yes"] > before
 
         until(is_asked, "nginx without its cache")
-        web_logins(8083, server)
-        self.assertEqual(fetched("ada:fresh", 8083, 1), {503: 1})
+        web_logins(8083, server, 503)
