@@ -73,7 +73,7 @@ class Libargon2(unittest.TestCase):
     def test_php_bytes_after_nul(self):
         """The bytes after a NUL count, but PHP's own bcrypt ignores them."""
         need_php()
-        verify = "var_dump(password_verify(\"a\\0b\", password_hash(%s)));"
+        verify = 'var_dump(password_verify("a\\0b", password_hash(%s)));'
         cases = (('"a", PASSWORD_ARGON2ID', "false"), ('"a\\0b", PASSWORD_ARGON2ID', "true"))
         for words, answer in (*cases, ("'a', PASSWORD_BCRYPT", "true")):
             said = run("php", "-r", verify % words, env=OURS)
