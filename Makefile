@@ -105,8 +105,8 @@ TO_LIBEXEC = '$(DESTDIR)$(LIBEXEC)'
 TO_DAEMON = '$(DESTDIR)$(DAEMON)'
 TO_MAN = '$(DESTDIR)$(MAN)'
 TO_UNITS = '$(DESTDIR)$(UNIT_DIR)'
-# The folders that install made; a package has no such list.
-NOTED = '$(DESTDIR)$(PREFIX)/share/rigzumal/folders'
+# The folders that install made. With DESTDIR, as for a package, there is no such list.
+NOTED = $(if $(DESTDIR),'','$(PREFIX)/share/rigzumal/folders')
 TO_SHELLS = '$(DESTDIR)$(BASH_DIR)' '$(DESTDIR)$(ZSH_DIR)' '$(DESTDIR)$(FISH_DIR)'
 
 # The built programs, the server with its units, their pages and completions.

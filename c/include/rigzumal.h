@@ -23,8 +23,9 @@
  * Any number of threads may call at the same time. A call works only on the caller's thread, unless
  * its `threads` is over 1. After a call the library keeps only cleared memory, for the next calls:
  * at most as much as calls used at one time. The bound is 64 MiB, or that of rigzumal_keep, or that
- * of RIGZUMAL_KEEP in the environment. Tools count this memory as the process's own until the
- * system is short of memory and reclaims it. rigzumal_trim returns this memory at once.
+ * of RIGZUMAL_KEEP in the environment: bytes in decimal digits. The library ignores other texts
+ * there, such as 64M, and in a setuid program the variable. Tools count this memory as the
+ * process's own until the system reclaims it. rigzumal_trim returns this memory at once.
  *
  * A call clears its memory before it frees or keeps it. At its end the call clears 22 KiB of the
  * stack below it, and all vector registers, except those with the caller's values. Blocks of 64 KiB
@@ -330,8 +331,7 @@ int rigzumal_scrypt(void *key, size_t key_size, const struct rigzumal_scrypt *nu
  *
  * Use threads to speed up one login on an idle machine. On four processors, a tag with 64 MiB,
  * three passes and four lanes took 64 ms on one thread and 23 ms on four (bench/RESULTS.md). A
- * service that has as many logins at once as processors gains nothing at such costs. Four callers
- * computed a tag every 22 ms with one thread each, and every 23 ms with four. */
+ * service that has as many logins at once as processors gains nothing at such costs. */
 int rigzumal_argon2_threads(void *tag, size_t tag_size, const struct rigzumal_argon2 *numbers,
                             const void *password, size_t password_size, const void *salt,
                             size_t salt_size, const void *secret, size_t secret_size,

@@ -13,6 +13,14 @@ from harness import run_sanitized
 TURNS = () if IS_NATIVE else ("10",)
 
 
+def need_php():
+    need_host()
+    need_original()
+    need("php")
+    if "libargon2" not in run("ldd", shutil.which("php")):
+        raise lacking("a PHP with libargon2")
+
+
 class Libargon2(unittest.TestCase):
     def test_against_libargon2(self):
         """The original's answers over random calls, good and bad."""
@@ -37,11 +45,7 @@ class Libargon2(unittest.TestCase):
 
     def test_php(self):
         """password_hash under each library, password_verify under the other."""
-        need_host()
-        need_original()
-        need("php")
-        if "libargon2" not in run("ldd", shutil.which("php")):
-            raise lacking("a PHP with libargon2")
+        need_php()
         costs = "['memory_cost' => 1024, 'time_cost' => 2, 'threads' => 1]"
         verify = "foreach (['a secret', 'A secret'] as $p) var_dump(password_verify($p, $argv[1]));"
         for maker, reader in ((OURS, {}), ({}, OURS), (OURS, OURS)):
@@ -50,6 +54,30 @@ class Libargon2(unittest.TestCase):
                 record = run("php", "-r", make, env=maker)
                 answers = run("php", "-r", verify, "--", record, env=reader).split()
                 self.assertEqual(answers, ["bool(true)", "bool(false)"], record)
+
+    def test_php_without_memory(self):
+        """A hash needs no memory of PHP's own memory_limit. Without memory PHP calls the right
+        password wrong, and makes no record, under each library."""
+        need_php()
+        costs = "['memory_cost' => 262144, 'time_cost' => 1, 'threads' => 1]"
+        make = f"echo password_hash('a secret', PASSWORD_ARGON2ID, {costs});"
+        verify = "var_dump(password_verify('a secret', $argv[1]));"
+        limited = ("sh", "-c", 'ulimit -v 300000; exec php -r "$@"', "sh")
+        for env in (OURS, {}):
+            record = run("php", "-d", "memory_limit=8M", "-r", make, env=env)
+            self.assertEqual(run("php", "-r", verify, "--", record, env=env), "bool(true)\n")
+            self.assertEqual(run(*limited, verify, "--", record, env=env), "bool(false)\n")
+            said = run(*limited, make, env=env, status=255)
+            self.assertIn("ValueError: Memory allocation error", said)
+
+    def test_php_bytes_after_nul(self):
+        """The bytes after a NUL count, but PHP's own bcrypt ignores them."""
+        need_php()
+        verify = 'var_dump(password_verify("a\\0b", password_hash(%s)));'
+        cases = (('"a", PASSWORD_ARGON2ID', "false"), ('"a\\0b", PASSWORD_ARGON2ID', "true"))
+        for words, answer in (*cases, ("'a', PASSWORD_BCRYPT", "true")):
+            said = run("php", "-r", verify % words, env=OURS)
+            self.assertEqual(said, f"bool({answer})\n", words)
 
     def test_cryptsetup(self):
         """A LUKS2 header made under each library is opened under the other."""

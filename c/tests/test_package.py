@@ -133,6 +133,7 @@ class Package(unittest.TestCase):
         self.assertNotIn(COMPILER, made())
         self.assertIn("-DUNUSED", made("CFLAGS=-O2 -DUNUSED"))
         self.assertNotIn("-DUNUSED", made("CFLAGS=-O2 -DUNUSED"))
+        self.assertIn("-DALSO_UNUSED", made("CPPFLAGS=-DALSO_UNUSED"))
         made("CFLAGS=-O2 -DUNUSED", "LDFLAGS=-Wl,--build-id=0x1234567890abcdef")
         for name in ("librigzumal.so.1", "libargon2.so.1"):
             self.assertIn("1234567890abcdef", run("readelf", "-n", out / name))
@@ -153,31 +154,40 @@ class Package(unittest.TestCase):
         run("make", "RT=false", at=room / "c", status=2)
 
     def test_uninstalled(self):
-        """`make uninstall` removes the files of `make install`, and no others. DESTDIR is the place
-        of the files, and none of them names it."""
-        room = ROOM / "uninstalled"
-        words = (f"DESTDIR={room}", "PREFIX=/opt/rigzumal")
+        """`make uninstall` removes the files of `make install` and their folders, and no others."""
+        prefix = ROOM / "uninstalled"
         others = {
-            "opt/rigzumal/lib/rigzumal/of-another.so",
-            "opt/rigzumal/lib/librigzumal.so.2",
-            "opt/rigzumal/include/other.h",
-            "opt/rigzumal/lib/cmake/rigzumal/of-another.cmake",
+            "lib/rigzumal/of-another.so",
+            "lib/librigzumal.so.2",
+            "include/other.h",
+            "lib/cmake/rigzumal/of-another.cmake",
         }
         for with_others in (False, True):
-            run("make", "install", *words)
-            self.assertEqual(files_below(room), {f"opt/rigzumal/{name}" for name in INSTALLED})
-            libraries = room / "opt/rigzumal/lib"
-            self.assertEqual(os.readlink(libraries / "librigzumal.so"), "librigzumal.so.1")
-            config = (libraries / "pkgconfig/rigzumal.pc").read_text()
-            self.assertTrue(config.startswith("prefix=/opt/rigzumal\n"), config)
-            self.assertNotIn("@", config)
+            run("make", "install", f"PREFIX={prefix}")
+            self.assertEqual(files_below(prefix), INSTALLED)
+            self.assertEqual(os.readlink(prefix / "lib/librigzumal.so"), "librigzumal.so.1")
             for name in others if with_others else ():
-                (room / name).write_text("of another")
-            run("make", "uninstall", *words)
-            self.assertEqual(files_below(room), others if with_others else set())
+                (prefix / name).write_text("of another")
+            run("make", "uninstall", f"PREFIX={prefix}")
+            self.assertEqual(files_below(prefix), others if with_others else set())
             for folder in ("rigzumal", "cmake/rigzumal"):
-                left = (room / "opt/rigzumal/lib" / folder).exists()
-                self.assertEqual(left, with_others, folder)
+                self.assertEqual((prefix / "lib" / folder).exists(), with_others, folder)
+
+    def test_destination(self):
+        """DESTDIR is the place of a package's files: none of them names it, and none lists folders.
+        `make uninstall` removes the files."""
+        room = ROOM / "destination"
+        words = (f"DESTDIR={room}", "PREFIX=/opt/rigzumal")
+        run("make", "install", *words)
+        packed = {f"opt/rigzumal/{name}" for name in INSTALLED - {"share/rigzumal/folders"}}
+        self.assertEqual(files_below(room), packed)
+        for name in packed:
+            self.assertNotIn(bytes(room), (room / name).read_bytes(), name)
+        config = (room / "opt/rigzumal/lib/pkgconfig/rigzumal.pc").read_text()
+        self.assertTrue(config.startswith("prefix=/opt/rigzumal\n"), config)
+        self.assertNotIn("@", config)
+        run("make", "uninstall", *words)
+        self.assertEqual(files_below(room), set())
 
     def test_static(self):
         """The archive links into a program that needs no shared library."""
