@@ -4,8 +4,8 @@
     python3 tools/run_tests.py [--long] [--note] [--first] [WORD..]
 
 The script runs the jobs of tools/jobs.py that have one of the words in their names. Each test
-module is a separate process, and so are some tools. Meanwhile `make` builds the library and the PAM
-module from the proved code, or from c/proved if rt is missing, and the jobs that need them wait.
+module is a separate process, and so are some tools. Meanwhile `make` builds the PAM module, and the
+library from the proved code, or from c/proved if rt is missing. The jobs that need them wait.
 The script prints the output of failed jobs. Every half minute a line lists the running jobs. A test
 may skip itself only if tests/needs.py finds that the thing it names is missing. The last line is
 `tests: N passed, M failed, K skipped`, and the status is 1 if any test failed. A signal ends the

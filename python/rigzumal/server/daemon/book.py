@@ -312,7 +312,7 @@ class Rounds:
         self.running = 0  # changes in this round
 
     async def ask(self, words: list[bytes], is_alone: bool) -> bytes:
-        """Runs a change in this round or in the next, and returns the answer."""
+        """Runs a change, at once or in the round that has room for it, and returns the answer."""
         while self.is_busy() and not self.gate.is_set():
             await self.gate.wait()
             if not is_alone:
