@@ -168,7 +168,7 @@ def isolation(**_: Any) -> Messages:
     for alias, database in settings.DATABASES.items():
         if _has_snapshots(database):
             text = f"The database {alias!r} has an isolation level of snapshots"
-            outcome = "a transaction accepts an old password, or the request fails"
+            outcome = "after a change, an open transaction accepts the old password, or fails"
             yield _message("W005", f"{text}: {outcome}.", hint)
 
 
