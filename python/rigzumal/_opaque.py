@@ -23,9 +23,9 @@ def opaque_string(text: str) -> str:
     """Returns the text as RFC 8265's OpaqueString (section 4.2): in NFC, with each space as U+0020.
 
     A password is therefore the same from each keyboard: macOS may send a letter and its accent
-    separately, and Windows sends both as one character. The function changes neither case nor width.
-    The function allows joiners and emoji selectors everywhere, while the RFC allows them only in
-    some contexts, or not at all.
+    separately, and Windows sends both as one character. The function changes neither case nor
+    width. The function allows joiners and emoji selectors everywhere, while the RFC allows them
+    only in some contexts, or not at all.
 
     Raises:
         ValueError: the text is empty, or has a character that the RFC forbids: a control character,
