@@ -3,7 +3,6 @@
 use rigzumal::{verify, Algorithm, Argon2, Costs, Error, Hasher, Record, Version};
 use std::collections::HashSet;
 use std::process::Command;
-use std::sync::atomic::{AtomicBool, Ordering};
 use std::{env, fs, thread};
 
 /// A hasher of costs that there are.
@@ -181,14 +180,10 @@ fn nothing_secret_is_shown() {
 /// The number of threads of this process for most of the time of some work: one that was joined
 /// may be listed for a moment more.
 fn usual_threads_in(work: impl FnOnce() + Send) -> usize {
-    let is_over = AtomicBool::new(false);
     let mut times = [0; 64];
     thread::scope(|scope| {
-        scope.spawn(|| {
-            work();
-            is_over.store(true, Ordering::Relaxed);
-        });
-        while !is_over.load(Ordering::Relaxed) {
+        let working = scope.spawn(work);
+        while !working.is_finished() {
             times[fs::read_dir("/proc/self/task").unwrap().count()] += 1;
         }
     });

@@ -243,14 +243,16 @@ class Beside(BesideCase):
         with concurrent.futures.ThreadPoolExecutor(CONNECTIONS) as pool:
             guesses = [pool.submit(guess) for _ in range(CONNECTIONS)]
             admin = service.client("admin")
-            for _ in range(20):
-                admin.talk("lock ada -> locked")
-                began = time.monotonic()
-                admin.talk("rename ada eve -> renamed\nrename eve ada -> renamed")
-                spans.append((began, time.monotonic()))
-                admin.talk("unlock ada -> unlocked")
-                time.sleep(0.02)
-            is_over.set()
+            try:
+                for _ in range(20):
+                    admin.talk("lock ada -> locked")
+                    began = time.monotonic()
+                    admin.talk("rename ada eve -> renamed\nrename eve ada -> renamed")
+                    spans.append((began, time.monotonic()))
+                    admin.talk("unlock ada -> unlocked")
+                    time.sleep(0.02)
+            finally:
+                is_over.set()
             asked = sum(it.result() for it in guesses)
         self.assertGreater(asked, CONNECTIONS)
         self.assertTrue(rights, "nobody gets in at any time")

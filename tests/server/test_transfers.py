@@ -102,10 +102,12 @@ class Imports(TransferCase):
         threads = [threading.Thread(target=log_in) for _ in range(3)]
         for thread in threads:
             thread.start()
-        done = self.ask(service, "import", given=text_of(10_000))
-        stopping.set()
-        for thread in threads:
-            thread.join()
+        try:
+            done = self.ask(service, "import", given=text_of(10_000))
+        finally:
+            stopping.set()
+            for thread in threads:
+                thread.join()
         counts = "10000 added, 0 updated, 0 there already, 0 bad\n"
         self.assertEqual(done, Ended(0, counts))
         self.assertEqual({*said}, {"yes"})
