@@ -33,6 +33,8 @@ The function raises ValueError for a password that no account may have.
 """
 
 FOREIGN_HINT: Final = ": pass Accounts a `foreign` that checks records of other schemes"
+DAMAGED_HINT: Final = ": reset this password, and check the length of the column"
+_OURS: Final = ("$argon2", "$scrypt$")  # how records of our schemes begin
 _TAG_SIZE: Final = 32
 _KNOWN: Final = 64  # costs for which a judge remembers whether an upgrade replaces them
 # The place of each is its number in the library for C.
@@ -190,7 +192,8 @@ class Judge:
                 raise
             refused = fault
         if self.foreign is None:
-            raise InvalidRecordError(refused.number, f"{refused}{FOREIGN_HINT}")
+            hint = DAMAGED_HINT if copy.startswith(_OURS) else FOREIGN_HINT
+            raise InvalidRecordError(refused.number, f"{refused}{hint}")
         # A text of another scheme, which any upgrade replaces.
         if right is True:
             return self._at_right(request, copy)

@@ -25,7 +25,7 @@ from typing import Final, Optional
 from rigzumal import InvalidRecordError, RigzumalError, opaque_string
 from rigzumal._commands import Refusal, Status, ended, hint, say, status_of
 from rigzumal.accounts._accounts import Accounts
-from rigzumal.accounts._judgement import FOREIGN_HINT
+from rigzumal.accounts._judgement import DAMAGED_HINT, FOREIGN_HINT
 from rigzumal.accounts._import import Import, Rows, line_of, shown, why
 from rigzumal.accounts._report import as_prometheus, costs_of, report
 from rigzumal.accounts._session import Session, run
@@ -151,7 +151,7 @@ class _Command:
         try:
             yield
         except InvalidRecordError as fault:
-            said = str(fault).partition(FOREIGN_HINT)[0]
+            said = str(fault).removesuffix(FOREIGN_HINT).removesuffix(DAMAGED_HINT)
             raise Refusal(why(self.copy(key), said), Status.DATABASE) from None
 
     def say(self, reply: Reply, *good: Reply) -> int:

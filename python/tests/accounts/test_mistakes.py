@@ -193,13 +193,13 @@ class InPython(Base):
         ):
             self.assertRaisesRegex(StoreFault, words, act, *given)
 
-    def test_a_record_of_another_scheme(self):
-        self.put(FOREIGN)
+    @each((FOREIGN, "`foreign` that checks"), (RECORD[:-2], "reset this password"))
+    def test_a_record_that_cannot_be_read(self, record, words):
+        """A record of another scheme needs a hook, and one of ours that is cut off a reset."""
+        self.put(record)
         for name, *new in (("login",), ("verify",), ("change", "new")):
             call = getattr(self.accounts(), name)
-            self.assertRaisesRegex(
-                InvalidRecordError, "`foreign` that checks", call, "ann", "x", *new
-            )
+            self.assertRaisesRegex(InvalidRecordError, words, call, "ann", "x", *new)
 
     @each(
         (
