@@ -15,6 +15,7 @@ import os
 import pathlib
 import platform
 import re
+import shutil
 import subprocess
 import sys
 import zipfile
@@ -27,7 +28,7 @@ MACHINES = {62: "x86_64", 183: "aarch64"}
 FOR_ARM64 = os.environ.get("ARCH") == "arm64" and platform.machine() != "aarch64"
 OUT = HERE.parent / "c" / "out" / ("arm64" if FOR_ARM64 else "")
 LIBRARY = OUT / "librigzumal.so.1"
-PARTS = ("src", "include", "proved")  # of c/, from which make builds the library
+PARTS = ("c/src", "c/include", "c/proved", "crates")  # from which make builds the library
 
 
 def version() -> str:
@@ -80,11 +81,14 @@ Tag: {tag()}
     }
 
 
-def is_built(c: pathlib.Path) -> bool:
-    """Whether c/out has the library, and no source of C or compiled code is newer."""
-    if not LIBRARY.exists():
+def is_built(top: pathlib.Path) -> bool:
+    """Whether c/out has the library, no source of it is newer, and rt is missing if make took the
+    code from c/proved. Otherwise make decides what to build."""
+    is_taken = (OUT / "taken").exists() and shutil.which(os.environ.get("RT", "rt"))
+    if not LIBRARY.exists() or is_taken:
         return False
-    sources = [c / "Makefile", *(it for part in PARTS for it in (c / part).rglob("*"))]
+    sources = [top / "crates.txt", top / "c/Makefile"]
+    sources += [it for part in PARTS for it in (top / part).rglob("*") if "out" not in it.parts]
     built = LIBRARY.stat().st_mtime
     return all(it.stat().st_mtime <= built for it in sources if it.is_file())
 
@@ -93,7 +97,7 @@ def need_library() -> None:
     """Builds the library, unless c/out has the present one. If the build fails, the last line gives
     the reason."""
     c = HERE.parent / "c"
-    if is_built(c):
+    if is_built(HERE.parent):
         return
     if not (c / "Makefile").exists():
         sys.exit(f"{c} is not there: pip before 21.3 builds a copy of this folder alone")
@@ -111,7 +115,7 @@ def package() -> dict[str, bytes]:
     files = {
         str(path.relative_to(HERE)): path.read_bytes()
         for path in sorted((HERE / "rigzumal").rglob("*"))
-        if path.is_file() and path.suffix != ".pyc"
+        if path.suffix in (".py", ".typed")
     }
     return {**files, f"rigzumal/{LIBRARY.name}": LIBRARY.read_bytes()}
 

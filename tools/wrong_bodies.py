@@ -300,6 +300,11 @@ class Trial:
             if it.exception():
                 self.failed.append(name)
                 say(f"{name}: the script couldn't try its wrong bodies: {it.exception()}")
+        # a COMMAND whose words the script can't read would let all pass
+        for name in () if status or self.asked.crates else listed():
+            if any(CRATES.glob(f"{name}/wrong-bodies/*.edit")) and name not in self.crates:
+                self.failed.append(name)
+                say(f"{name}: no line says that the crate is proved")
         for it in self.failed:
             say(f"NOT REFUSED: {it}")
         say(f"wrong bodies: {len(self.refused)} refused, {len(self.failed)} not")

@@ -90,6 +90,12 @@ class WrongBodies(Case):
         and is tried alone; one-otherwise; and the limit alone, since other functions see it."""
         self.assertEqual(self.tried("high"), (0, self.refused(*EDITS), 5))
 
+    def test_a_command_that_says_nothing(self):
+        """A command that ends well, but says of no crate that it proved the crate, isn't enough."""
+        status, lines, checks = self.tried("--", "true")
+        self.assertEqual((status, checks), (1, 0))
+        self.assertEqual(lines, ["high: no line says that the crate is proved"])
+
     def test_sums(self):
         """A refused body is tried again if it's named, or if its crate, a wrong body of the crate,
         or an item that can be cited below has changed, but not for a comment."""

@@ -6,6 +6,7 @@ import base64
 import hashlib
 import pathlib
 import sys
+import tempfile
 import unittest
 import zipfile
 
@@ -118,6 +119,25 @@ class Package(unittest.TestCase):
         self.assertEqual(files_below(room), wanted)
         self.assertEqual((packages / "rigzumal").exists(), bool(others))
         self.assertTrue(another.exists())
+
+    @each("crates.txt", "crates/low/src/lib.rt", "c/Makefile", "c/src/one.c", "c/proved/proved.sum")
+    def test_sources_of_the_library(self, changed):
+        """make builds the library again if any source is newer than the library, such as one of a
+        crate, which make may refuse."""
+        top = pathlib.Path(tempfile.mkdtemp(dir=ROOM))
+        for name in ("c/out/librigzumal.so.1", changed):
+            (top / name).parent.mkdir(parents=True, exist_ok=True)
+            (top / name).touch()
+        asked = f"""import os, pathlib, build_backend as it
+top = pathlib.Path({str(top)!r})
+it.OUT, it.LIBRARY = top / "c/out", top / "c/out/librigzumal.so.1"
+(top / "c/Makefile").touch(), (top / "crates.txt").touch()
+for path in top.rglob("*"):
+    os.utime(path, (1, 1))
+print(it.is_built(top))
+os.utime(top / {changed!r}, (2, 2))
+print(it.is_built(top))"""
+        self.assertEqual(run(sys.executable, "-c", asked, at=PYTHON), "True\nFalse\n")
 
     def test_wheel(self):
         """A virtual environment with the wheel alone imports and hashes, from nothing."""
