@@ -37,7 +37,6 @@ UNSEEN = {
     "bytes out of band at Unix sockets",
     "huge pages",
     "programs of `make dist`",
-    "programs of `make programs`",
     "set-user-ID programs in the temporary folder",
 }
 

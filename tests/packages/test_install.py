@@ -4,12 +4,14 @@ the output of `make build`."""
 import pathlib
 import re
 import shutil
-import subprocess
 import sys
 
 from tests import helpers
 from tests.helpers import TOP, files_below, need, need_root, run
-from tests.needs import lacking, need_file
+from tests.needs import need_file
+
+sys.path.insert(0, str(TOP / "tools"))
+import build  # noqa: E402
 
 PROGRAMS = ("credbook", "credkeep")
 VERSION = (TOP / "VERSION").read_text().strip()
@@ -22,15 +24,22 @@ int main(void) {
     return 1;
 }
 """
-# Each change of /usr, /etc and /var goes into a folder of memory that nobody else sees.
+# Each change of /usr, /etc, /var and /lib goes into a folder of memory that nobody else sees.
 NAMESPACE = r"""
 set -eu
 mount -t tmpfs none "$ROOM"
-for it in usr etc var; do
+for it in usr etc var lib; do
+    [ ! -L "/$it" ] || continue  # lib is a link into usr, or a folder
     mkdir "$ROOM/$it" "$ROOM/$it.work"
     mount -t overlay overlay -o "lowerdir=/$it,upperdir=$ROOM/$it,workdir=$ROOM/$it.work" "/$it"
 done
-mkdir "$ROOM/at"
+"""
+INSTALLED = r"""
+# A copy of the tree, whose programs are sealed for a level.
+mkdir "$ROOM/top" "$ROOM/top.work" "$ROOM/at"
+mount -t overlay overlay -o "lowerdir=$TOP,upperdir=$ROOM/top,workdir=$ROOM/top.work" "$TOP"
+printf %s "$SEAL_CREDBOOK" > "$TOP/crates/credbook/out/credbook.level"
+printf %s "$SEAL_CREDKEEP" > "$TOP/crates/credkeep/out/credkeep.level"
 (umask 077; make -s -C "$TOP" install > "$ROOM/log" 2>&1) || { cat "$ROOM/log"; exit 1; }
 cd "$ROOM/at"
 find "$ROOM/usr" ! -perm -o=r -printf 'not for everybody: %p\n'
@@ -69,15 +78,59 @@ module loads
 /usr/local/share/bash-completion/completions/credkeep
 /usr/local/share/zsh/site-functions/_credkeep
 """
+# The packages by dpkg, from their first day to a purge. systemctl and deb-systemd-invoke only say
+# their words, and nothing of the machine's own systemd is in /run.
+DPKG = r"""
+mount -t tmpfs none /run
+mkdir -p /run/systemd/system "$ROOM/bin" && PATH=$ROOM/bin:$PATH
+for it in systemctl deb-systemd-invoke; do
+    printf '#!/bin/sh\necho "${0##*/} $*" >> "%s/calls"\n' "$ROOM" > "$ROOM/bin/$it"
+done
+chmod 755 "$ROOM/bin"/*
+quietly() { "$@" > "$ROOM/log" 2>&1 || { cat "$ROOM/log"; exit 1; }; }
+chosen() { grep -l pam_rigzumal /etc/pam.d/common-* | sed 's/.*-/chosen: /'; }
+calls() { grep -E "$1" "$ROOM/calls" && : > "$ROOM/calls"; }
+folder() { stat -c '%a %U %G' /var/lib/rigzumal; }
+quietly dpkg --no-triggers --purge libpam-rigzumal rigzumal-tools && rm -rf /var/lib/rigzumal
+quietly pam-auth-update --package --force  # whatever an administrator changed
+quietly dpkg --no-triggers -i "$TOOLS" "$MODULE"
+folder
+calls '^systemctl .*reload$' | uniq
+ls /usr/share/pam-configs/rigzumal && chosen
+quietly pam-auth-update --package --enable rigzumal
+chosen
+quietly dpkg --no-triggers -r libpam-rigzumal
+echo removed && chosen
+touch /var/lib/rigzumal/users.db
+quietly dpkg --no-triggers --purge libpam-rigzumal rigzumal-tools
+calls '^deb-systemd-invoke'
+ls -A /var/lib/rigzumal && folder
+quietly dpkg --no-triggers -i "$TOOLS" && quietly dpkg --no-triggers -i "$TOOLS"
+calls '^deb-systemd-invoke'
+rm /var/lib/rigzumal/users.db
+quietly dpkg --no-triggers --purge rigzumal-tools
+ls -A /var/lib | grep rigzumal || echo nothing left
+"""
+STEPS = """700 rigzumal rigzumal
+systemctl --system daemon-reload
+/usr/share/pam-configs/rigzumal
+chosen: account
+chosen: auth
+chosen: password
+removed
+deb-systemd-invoke stop credkeep-server@*.socket credkeep-server-admin@*.socket \
+credkeep-server-http@*.socket credkeep-server@*.service
+users.db
+700 rigzumal rigzumal
+deb-systemd-invoke try-restart credkeep-server@*.service
+nothing left
+"""
 
 
-def is_built(name, level):
-    words = [sys.executable, TOP / "tools/build.py", "--built", "--cpu", level, name]
-    return subprocess.run(words, capture_output=True).returncode == 0
-
-
-def levels(name):
-    return [it for it in ("x86-64", "x86-64-v2", "x86-64-v3") if is_built(name, it)]
+def in_namespace(script, **env):
+    """Returns the output of a shell's script whose changes of the machine nobody else sees."""
+    words = ("unshare", "--mount", "--propagation", "private", "sh", "-c", NAMESPACE + script)
+    return run(*words, env=env)
 
 
 def sample(page, language, word):
@@ -126,24 +179,21 @@ class Install(helpers.Case):
     seconds = 1800
 
     def test_install_and_uninstall(self):
-        """All files installed below /usr/local are found and work, and uninstall leaves nothing."""
+        """All files installed below /usr/local are found and work, and uninstall leaves nothing.
+
+        The programs are those that are built, in a copy of the tree that seals them for a level.
+        """
         need_root()
         need_file(*BUILT)
-        if not all(map(levels, PROGRAMS)):  # the gate's own aren't known to be for a level
-            raise lacking("programs of `make programs`")
         samples = {
             "SAMPLE": sample("python/README.md", "python", "PasswordHasher"),
             "C_SAMPLE": program_of_readme(),
         }
-        env = {
-            "ROOM": str(self.room()),
-            "TOP": str(TOP),
-            "CPU": levels("credkeep")[0],
-            "PYTHONPATH": "",
-            **samples,
-        }
-        words = ["unshare", "--mount", "--propagation", "private", "sh", "-c", NAMESPACE + USED]
-        self.assertRegex(run(*words, env=env), f"^{USES}$")
+        level = "x86-64"  # whatever the level for which they were built
+        seals = {f"SEAL_{it.upper()}": build.sum_of(it, level) for it in PROGRAMS}
+        places = {"ROOM": str(self.room()), "TOP": str(TOP), "PYTHONPATH": ""}
+        env = {**places, **samples, **seals, "CPU": level}
+        self.assertRegex(in_namespace(INSTALLED + USED, **env), f"^{USES}$")
 
 
 class Folders(helpers.Case):
@@ -323,8 +373,19 @@ class Debs(helpers.Case):
             with self.subTest(name=name):
                 self.assertIn(name, listed)
 
+    def test_scripts(self):
+        """The maintainer scripts make the book's folder, choose no profile of PAM by themselves,
+        and remove a chosen one; a purge keeps a book, and nothing else."""
+        need_root()
+        need("dpkg", "adduser", "pam-auth-update")
+        need_file(*BUILT, "/usr/include/security/pam_modules.h")
+        tools, module = self.debs("c/pam", "CPU=")
+        env = {"ROOM": str(self.room()), "TOOLS": str(tools), "MODULE": str(module)}
+        said = in_namespace(DPKG, **env, DEBIAN_FRONTEND="noninteractive")
+        self.assertEqual(said, STEPS)
+
     def test_programs_of_another_level(self):
         """Programs that don't run on every processor aren't packed without a word."""
-        words = ["CPU=x86-64-v2"] if "x86-64" in levels("credbook") else []
+        words = ["CPU=x86-64-v2"] if build.is_built("credbook", "x86-64") else []
         output = run("make", "-s", "-C", TOP / "c/pam", "deb", *words, status=2)
         self.assertRegex(output, r"credbook isn't built for x86-64(-v2)?: run make programs CPU=")
