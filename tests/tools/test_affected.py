@@ -1,5 +1,6 @@
 """tools/affected.py: the costs of a change, by the files that it touches."""
 
+import re
 import subprocess
 import sys
 from unittest import mock
@@ -94,6 +95,19 @@ class Affected(Case):
         self.assertRegex(tests, rf"^tests: 1 of \d+ jobs{minutes}: {command}$")
         self.assertEqual(pages, "pages: python3 tools/pages.py")
         self.assertEqual([*affected.report([])], [])
+
+    def test_sample(self) -> None:
+        """CONTRIBUTING's sample has the form of the lines, without the number of all jobs, and its
+        words choose jobs."""
+        page = (TOP / "CONTRIBUTING.md").read_text()
+        (tests,) = re.findall(r"^tests: \d+ of (.*)$", page, re.M)
+        minutes, command = (
+            "(?:about \\d+ min|under a minute)",
+            "/usr/bin/python3 tools/run_tests.py",
+        )
+        self.assertRegex(tests, rf"^\.\. jobs, {minutes}: {command}( [\w/]+)+$")
+        for word in tests.partition(command)[2].split():
+            self.assertNotEqual(jobs.jobs([word]), [])
 
     @each((480, 100, "about 2 min"), (240, 400, "about 7 min"), (100, 20, "under a minute"))
     def test_minutes(self, sum_: float, longest: float, said: str) -> None:
