@@ -97,17 +97,16 @@ class Affected(Case):
         self.assertEqual([*affected.report([])], [])
 
     def test_sample(self) -> None:
-        """CONTRIBUTING's sample has the form of the lines, without the number of all jobs, and its
-        words choose jobs."""
+        """CONTRIBUTING's sample is the report of two files, but for counts and minutes, and without
+        the number of all jobs."""
         page = (TOP / "CONTRIBUTING.md").read_text()
-        (tests,) = re.findall(r"^tests: \d+ of (.*)$", page, re.M)
-        minutes, command = (
-            "(?:about \\d+ min|under a minute)",
-            "/usr/bin/python3 tools/run_tests.py",
+        (sample,) = re.findall(r"^```text\n(proofs: .*?)^```$", page, re.M | re.S)
+        files = ["crates/crash_laws/src/laws.rt", "units/credkeep-server@.service"]
+        report = re.sub(r" of \d+ jobs", " of .. jobs", "\n".join(affected.report(files)))
+        told, ought = (
+            re.sub(r"about \d+ min|under a minute|\d+(?=,| of)", "N", it) for it in (sample, report)
         )
-        self.assertRegex(tests, rf"^\.\. jobs, {minutes}: {command}( [\w/]+)+$")
-        for word in tests.partition(command)[2].split():
-            self.assertNotEqual(jobs.jobs([word]), [])
+        self.assertEqual(told, ought + "\n")
 
     @each((480, 100, "about 2 min"), (240, 400, "about 7 min"), (100, 20, "under a minute"))
     def test_minutes(self, sum_: float, longest: float, said: str) -> None:
