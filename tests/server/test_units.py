@@ -13,9 +13,42 @@ from tests.helpers import each
 
 NOT_NEEDED = {"fchown"}  # of a new log, to the book's owner, whose it is
 
-# Who may read what it makes and leaves, and how it ends: systemd-analyze judges none of these.
-LINES = "User=rigzumal UMask=0077 StateDirectoryMode=0700 LogsDirectoryMode=0700 LimitCORE=0"
-LINES += " KillMode=mixed Restart=always NoNewPrivileges=yes"
+# Who may read what it makes and leaves, how long it may take, how it ends, and where it begins:
+# systemd-analyze judges none of these.
+LINES = """
+Requires=credkeep-server@%i.socket credkeep-server-admin@%i.socket
+After=credkeep-server@%i.socket credkeep-server-admin@%i.socket
+ConditionPathExists=/var/lib/rigzumal/%i.db
+StartLimitIntervalSec=0
+Type=notify
+NotifyAccess=main
+Sockets=credkeep-server@%i.socket credkeep-server-admin@%i.socket
+Environment=CREDKEEP_SERVER_OPTIONS=
+ExecStart=/usr/sbin/credkeep-server $CREDKEEP_SERVER_OPTIONS /var/lib/rigzumal/%i.db
+EnvironmentFile=-/etc/default/credkeep-server-%i
+User=rigzumal
+Group=rigzumal
+StateDirectory=rigzumal
+StateDirectoryMode=0700
+LogsDirectory=rigzumal
+LogsDirectoryMode=0700
+UMask=0077
+KillMode=mixed
+TimeoutStartSec=infinity
+TimeoutStopSec=60
+Restart=always
+RestartSec=1
+WatchdogSec=300
+OOMPolicy=continue
+LimitCORE=0
+LimitNOFILE=4096
+NoNewPrivileges=yes
+RestrictAddressFamilies=AF_UNIX
+ProtectProc=default
+ProcSubset=pid
+SystemCallErrorNumber=EPERM
+WantedBy=multi-user.target
+"""
 
 
 def in_set(name: str) -> set[str]:
@@ -97,10 +130,35 @@ class Units(Case):
         (level,) = re.findall(r"Overall exposure.*?: ([\d.]+)", shell(f"{words} {self.units()[0]}"))
         self.assertLessEqual(float(level), 1.5)
 
-    @each(*LINES.split())
+    @each(*LINES.strip().splitlines())
     def test_lines(self, line: str) -> None:
-        unit = (TOP / "units/credkeep-server@.service").read_text()
-        self.assertIn(line, unit.splitlines())
+        """The service has each line, and no other line of the same setting."""
+        setting = line.partition("=")[0]
+        lines = (TOP / "units/credkeep-server@.service").read_text().splitlines()
+        self.assertEqual([it for it in lines if it.partition("=")[0] == setting], [line])
+
+    def test_page(self) -> None:
+        """The page's first commands make the user, the folder and the book of the unit, as the
+        package does, and start its service and both of its sockets."""
+        page = PAGE.read_text()
+        package = (TOP / "packaging/rigzumal-tools/postinst").read_text()
+        lines = dict(it.split("=", 1) for it in LINES.strip().splitlines())
+        user, group = lines["User"], lines["Group"]
+        folder = f"/var/lib/{lines['StateDirectory']}"
+        mode = lines["StateDirectoryMode"].lstrip("0")
+        added = f"--system --group --no-create-home --home {folder} {user}"
+        self.assertIn(f"`adduser {added}`", page)
+        self.assertIn(f"adduser --quiet {added}\n", package)
+        made = f"`install -d -m {mode} -o {user} -g {group} {folder}`"
+        self.assertEqual(re.findall(rf"`install -d [^`]* {folder}`", page), [made])
+        for line in (f"mkdir -m {mode} {folder}\n", f"chown {user}:{group} {folder}\n"):
+            self.assertIn(f"\t\t{line}", package)
+        (start,) = re.findall("^## Start it\n\n```sh\n(.*?)```$", page, re.M | re.S)
+        book = lines["ConditionPathExists"].replace("%i", "users")
+        wanted = f"{lines['Sockets']} credkeep-server@%i.service".replace("%i", "users")
+        commands = [f"runuser -u {user} -- credkeep {book} init"]
+        commands.append(f"systemctl enable --now {wanted}")
+        self.assertEqual(start.splitlines()[:2], commands)
 
     def test_system_calls(self) -> None:
         """The system calls of the server and the book are those that the unit allows, or aren't

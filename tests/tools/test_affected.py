@@ -1,5 +1,6 @@
 """tools/affected.py: the costs of a change, by the files that it touches."""
 
+import re
 import subprocess
 import sys
 from unittest import mock
@@ -94,6 +95,18 @@ class Affected(Case):
         self.assertRegex(tests, rf"^tests: 1 of \d+ jobs{minutes}: {command}$")
         self.assertEqual(pages, "pages: python3 tools/pages.py")
         self.assertEqual([*affected.report([])], [])
+
+    def test_sample(self) -> None:
+        """CONTRIBUTING's sample is the report of two files, but for counts and minutes, and without
+        the number of all jobs."""
+        page = (TOP / "CONTRIBUTING.md").read_text()
+        (sample,) = re.findall(r"^```text\n(proofs: .*?)^```$", page, re.M | re.S)
+        files = ["crates/crash_laws/src/laws.rt", "units/credkeep-server@.service"]
+        report = re.sub(r" of \d+ jobs", " of .. jobs", "\n".join(affected.report(files)))
+        told, ought = (
+            re.sub(r"about \d+ min|under a minute|\d+(?=,| of)", "N", it) for it in (sample, report)
+        )
+        self.assertEqual(told, ought + "\n")
 
     @each((480, 100, "about 2 min"), (240, 400, "about 7 min"), (100, 20, "under a minute"))
     def test_minutes(self, sum_: float, longest: float, said: str) -> None:
