@@ -234,6 +234,27 @@ class RunTests(Case):
         self.assertIn("make -s -C c: [Errno 2] No such file or directory: 'make'\n", done.written)
         self.assertEqual(done.status, 1)
 
+    def test_a_build_of_other_letters(self) -> None:
+        """A failed build ends the jobs that wait for it, whatever bytes it prints."""
+        write_files(folder := self.room(), {"make": "#!/bin/sh\nprintf 'refus\\351\\n'; exit 2\n"})
+        (folder / "make").chmod(0o755)
+        done = self.run_tests("c/tests", "tests/tools", PATH=f"{folder}:{os.environ['PATH']}")
+        self.assertIn("refus\ufffd\n\nmake -s -C c: status 2\n", done.written)
+        self.assertEqual(
+            done.written.splitlines()[-2:],
+            ["FAILED: the library", "tests: 2 passed, 1 failed, 2 skipped"],
+        )
+        self.assertEqual(done.status, 1)
+
+    @each(b"no outcome", b"\xe9", b"passed\tone\ttoo many\twords")
+    def test_other_lines_of_outcomes(self, line: bytes) -> None:
+        """A job whose outcomes can't be read has failed, and the others run."""
+        text = f"    def test_tells(self): open(sys.argv[1], 'ab').write({line!r} + b'\\n')\n"
+        write_files(self.top, {"tests/credbook/test_tells.py": HEAD + text})
+        done = self.run_tests("test_tells", "tests/tools")
+        self.assertIn("FAILED: tests/credbook/test_tells: tests/credbook/test_tells\n", done.written)
+        self.assertEqual(done.written.splitlines()[-1], "tests: 2 passed, 1 failed, 2 skipped")
+
     def test_without_rt(self) -> None:
         """Without rt nothing is compared with its code, and all else runs."""
         text = "all:\ncheck-proved:\n\t@echo only rt does this; exit 1\n"
