@@ -7,9 +7,10 @@ The script runs the jobs of tools/jobs.py that have one of the words in their na
 module is a separate process, and so are some tools. Meanwhile `make` builds the PAM module, and the
 library from the proved code, or from c/proved if rt is missing. The jobs that need them wait.
 The script prints the output of failed jobs. Every half minute a line lists the running jobs. A test
-may skip itself only if tests/needs.py finds that the thing it names is missing. The last line is
-`tests: N passed, M failed, K skipped`, and the status is 1 if any test failed. A signal ends the
-run and everything that its jobs started; the last line is then `tests: interrupted`.
+may skip itself only if tests/needs.py finds that the thing it names is missing, and if the table
+there has the program that it names. The last line is `tests: N passed, M failed, K skipped`, and
+the status is 1 if any test failed. A signal ends the run and everything that its jobs started; the
+last line is then `tests: interrupted`.
 
 --long runs the modules that every other run omits. --note stores the time of each job in
 tools/job_seconds.json, so that the longest jobs begin first. --first begins no job after a failed
