@@ -1,5 +1,6 @@
 """The needs of a test. A test that lacks one skips itself with the text `needs KIND NAME`.
 tools/run_tests.py asks `excuse` whether the machine really lacks it: any other skip is a failure.
+A program that a new test needs has to be in OF_PACKAGES or OTHERS.
 """
 
 from __future__ import annotations
@@ -21,23 +22,114 @@ IS_NATIVE = ARCH == "x86_64"
 # The programs of a system's services are found whoever runs the tests.
 os.environ["PATH"] += ":/usr/sbin:/sbin:/usr/lib/dovecot"
 
+# The programs that tests may need, by the packages of tools/debian-packages.txt that bring them.
+OF_PACKAGES = {
+    "adduser": "adduser",
+    "apache2": "apache2",
+    "apache2-utils": "htpasswd",
+    "argon2": "argon2",
+    "binutils": "objdump strip",
+    "black": "black",
+    "clang-format": "clang-format",
+    "cmake": "cmake",
+    "cryptsetup-bin": "cryptsetup",
+    "curl": "curl",
+    "dovecot-imapd": "dovecot doveadm",
+    "dpkg-dev": "dpkg-shlibdeps",
+    "fail2ban": "fail2ban-client fail2ban-regex",
+    "fish": "fish",
+    "g++": "c++ g++",
+    "gcc": "cc gcc x86_64-linux-gnu-gcc",
+    "gcc-aarch64-linux-gnu": "aarch64-linux-gnu-gcc",
+    "groff-base": "groff",
+    "iproute2": "ip",
+    "make": "make",
+    "mariadb-server": "mariadb-install-db mariadbd",
+    "mypy": "mypy",
+    "nginx": "nginx",
+    "openssh-server": "ssh ssh-keygen sshd",
+    "openssl": "openssl",
+    "pamtester": "pamtester",
+    "passwd": "chage chpasswd passwd usermod",
+    "perl": "perl",
+    "pgbouncer": "pgbouncer",
+    "php-cli": "php",
+    "pkg-config": "pkg-config",
+    "postfix": "postconf postfix",
+    "prometheus-node-exporter": "prometheus-node-exporter",
+    "pycodestyle": "pycodestyle",
+    "pyflakes3": "pyflakes3",
+    "python3-django": "django-admin",
+    "qemu-user": "qemu-aarch64 qemu-x86_64",
+    "rsync": "rsync",
+    "sasl2-bin": "saslauthd testsaslauthd",
+    "socat": "socat",
+    "sshpass": "sshpass",
+    "strace": "strace",
+    "systemd": "systemctl systemd-analyze systemd-socket-activate",
+    "util-linux": "fsfreeze prlimit setpriv setsid unshare",
+    "valgrind": "valgrind",
+    "whois": "mkpasswd",
+    "xxd": "xxd",
+    "zsh": "zsh",
+}
+# Other programs, by why a machine may lack them.
+OTHERS = {
+    "every Debian has it": "b2sum base32 bash dpkg-deb dpkg-query ldd login losetup mkfs.ext4 mount"
+    " dpkg pam-auth-update su",
+    "another compiler": "clang clang-13 gcc-11",
+    "Rust's own": "cargo cargo-clippy cargo-fmt rustc",
+    "only long tests need it": "debootstrap systemd-nspawn",
+    "only few tests need it": "chromedriver git pip3 sqlite3",
+    "nobody else has it": "rt",
+}
+PROGRAMS = {name: why for why, names in (OF_PACKAGES | OTHERS).items() for name in names.split()}
+
 # What only the test itself can see that it isn't there.
 UNSEEN = {
     "a Debian that debootstrap fetches",
     "a newer cargo",  # than Debian 12 has
-    "a newer SQLAlchemy",
-    "a PHP with Argon2",
-    "a PHP with libargon2",
-    "a PHP with pdo_sqlite",
     "a cryptsetup that runs",
-    "a glibc",  # where the library is for musl
-    "a processor and a C library of this machine",  # where it is for others
     "a processor with that build",
     "a toolchain that makes that build",
     "bytes out of band at Unix sockets",
-    "huge pages",
     "programs of `make dist`",
     "set-user-ID programs in the temporary folder",
+}
+HUGE_PAGES = pathlib.Path("/sys/kernel/mm/transparent_hugepage/enabled")
+
+
+def said_by(*words: str) -> str:
+    """What a command prints: nothing where its program is missing."""
+    try:
+        return subprocess.run(words, capture_output=True, text=True, errors="replace").stdout
+    except OSError:
+        return ""
+
+
+def is_musl() -> bool:
+    return "musl" in os.environ.get("CC", "")
+
+
+def lacks_argon2_of_php() -> bool:
+    return "argon2id" not in said_by("php", "-r", "echo implode(' ', password_algos());")
+
+
+def lacks_new_sqlalchemy() -> bool:
+    code = "import sqlalchemy; print(sqlalchemy.__version__)"
+    return said_by(sys.executable, "-c", code) < "2"
+
+
+# What has no name of its own: whether it is missing.
+SEEN: dict[str, Callable[[], bool]] = {
+    "a newer SQLAlchemy": lacks_new_sqlalchemy,
+    "a PHP with Argon2": lacks_argon2_of_php,
+    "a PHP with libargon2": lambda: "libargon2" not in said_by("ldd", shutil.which("php") or ""),
+    "a PHP with pdo_sqlite": lambda: "pdo_sqlite" not in said_by("php", "-m"),
+    "a glibc": is_musl,  # where the library is for musl
+    # Where the library is for others.
+    "a processor and a C library of this machine": lambda: not IS_NATIVE or is_musl(),
+    "huge pages": lambda: not HUGE_PAGES.is_file() or "[never]" in HUGE_PAGES.read_text(),
 }
 
 
@@ -62,9 +154,10 @@ def lacks_user(name: str) -> bool:
     return name not in {it.pw_name for it in pwd.getpwall()}
 
 
-# What a skip may name, by the words behind "needs": whether a name of that kind is missing.
+# What a skip may name, by the words behind "needs": whether a name of that kind is missing. A
+# misspelt program would be missing for ever.
 KINDS: dict[str, Callable[[str], bool]] = {
-    "the program": lacks_program,
+    "the program": lambda name: name in PROGRAMS and lacks_program(name),
     "Python's module": lacks_module,
     "the library": lacks_library,
     "the file": lacks_file,
@@ -73,21 +166,21 @@ KINDS: dict[str, Callable[[str], bool]] = {
     "no variable": lambda name: name in os.environ,
     "to be": lambda name: name == "root" and os.getuid() != 0,
     "the processor": lambda name: name == "x86_64" and not IS_NATIVE,
-    # The tests of passlib itself, some of which are of what our handlers aren't.
-    "another kind of handler": lambda _: True,
-    "": UNSEEN.__contains__,
 }
+# The tests of passlib itself, some of which are of what our handlers aren't.
+OF_PASSLIB = "another kind of handler: "
 
 
 def excuse(reason: str) -> bool:
     """Whether the text of a skip names what the machine lacks."""
-    head, _, rest = reason.partition("needs ")
-    if head:
+    if not reason.startswith("needs "):
         return False
-    for kind, is_missing in KINDS.items():
-        if rest.startswith(kind):
-            return is_missing(rest[len(kind) :].strip())
-    return False
+    what = reason.removeprefix("needs ")
+    if what in SEEN:
+        return SEEN[what]()
+    kind, _, name = what.rpartition(" ")  # no name has a space
+    is_missing = KINDS.get(kind)
+    return is_missing(name) if is_missing else what in UNSEEN or what.startswith(OF_PASSLIB)
 
 
 def lacking(what: str) -> unittest.SkipTest:

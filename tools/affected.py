@@ -35,6 +35,8 @@ OF_CRATES = {
 EVERY = ("",)
 PACKAGE = ("python/tests/package", "tests/packages")
 PAGES = ("docs/tests", "tools/readme")
+# The modules of tests/server that run what docs/SERVERS.md has.
+OF_SERVERS = "sites logins web books protocol client_fields units expired".split()
 # The row with the longest beginning of a file's path names the jobs that read the file.
 READERS: Mapping[str, Collection[str]] = {
     ".": (),
@@ -47,8 +49,13 @@ READERS: Mapping[str, Collection[str]] = {
     "README.md": (*PAGES, "tests/packages/test_install"),
     "SECURITY.md": PAGES,
     "docs/": PAGES,
-    "docs/SERVERS.md": (*PAGES, "tests/server"),
     "docs/ARCHITECTURE.md": (*PAGES, "tests/tools/test_walks", "frameworks/test_django"),
+    "docs/BUILDING.md": (*PAGES, "tests/tools/test_plants", "tests/packages/test_without_rt"),
+    "docs/ERRORS.md": (*PAGES, "tests/server/test_protocol"),
+    "docs/MIGRATING.md": (*PAGES, "tests/credkeep/test_import"),
+    "docs/SERVERS.md": (*PAGES, *(f"tests/server/test_{it}" for it in OF_SERVERS)),
+    "docs/SERVING.md": (*PAGES, "tests/server/test_protocol", "tests/server/test_client_fields"),
+    "docs/STATEMENTS.txt": (*PAGES, "tests/tools/test_without_rt"),
     "crates/": (),  # read by the programs over the crate
     "crates.txt": ("tests/packages/test_without_rt",),
     "pyproject.toml": ("tests/tools/test_layout",),
@@ -62,8 +69,11 @@ READERS: Mapping[str, Collection[str]] = {
     "completions/": ("tests/tools/test_completions", "test_commands", *PACKAGE),
     "packaging/": ("tests/packages",),
     "packaging/rigzumal-tools/": ("tests/packages", "tests/server/test_units"),
+    "packaging/pam-profile": ("tests/packages", "tests/server/test_expired"),
+    "packaging/python3-rigzumal/": PACKAGE,
     "examples/": ("docs/tests",),
-    "examples/login_page/": ("frameworks/test_login_page", "docs/tests"),
+    "examples/postgres/": ("accounts/test_three_servers", "docs/tests"),
+    "examples/login_page/": ("frameworks/test_login_page", "docs/tests", "python/tests/package"),
     "tools/": ("tests/tools",),
     "tools/compile_proved.py": ("tests/tools", "c/tests", "tests/packages"),
     "tools/dist.py": ("tests/packages/test_dist",),
@@ -94,11 +104,10 @@ def git(*words: str) -> str:
 
 def changed_files(commit: str) -> list[str]:
     """Lists the files that differ from a commit, or aren't committed; for a moved file, both
-    names."""
-    differ = git("diff", "--name-only", "--no-renames", commit)
-    return sorted(
-        {*differ.splitlines(), *git("ls-files", "--others", "--exclude-standard").splitlines()}
-    )
+    names. Omits what git doesn't know and no row of READERS, such as `a.out`."""
+    differ = git("diff", "--name-only", "--no-renames", commit).splitlines()
+    others = git("ls-files", "--others", "--exclude-standard").splitlines()
+    return sorted({*differ, *(it for it in others if row_of(it))})
 
 
 def changed_crates(files: Iterable[str], parts: str) -> set[str]:
@@ -112,13 +121,19 @@ def proved_again(crates: Collection[str]) -> list[str]:
     return [it for it in listed() if it in crates or {*all_below(it)} & {*crates}]
 
 
+def row_of(file: str) -> str:
+    """Returns the row of READERS for a file, or nothing."""
+    rows = (it for it in READERS if file.startswith(it))
+    return max(rows, key=len, default="")
+
+
 def jobs_of(file: str) -> Collection[str]:
-    """Returns the words of the jobs that read a file."""
+    """Returns the words of the jobs that read a file: of all jobs, for a file without a row."""
     for folder in FOLDERS:
         if file.startswith(f"{folder.path}/"):
             at = file.removesuffix(".py")
             return (at if at.startswith(f"{folder.path}/test_") else folder.path,)
-    return READERS[max((it for it in READERS if file.startswith(it)), key=len)]
+    return READERS.get(row_of(file), EVERY)
 
 
 def jobs_to_run(files: Iterable[str], proved: Iterable[str]) -> list[Job]:

@@ -7,9 +7,10 @@ The script runs the jobs of tools/jobs.py that have one of the words in their na
 module is a separate process, and so are some tools. Meanwhile `make` builds the PAM module, and the
 library from the proved code, or from c/proved if rt is missing. The jobs that need them wait.
 The script prints the output of failed jobs. Every half minute a line lists the running jobs. A test
-may skip itself only if tests/needs.py finds that the thing it names is missing. The last line is
-`tests: N passed, M failed, K skipped`, and the status is 1 if any test failed. A signal ends the
-run and everything that its jobs started; the last line is then `tests: interrupted`.
+may skip itself only if tests/needs.py finds that the thing it names is missing, and if the table
+there has the program that it names. The last line is `tests: N passed, M failed, K skipped`, and
+the status is 1 if any test failed. A signal ends the run and everything that its jobs started; the
+last line is then `tests: interrupted`.
 
 --long runs the modules that every other run omits. --note stores the time of each job in
 tools/job_seconds.json, so that the longest jobs begin first. --first begins no job after a failed
@@ -31,6 +32,7 @@ import sys
 import tempfile
 import threading
 import time
+import traceback
 from collections.abc import Sequence
 from typing import Any
 
@@ -88,14 +90,22 @@ class Done:
         if job.lacks:
             self.note("skipped", job.name, f"needs {job.lacks}")
             return
+        try:
+            self.run_in_room()
+            self.judge()
+        except Exception:  # such as one of a line in `told` that isn't of told.py
+            self.output += traceback.format_exc()
+            self.tests[job.name] = "failed"
+
+    def run_in_room(self) -> None:
+        """Runs the job, and notes its output and the outcomes of its tests."""
         with tempfile.TemporaryDirectory(prefix="rigzumal-job-") as room:
             told, printed = pathlib.Path(room, "told"), pathlib.Path(room, "printed")
             self.run(told, printed)
             self.output += printed.read_text(errors="replace")
             if told.exists():
-                for line in told.read_text().splitlines():
+                for line in told.read_text(errors="replace").splitlines():
                     self.note(*line.split("\t"))
-        self.judge()
 
     def run(self, told: pathlib.Path, printed: pathlib.Path) -> None:
         """Runs the job to its end, or ends it with everything that it started."""
@@ -150,8 +160,9 @@ def fault_of_build() -> str:
     """Builds the library, and returns the output of a failed build, or nothing."""
     for command in BUILDS if helpers.IS_NATIVE else []:
         pipes: dict[str, Any] = {"stdout": subprocess.PIPE, "stderr": subprocess.STDOUT}
+        pipes |= {"stdin": subprocess.DEVNULL, "errors": "replace"}
         try:
-            done = subprocess.run(command, cwd=TOP, stdin=subprocess.DEVNULL, text=True, **pipes)
+            done = subprocess.run(command, cwd=TOP, **pipes)
         except OSError as fault:  # make is missing
             return f"{' '.join(command)}: {fault}"
         if done.returncode:
@@ -178,7 +189,10 @@ class Progress:
     def build(self) -> None:
         """Builds the library."""
         self.running["make -C c"] = time.monotonic()
-        self.library.set_result(fault_of_build())
+        try:
+            self.library.set_result(fault_of_build())
+        except Exception:  # jobs wait for a result
+            self.library.set_result(traceback.format_exc())
         del self.running["make -C c"]
 
     def run_beside(self, chosen: list[Job]) -> None:

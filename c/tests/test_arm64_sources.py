@@ -14,7 +14,7 @@ class Sources(unittest.TestCase):
     @each(*sorted(it.name for it in (TOP / "src").glob("*.c") if it.name not in OTHERS))
     def test_compiles(self, name):
         """Each source compiles for ARM64 without a warning."""
-        need(COMPILER)
+        need("aarch64-linux-gnu-gcc")
         self.assertEqual(run(COMPILER, *FLAGS.split(), f"src/{name}", at=TOP), "")
 
 

@@ -1,5 +1,7 @@
 """tools/affected.py: the costs of a change, by the files that it touches."""
 
+import ast
+import pathlib
 import re
 import subprocess
 import sys
@@ -12,12 +14,29 @@ import affected  # noqa: E402
 import jobs  # noqa: E402
 import tree  # noqa: E402
 
+SITES = ("test_sites:1", "test_sites:2", "test_logins:1", "test_web", "test_books")
+OF_SERVERS = [f"tests/server/{it}" for it in SITES]
+# The names of tests/server/machine.py that read docs/SERVERS.md.
+OF_MACHINE = r"^from machine import .*\b(PAGE|install|on_page|commands_on_page)\b"
 GIT = ("git", "-c", "user.name=x", "-c", "user.email=x@example.org")
 
 
 def committed() -> list[str]:
     words = ("git", "-c", f"safe.directory={TOP}", "ls-files")
     return run(*words).splitlines()
+
+
+def named_in(path: pathlib.Path) -> set[str]:
+    """The pages, examples and parts of packages that a module of tests names in a string of their
+    own, or by tests/server/machine.py; of a folder, one file."""
+    text = path.read_text()
+    constants = (it for it in ast.walk(ast.parse(text)) if isinstance(it, ast.Constant))
+    words = {it.value for it in constants if isinstance(it.value, str)}
+    found = {"docs/SERVERS.md"} if re.search(OF_MACHINE, text, re.M) else set[str]()
+    for word in words:
+        if re.match(r"(docs|examples|packaging)/\S+$", word):
+            found |= {*[it for it in committed() if f"{it}/".startswith(f"{word}/")][:1]}
+    return found
 
 
 class Affected(Case):
@@ -33,7 +52,14 @@ class Affected(Case):
         ("c/src/step.c", ["c/tests/test_programs:1", "python/tests/hashers/test_hashers"]),
         ("python/rigzumal/passlib.py", ["python/tests/frameworks/test_passlib"]),
         ("docs/SERVING.md", ["docs/tests/test_pages:1", "tools/readme"]),
+        ("docs/ERRORS.md", ["tests/server/test_protocol", "docs/tests/test_pages:1"]),
+        ("docs/SERVERS.md", [*OF_SERVERS, "docs/tests/test_pages:1", "tools/readme"]),
+        ("examples/postgres/store.py", ["python/tests/accounts/test_three_servers"]),
+        ("packaging/pam-profile", ["tests/server/test_expired", "tests/packages/test_install"]),
+        ("packaging/python3-rigzumal/postinst", ["python/tests/package/test_package"]),
         ("HANDLES", []),
+        # A file that the tool doesn't know
+        ("LICENSE", [it.name for it in jobs.jobs()]),
         # By the programs that stand on a crate
         ("crates/cred_book/src/lib.rt", ["tests/credbook/test_credbook", "rust/tests/test_crate"]),
         ("crates/cred_many/src/lib.rt", ["tests/credkeep/test_tagged"]),
@@ -66,7 +92,7 @@ class Affected(Case):
         files = committed()
         for file in files:
             with self.subTest(file=file):
-                affected.jobs_of(file)
+                self.assertTrue(affected.row_of(file))
         for place, words in affected.READERS.items():
             with self.subTest(place=place):
                 self.assertTrue(any(it.startswith(place) for it in files))
@@ -75,6 +101,15 @@ class Affected(Case):
             with self.subTest(crate=crate):
                 self.assertIn(crate, tree.listed())
                 self.assertEqual([it for it in words if not jobs.jobs([it])], [])
+
+    @each(*(it.path for it in jobs.FOLDERS if it.path != "tests/tools"))
+    def test_named_files(self, folder: str) -> None:
+        """A page, an example or a part of the packages affects the tests that name it."""
+        for module in {it.name.partition(":")[0] for it in jobs.jobs() if it.folder == folder}:
+            for file in named_in(TOP / f"{module}.py"):
+                with self.subTest(module, file=file):
+                    words = affected.jobs_of(file)
+                    self.assertTrue(any(word in module for word in words))
 
     @each("", "c/tests", "test_ask", "tests/tools/test_build", "frameworks")
     def test_words(self, word: str) -> None:
@@ -116,7 +151,7 @@ class Affected(Case):
 
     def test_changed_files(self) -> None:
         """Changed files: those of later commits, those not committed yet, and both names of a moved
-        file."""
+        file. What neither git nor the tool knows isn't among them."""
         top = self.room()
         write_files(top, {"same": "1", "moved": "moved as it is", "changed": "1", "gone": "1"})
         for words in (("init", "-q"), ("add", "-A"), ("commit", "-q", "-m", "first")):
@@ -124,9 +159,9 @@ class Affected(Case):
         run(*GIT, "mv", "moved", "new name", at=top)
         run(*GIT, "commit", "-q", "-m", "second", at=top)
         (top / "gone").unlink()
-        write_files(top, {"changed": "2", "untracked": "1"})
+        write_files(top, {"changed": "2", "c/new.c": "1", "a.out": "1", "venv/pyvenv.cfg": "1"})
         with mock.patch.object(affected, "TOP", top):
             since = {it: affected.changed_files(it) for it in ("HEAD", "HEAD~1")}
             self.assertRaises(subprocess.CalledProcessError, affected.changed_files, "no such")
-        self.assertEqual(since["HEAD"], ["changed", "gone", "untracked"])
+        self.assertEqual(since["HEAD"], ["c/new.c", "changed", "gone"])
         self.assertEqual(since["HEAD~1"], sorted([*since["HEAD"], "moved", "new name"]))

@@ -38,7 +38,8 @@ MODULES = {
     @unittest.expectedFailure
     def test_fails_as_expected(self): self.fail("as it should")
     def test_skipped_without_a_reason(self): self.skipTest("it is Monday")
-    def test_skipped_for_what_is_there(self): self.skipTest("needs the program sh")
+    def test_skipped_for_what_is_there(self): self.skipTest("needs the program make")
+    def test_skipped_for_an_unknown_program(self): self.skipTest("needs the program makke")
     def test_well(self): pass
 """,
     "tests/credbook/test_dies.py": """
@@ -88,7 +89,7 @@ BESIDE = """
 # What stands in place of whole modules.
 TEXTS = {
     "tests/packages/test_install.py": "import no_such_module\n",
-    "docs/tests/test_pages.py": "import unittest\nraise unittest.SkipTest('needs huge pages')\n",
+    "docs/tests/test_pages.py": "import unittest\nraise unittest.SkipTest('needs a newer cargo')\n",
     "tests/credkeep/test_large.py": "raise SystemExit('a long one ran')\n",
     "c/Makefile": "all check-proved:\n\t@test ! -e broken || { echo this is broken; exit 1; }\n",
     "c/pam/Makefile": "all:\n",
@@ -104,6 +105,7 @@ FAILED = {
         "tests.credbook.test_false.Tests.test_fails",
         "tests.credbook.test_false.Tests.test_fails_as_expected",
         "tests.credbook.test_false.Tests.test_fails_in_part",
+        "tests.credbook.test_false.Tests.test_skipped_for_an_unknown_program",
         "tests.credbook.test_false.Tests.test_skipped_for_what_is_there",
         "tests.credbook.test_false.Tests.test_skipped_without_a_reason",
     },
@@ -123,6 +125,8 @@ class RunTests(Case):
         for folder, names in COPIED.items():
             for name in names:
                 shutil.copy(TOP / folder / name, self.top / folder)
+        with open(self.top / "tests/needs.py", "a") as file:
+            file.write('PROGRAMS["no-such-program"] = "nobody wrote it"\n')
         for folder in (
             "tests",
             "tests/tools",
@@ -141,7 +145,7 @@ class RunTests(Case):
         done = self.run_tests("tests/tools", "book", "server", "c/", "python", "docs", "packages")
         self.assertEqual(done.faults, "")
         lines = done.written.splitlines()
-        self.assertEqual(lines[-1], "tests: 8 passed, 10 failed, 3 skipped")
+        self.assertEqual(lines[-1], "tests: 8 passed, 11 failed, 3 skipped")
         found = re.findall(r"^FAILED: (\S+): (\S+)$", done.written, re.M)
         wanted = {(job, name) for job, names in FAILED.items() for name in names}
         self.assertEqual({*found}, wanted)
@@ -234,6 +238,29 @@ class RunTests(Case):
         self.assertIn("make -s -C c: [Errno 2] No such file or directory: 'make'\n", done.written)
         self.assertEqual(done.status, 1)
 
+    def test_a_build_of_other_letters(self) -> None:
+        """A failed build ends the jobs that wait for it, whatever bytes it prints."""
+        write_files(folder := self.room(), {"make": "#!/bin/sh\nprintf 'refus\\351\\n'; exit 2\n"})
+        (folder / "make").chmod(0o755)
+        done = self.run_tests("c/tests", "tests/tools", PATH=f"{folder}:{os.environ['PATH']}")
+        self.assertIn("refus\ufffd\n\nmake -s -C c: status 2\n", done.written)
+        self.assertEqual(
+            done.written.splitlines()[-2:],
+            ["FAILED: the library", "tests: 2 passed, 1 failed, 2 skipped"],
+        )
+        self.assertEqual(done.status, 1)
+
+    @each(b"no outcome", b"\xe9", b"passed\tone\ttoo many\twords")
+    def test_other_lines_of_outcomes(self, line: bytes) -> None:
+        """A job whose outcomes can't be read has failed, and the others run."""
+        text = f"    def test_tells(self): open(sys.argv[1], 'ab').write({line!r} + b'\\n')\n"
+        write_files(self.top, {"tests/credbook/test_tells.py": HEAD + text})
+        done = self.run_tests("test_tells", "tests/tools")
+        self.assertIn(
+            "FAILED: tests/credbook/test_tells: tests/credbook/test_tells\n", done.written
+        )
+        self.assertEqual(done.written.splitlines()[-1], "tests: 2 passed, 1 failed, 2 skipped")
+
     def test_without_rt(self) -> None:
         """Without rt nothing is compared with its code, and all else runs."""
         text = "all:\ncheck-proved:\n\t@echo only rt does this; exit 1\n"
@@ -260,8 +287,15 @@ class RunTests(Case):
 class Excuses(unittest.TestCase):
     @each(
         ("needs the program no-such-program", True),
-        ("needs the program sh", False),
+        ("needs the program misspelt-program", False),
+        ("needs the program make", False),
+        ("needs the program make, and more", False),
+        ("needs the program no-such-program, and more", False),
+        ("needs the program no-such-program\n", False),
+        ("needs the programs that nobody wrote", False),
+        ("needs the program", False),
         ("needs Python's module no_such_module", True),
+        ("needs Python's modules that nobody wrote", False),
         ("needs Python's module unittest", False),
         ("needs the file /no/such/*", True),
         ("needs the file /etc/pass*", False),
@@ -271,15 +305,44 @@ class Excuses(unittest.TestCase):
         ("needs the library c", False),
         ("needs the variable HOME", False),
         ("needs no variable HOME", True),
-        ("needs huge pages", True),
+        ("needs a newer cargo", True),
+        ("needs a newer cargo than this", False),
+        ("needs another kind of handler: test of options", True),
+        ("needs another kind of handlers", False),
+        ("needs to be root of all", False),
         ("needs more time", False),
         ("the machine is busy", False),
         ("it needs the program no-such-program", False),
         ("", False),
     )
     def test_excuses(self, reason: str, ought: bool) -> None:
-        with mock.patch.dict(os.environ, HOME="/"):
+        known = mock.patch.dict(needs.PROGRAMS, {"no-such-program": "nobody wrote it"})
+        with known, mock.patch.dict(os.environ, HOME="/"):
             self.assertEqual(needs.excuse(reason), ought)
+
+    @each(
+        ("a newer SQLAlchemy", "1.4.46", "2.0.1"),
+        ("a PHP with Argon2", "2y", "2y argon2i argon2id"),
+        ("a PHP with libargon2", "libc.so.6", "libargon2.so.1 => /usr/lib/libargon2.so.1"),
+        ("a PHP with pdo_sqlite", "pdo_mysql", "pdo_mysql\npdo_sqlite"),
+    )
+    def test_what_a_program_tells(self, what: str, lacking: str, having: str) -> None:
+        """A need that a program's output shows is an excuse only where it isn't there."""
+        for text, ought in ((lacking, True), (having, False), ("", True)):
+            with self.subTest(text=text), mock.patch.object(needs, "said_by", lambda *_: text):
+                self.assertEqual(needs.excuse(f"needs {what}"), ought)
+
+    @each(("always [madvise] never", False), ("always madvise [never]", True))
+    def test_huge_pages(self, text: str, ought: bool) -> None:
+        with mock.patch.object(needs, "HUGE_PAGES", mock.Mock(read_text=lambda: text)):
+            self.assertEqual(needs.excuse("needs huge pages"), ought)
+
+    @each(("cc", False), ("", False), ("musl-gcc", True))
+    def test_other_libraries(self, compiler: str, ought: bool) -> None:
+        """A library for musl is no excuse where it is for this machine's C library."""
+        with mock.patch.dict(os.environ, CC=compiler), mock.patch.object(needs, "IS_NATIVE", True):
+            for what in ("a glibc", "a processor and a C library of this machine"):
+                self.assertEqual(needs.excuse(f"needs {what}"), ought)
 
 
 class Jobs(unittest.TestCase):
