@@ -1,10 +1,12 @@
 """packaging/components.json has the notices of exactly those crates of the toolchain that
 crates.txt gives to our programs and to the library."""
 
+import re
 import sys
-import unittest
 
-from tests.helpers import TOP, each
+from tests import helpers
+from tests.helpers import TOP, each, need, run
+from tests.needs import need_file
 
 sys.path[:0] = [str(TOP / "tools"), str(TOP / "packaging")]
 import components  # noqa: E402
@@ -20,7 +22,7 @@ def used(crate):
     return {it for name in ours for it in tree.listed()[name][1]} - {*tree.listed()}
 
 
-class Components(unittest.TestCase):
+class Components(helpers.Case):
     @each(("credbook", "credbook"), ("credkeep", "credkeep"), ("librigzumal", "cred_c"))
     def test_crates_of(self, part, crate):
         """Each used crate is there by its name; a crate with a notice is used."""
@@ -28,6 +30,17 @@ class Components(unittest.TestCase):
         self.assertEqual(used(crate) - {*known}, set())
         noticed = {name for name, it in known.items() if it["licence"] != components.NOBODY}
         self.assertEqual(noticed - used(crate), THEIRS[part])
+
+    @each(*components.PROGRAMS)
+    def test_built(self, name):
+        """Each crate of which a built program has a symbol is among those of the program."""
+        program = TOP / "crates" / name / "out" / name
+        need_file(program)
+        need("nm")
+        known = {it["name"] for it in components.KNOWN["crates"] if name in it["in"]}
+        found = {*re.findall(r" (\w+)::", run("nm", "--no-demangle", program))}
+        self.assertIn("clap", found)
+        self.assertEqual(found - known - {*tree.listed()}, set())
 
     def test_entries(self):
         """Each name is there once, in order, and each notice names what the crate is after."""
