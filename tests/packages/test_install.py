@@ -36,6 +36,7 @@ done
 """
 INSTALLED = r"""
 # A copy of the tree, whose programs are sealed for a level.
+PATH=/usr/local/bin:$PATH
 mkdir "$ROOM/top" "$ROOM/top.work" "$ROOM/at"
 mount -t overlay overlay -o "lowerdir=$TOP,upperdir=$ROOM/top,workdir=$ROOM/top.work" "$TOP"
 printf %s "$SEAL_CREDBOOK" > "$TOP/crates/credbook/out/credbook.level"
