@@ -3,7 +3,10 @@
 //! lengths and on whether a whole text is base64.
 #![tactic(auto)]
 
-mod codec;
+mod decoding;
+mod encoding;
+mod letters;
 mod sextets;
 
-pub use codec::{NotBase64, decode, decoded_len, encode, encoded_len};
+pub use decoding::{NotBase64, decode, decoded_len};
+pub use encoding::{encode, encoded_len};

@@ -3,7 +3,8 @@
 ghost use Rattle.std.specs.Prelude.{◌≡◌};
 ghost use Rattle.cred_file.specs.declared.fault.Attempt.TheVariants as Attempt;
 
-use crate::marks::{Mark, Marks};
+use crate::mark::Mark;
+use crate::marks::Marks;
 use cred_book::{Name, Register};
 use cred_phc::{PhcError, Record};
 use sqlite::Error;

@@ -8,8 +8,10 @@ mod answer;
 mod ask;
 mod budget;
 mod costs;
+mod decoder;
 mod ending;
 mod fault;
+mod grammar;
 mod group;
 mod hashing;
 mod inbox;
@@ -24,6 +26,7 @@ mod sender;
 mod service;
 mod service_id;
 mod source;
+mod stopwatch;
 mod tries;
 
 pub use costs::Costs;
