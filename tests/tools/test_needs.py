@@ -75,6 +75,6 @@ class Programs(unittest.TestCase):
         missing = debian_packages.missing()
         for package, names in needs.OF_PACKAGES.items():
             if package not in missing:
-                for name in names.split():
+                for name in names:
                     with self.subTest(package, name=name):
                         self.assertFalse(needs.lacks_program(name))

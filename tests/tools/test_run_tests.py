@@ -126,7 +126,7 @@ class RunTests(Case):
             for name in names:
                 shutil.copy(TOP / folder / name, self.top / folder)
         with open(self.top / "tests/needs.py", "a") as file:
-            file.write('PROGRAMS["no-such-program"] = "nobody wrote it"\n')
+            file.write('PROGRAMS.add("no-such-program")\n')
         for folder in (
             "tests",
             "tests/tools",
