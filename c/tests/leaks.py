@@ -28,9 +28,12 @@ SECRET_CALLS = {
     # A text is cut at its '$', and its letters are compared with base64's.
     ("rigzumal_record_fault", "i"): [
         "strlen",
-        "cred_phc::pieces::",
+        "cred_phc::pieces::Pieces::",
+        "cred_phc::pieces::cut",
+        "cred_phc::pieces::first",
         "cred_phc::parse::",
-        "cred_base64::decoding::",
+        "cred_base64::codec::decode",
+        "cred_base64::codec::are_letters",
     ],
 }
 

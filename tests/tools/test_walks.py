@@ -114,7 +114,7 @@ def extended(file: str) -> set[str]:
 
 
 CLI, DAEMON = "crates/cred_cli/src", "python/rigzumal/server/daemon"
-RUN = [f"{CLI}/{it}.rt" for it in ("run", "event", "fields", "key")]
+RUN = [f"{CLI}/{it}.rt" for it in ("script", "event", "fields", "refusal")]
 
 
 class Walks(unittest.TestCase):

@@ -1,14 +1,14 @@
 -- A commit that heeds the marks.
 use Rattle.std.proofs.Common.{◌≡◌, List, ℕ, Option, Some, None, Ok, Bool, true, false, if◌then◌else◌, inl, inr, refl, sym, ap, ◌∙◌}
 use Rattle.cred_phc.specs.Values.{RecordValue}
-use Rattle.cred_book.specs.{Accounts.Accounts, Commits.Commits, Commits.commit_outcome_if, Commits.judgement, Commits.judgement_at, Commits.judgement_if, Works.Task, Works.makes_change, Works.name_of, Works.same, Works.whole, declared.reply.Reply.Reply}
+use Rattle.cred_book.specs.{Accounts.Accounts, Commits.Commits, Commits.commit_outcome_if, Commits.judgement, Commits.judgement_at, Commits.judgement_if, Works.Task, Works.makes_change, Works.name_of, Works.same, Works.whole, declared.request.Reply.Reply}
 use Rattle.cred_book.proofs.Commitments.{committed_found}
-use Rattle.cred_file.specs.declared.mark.Mark.{Mark}
+use Rattle.cred_file.specs.declared.marks.Mark.{Mark}
 use Rattle.cred_admin.specs.Marked.{MarkedBook, HeedsMarks, barred, barred_by, due, marked_book, marks_after, shut, tried, tried_at, tried_if, with_commit}
 use Rattle.cred_admin.specs.declared.verdict.Verdict.{Verdict}
 use Rattle.cred_admin.specs.declared.verdict.Verdict.TheVariants.{Told}
 use Rattle.std.specs.FinMap as map
-use Rattle.cred_book.specs.declared.reply.Reply.TheVariants as reply
+use Rattle.cred_book.specs.declared.request.Reply.TheVariants as reply
 
 pub book_is : (t : MarkedBook) (b : Accounts) (m : List ℕ → Mark) → t.accounts ≡ b → t.marks ≡ m → t ≡ marked_book b m
 book_is t b m accounts marks = ap (λ x. marked_book x t.marks) accounts ∙ ap (marked_book b) marks

@@ -3,7 +3,7 @@ use Rattle.std.proofs.Common.{Bool, true, false, cond, if◌then◌else◌, is_s
 use Rattle.std.specs.{Cmp.eq_by_cmp_equiv, Cmp.Lexicographic.nat_list_cmp_total, Ordering.eq_by_cmp}
 use Rattle.cred_phc.specs.Values.{RecordValue}
 use Rattle.cred_book.specs.{Accounts.Accounts, Names.name_cmp}
-use Rattle.cred_file.specs.{Cells.AllMarks, Cells.marked, Cells.unmarked, declared.mark.Mark.Mark}
+use Rattle.cred_file.specs.{Cells.AllMarks, Cells.marked, Cells.unmarked, declared.marks.Mark.Mark}
 use Rattle.cred_file.proofs.TableLemmas.{same_name}
 use Rattle.cred_admin.specs.Import.{HasNone, Tally, entry_of, entry_with, is_costly, nothing_yet, said_of, tally_from, with_account, with_bad, with_change, with_entry, with_existing, with_kept, with_line}
 use Rattle.cred_admin.specs.{declared.entry.LineAccount.LineAccount, declared.entry.LineFault.LineFault, declared.entry.Said.Said, declared.import.Existing.Existing, declared.entry.Said.TheVariants.Nothing, declared.entry.Said.TheVariants.Account}

@@ -7,7 +7,7 @@ use Rattle.cred_admin.specs.Marked.{MarkedBook, HeedsMarks, tried, tried_at}
 use Rattle.cred_admin.specs.declared.verdict.Verdict.{Verdict}
 use Rattle.cred_admin.specs.declared.verdict.Verdict.TheVariants.{Told}
 use Rattle.std.specs.FinMap as map
-use Rattle.cred_book.specs.declared.reply.Reply.TheVariants as reply
+use Rattle.cred_book.specs.declared.request.Reply.TheVariants as reply
 
 pub no_account : (s : MarkedBook) (request : Request) → map.get s.accounts (name_of request) ≡ None → (Told reply.NoAccount, s) ≡ tried s request
 unfolding tried

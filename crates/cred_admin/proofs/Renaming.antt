@@ -5,7 +5,7 @@ use Rattle.cred_phc.specs.Values.{RecordValue}
 use Rattle.cred_book.specs.Accounts.{Accounts}
 use Rattle.cred_book.specs.declared.error.BookError.TheVariants as error
 use Rattle.cred_admin.specs.declared.edit_reply.EditReply.TheVariants as reply
-use Rattle.cred_file.specs.{Cells.cells_of, Cells.mark_in, Cells.marked, Cells.renewed, Cells.unmarked, Edits.renamed, declared.mark.Mark.Mark}
+use Rattle.cred_file.specs.{Cells.cells_of, Cells.mark_in, Cells.marked, Cells.renewed, Cells.unmarked, Edits.renamed, declared.marks.Mark.Mark}
 use Rattle.cred_file.proofs.CellLaws.{mark_here}
 use Rattle.cred_admin.specs.{Edits.EditsWithin, Marked.expired, Marked.locked, Marked.marked_book, Marked.unlocked}
 use Rattle.cred_admin.specs.declared.edits.Edit.TheVariants.{Disable, Delete, Rename, Lock, Unlock, Expire}

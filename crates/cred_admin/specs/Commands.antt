@@ -2,7 +2,7 @@
 use Rattle.std.specs.Io.KnownBytes.{Keeps}
 use Rattle.std.specs.Prelude.{◌≡◌, ◌⊎◌, ℕ, List, Bool, not, Option, Some, None, Result, Ok, Err, IfErr, true, false}
 use Rattle.cred_phc.specs.Values.{RecordValue}
-use Rattle.cred_book.specs.{Works.new_record, declared.reply.Reply.Reply}
+use Rattle.cred_book.specs.{Works.new_record, declared.request.Reply.Reply}
 use Rattle.cred_file.specs.Edits.{has_room_for}
 use Rattle.cred_admin.specs.{Lines.IsMisread, Lines.Reads, Listing.Tells, Seen.Seen, Marked.MarkedBook, Marked.tried, Marked.with_account, Marked.with_record, Statuses.hint_of, Statuses.verdict_line, Statuses.verdict_status}
 use Rattle.cred_admin.specs.declared.operation.Operation.TheVariants.{Add, Check, Change, Reset, Upgrade, Remove}
@@ -10,7 +10,7 @@ use Rattle.cred_admin.specs.{declared.fault.Fault.Fault, declared.operation.Oper
 use Rattle.cred_admin.specs.{declared.password.Typed.Typed, declared.status.Hint.Hint, declared.status.Status.Status, declared.verdict.Verdict.Verdict, declared.verdict.Verdict.TheVariants.Told}
 use Rattle.cred_admin.specs.declared.password.Passwords.TheVariants.{Present, New, PresentAndNew}
 use Rattle.std.specs.FinMap as map
-use Rattle.cred_book.specs.declared.reply.Reply.TheVariants as reply
+use Rattle.cred_book.specs.declared.request.Reply.TheVariants as reply
 use Rattle.cred_book.specs.declared.request.Request.TheVariants as request
 use Rattle.cred_admin.specs.declared.fault.Fault.TheVariants as fault
 

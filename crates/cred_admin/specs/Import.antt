@@ -6,7 +6,7 @@ use Rattle.cred_phc.specs.declared.error.PhcError.{PhcError}
 use Rattle.cred_book.specs.{Accounts.Accounts, Accounts.register_capacity, Errors.error_number as refusal_number, Errors.error_word as refusal_word}
 use Rattle.cred_book.specs.{Names.made_name, declared.error.BookError.BookError}
 use Rattle.cred_cli.specs.{Costs.exceeds, declared.costs.CostBounds.CostBounds}
-use Rattle.cred_file.specs.{Cells.AllMarks, Cells.mark_at, Cells.mark_of, Cells.marked, Cells.rest_of, Cells.unmarked, declared.mark.Mark.Mark}
+use Rattle.cred_file.specs.{Cells.AllMarks, Cells.mark_at, Cells.mark_of, Cells.marked, Cells.rest_of, Cells.unmarked, declared.marks.Mark.Mark}
 use Rattle.cred_admin.specs.{declared.entry.LineAccount.LineAccount, declared.entry.LineFault.LineFault, declared.entry.Said.Said, declared.import.Rules.Rules}
 use Rattle.cred_admin.specs.declared.entry.LineFault.TheVariants.{Line, Text, Book, Costly, Locked as IsLocked}
 use Rattle.cred_admin.specs.declared.entry.Said.TheVariants.{Nothing, Account}

@@ -2,9 +2,9 @@
 use Rattle.std.specs.Prelude.{◌≡◌, ℕ, List, [], ◌∷◌, ◌++◌, Option, Some, None, Result, Ok, Err, true, ◌⊎◌, ◌<◌, codes, if◌then◌else◌, length, take}
 use Rattle.std.specs.{Io.KnownBytes.Appends, Io.KnownBytes.Keeps, List.flat_map}
 use Rattle.cred_phc.specs.{Values.RecordValue, Text.record_text, Text.scheme_text}
-use Rattle.cred_file.specs.{Cells.mark_text, declared.mark.Mark.Mark}
+use Rattle.cred_file.specs.{Cells.mark_text, declared.marks.Mark.Mark}
 use Rattle.cred_admin.specs.Marked.{MarkedBook}
-use Rattle.cred_book.specs.declared.reply.Reply.TheVariants as reply
+use Rattle.cred_book.specs.declared.request.Reply.TheVariants as reply
 use Rattle.cred_admin.specs.declared.listing.LineForm.{LineForm}
 use Rattle.cred_admin.specs.declared.listing.LineForm.TheVariants as line
 use Rattle.cred_admin.specs.{declared.detail.Detail.Detail, declared.detail.Detail.TheVariants.Costs, declared.detail.Detail.TheVariants.Record, declared.fault.Fault.Fault}

@@ -1,6 +1,6 @@
 -- The exit statuses, and when each is answered.
 use Rattle.std.specs.Prelude.{ℕ, ◌-◌, ◌==◌, if◌then◌else◌, List, codes, length, Option, Some, None, slice_get}
-use Rattle.cred_book.specs.{declared.error.BookError.BookError, declared.reply.Reply.Reply}
+use Rattle.cred_book.specs.{declared.error.BookError.BookError, declared.request.Reply.Reply}
 use Rattle.cred_admin.specs.{declared.fault.Fault.Fault, declared.status.Hint.Hint, declared.status.Hint.TheVariants.CarriageReturn}
 use Rattle.cred_admin.specs.declared.status.Status.{Status}
 use Rattle.cred_admin.specs.declared.verdict.Verdict.{Verdict}
@@ -8,7 +8,7 @@ use Rattle.cred_admin.specs.declared.verdict.Verdict.TheVariants.{Told, Expired,
 use Rattle.cred_cli.specs.Texts.{reply_line}
 use Rattle.cred_admin.specs.declared.status.Status.TheVariants.{Done, Usage, Io, Memory, No, Database, Data}
 use Rattle.cred_book.specs.declared.error.BookError.TheVariants as error
-use Rattle.cred_book.specs.declared.reply.Reply.TheVariants as reply
+use Rattle.cred_book.specs.declared.request.Reply.TheVariants as reply
 use Rattle.cred_admin.specs.declared.fault.Fault.TheVariants as fault
 
 abbrev pub number_of : Status → ℕ

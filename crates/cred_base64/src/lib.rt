@@ -3,10 +3,7 @@
 //! lengths and on whether a whole text is base64.
 #![tactic(auto)]
 
-mod decoding;
-mod encoding;
-mod letters;
+mod codec;
 mod sextets;
 
-pub use decoding::{NotBase64, decode, decoded_len};
-pub use encoding::{encode, encoded_len};
+pub use codec::{NotBase64, decode, decoded_len, encode, encoded_len};

@@ -1,10 +1,45 @@
-//! Bytes in groups of six bits, and back: three bytes are four groups.
+//! Six bits and their letter, by arithmetic, and bytes in groups of six bits: three bytes are four
+//! groups.
 
-ghost use Rattle.std.specs.Prelude.{◌≡◌, ℕ, ◌<◌, List, length, slice_index};
+ghost use Rattle.std.specs.Prelude.{◌≡◌, ℕ, ◌<◌, List, length, nat_le, slice_index, if◌then◌else◌};
 ghost use Rattle.base64.specs.GeneralPurpose.{IsBytes};
-ghost use Rattle.cred_base64.specs.{Letters.letters_of, Sextets.sextet_at};
+ghost use Rattle.cred_base64.specs.{Letters.letter_of, Letters.letters_of, Sextets.sextet_at};
 
-use crate::letters::sextet_of;
+/// Returns the letter of six bits. `A` to `Z`, `a` to `z`, `0` to `9`, `+` and `/` stand for 0 to
+/// 63, so there is a step where each of these runs begins.
+#[tactic(auto, using(crate::proofs::LetterLaws::letter_code_is))]
+pub(crate) fn letter(sextet: u8) -> u8
+    requires { sextet < 64 }
+    ensures { result ≡ letter_of sextet }
+{
+    let sextet = u16::from(sextet);
+    let lower = 65 + sextet + 6 * reaches(sextet, 26);
+    let digits = lower - 75 * reaches(sextet, 52);
+    let signs = digits - 15 * reaches(sextet, 62) + 3 * reaches(sextet, 63);
+    signs as u8
+}
+
+/// Returns the six bits that a letter encodes, and some six bits if the byte is no letter.
+pub(crate) fn sextet_of(letter: u8) -> u8
+    ensures letters { (sextet : ℕ) → sextet < 64 → letter ≡ letter_of sextet → result ≡ sextet }
+    ensures six_bits { result < 64 }
+{
+    let letter = u16::from(letter);
+    let signs = letter + 19 - 3 * reaches(letter, 44);
+    let digits = signs - 12 * reaches(letter, 48);
+    let upper = digits + 59 * reaches(letter, 58);
+    let lower = upper - 6 * reaches(letter, 91);
+    (lower % 64) as u8
+}
+
+/// Returns 1 if the number is at least `least`, otherwise 0.
+fn reaches(number: u16, least: u16) -> u16
+    requires number { number < 256 }
+    requires least { least < 256 }
+    ensures { result ≡ (if nat_le least number then 1 else 0) }
+{
+    (number + 256 - least) / 256
+}
 
 /// Returns the six bits at a place of the bytes, with zero bits after the last byte.
 pub(crate) fn sextet(bytes: &[u8], place: usize) -> u8

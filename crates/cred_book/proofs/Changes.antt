@@ -6,7 +6,7 @@ use Rattle.cred_phc.specs.Values.{RecordValue}
 use Rattle.cred_book.specs.{Accounts.Accounts, Changes.change_with, Changes.change_of, Changes.judged_book}
 use Rattle.cred_book.specs.Commits.{commit_outcome, commit_outcome_at, commit_outcome_if, judgement, judgement_at, judgement_if}
 use Rattle.cred_book.specs.{Works.Task, Works.name_of, Works.same, Works.same_scheme, Works.whole, Works.makes_change, Works.right}
-use Rattle.cred_book.specs.{declared.reply.Reply.Reply, declared.request.Request.Request}
+use Rattle.cred_book.specs.{declared.request.Reply.Reply, declared.request.Request.Request}
 use Rattle.cred_book.specs.declared.request.Request.TheVariants.{Enrol, Verify, Change as Replace, Upgrade, Remove}
 use Rattle.cred_book.proofs.{Equality.same-Decides, Rows.row_again}
 

@@ -6,8 +6,8 @@ use Rattle.cred_phc.specs.Values.{RecordValue}
 use Rattle.cred_book.specs.{Accounts.Accounts, Calls.EntersWithin, Calls.Shows, declared.error.BookError.BookError}
 use Rattle.cred_book.specs.declared.error.BookError.TheVariants as error
 use Rattle.cred_book.specs.Commits.{commit_outcome, commit_outcome_at, commit_outcome_if, judgement, judgement_at, judgement_if}
-use Rattle.cred_book.specs.{Works.Task, Works.name_of, Works.same, Works.whole, Works.makes_change, declared.reply.Reply.Reply}
-use Rattle.cred_book.specs.declared.reply.Reply.TheVariants as reply
+use Rattle.cred_book.specs.{Works.Task, Works.name_of, Works.same, Works.whole, Works.makes_change, declared.request.Reply.Reply}
+use Rattle.cred_book.specs.declared.request.Reply.TheVariants as reply
 use Rattle.cred_book.proofs.{Changes.insert_again, Equality.same-Decides}
 
 -- the answer at a record, by the test whether it is the copied one

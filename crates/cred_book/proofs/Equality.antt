@@ -2,9 +2,9 @@
 use Rattle.std.proofs.Common.{◌≡◌, Bool, ◌&&◌, Option, Some, None, refl, ap, ◌∙◌}
 use Rattle.std.proofs.{lemmas.Bool.Decides.Decides-and, lemmas.Bool.Decides.Decides-like, lemmas.Bool.Decides.Decides-eqb, lemmas.Slice.Eq.bytes_eq-Decides}
 use Rattle.std.specs.Bool.{Decides}
-use Rattle.cred_phc.specs.{declared.scheme.Scheme.Scheme, declared.scheme.Scheme.TheVariants.Argon2, declared.scheme.Scheme.TheVariants.Scrypt}
-use Rattle.cred_phc.specs.{Names.Version, Names.V10, Names.V13, declared.scheme.Variant.Variant}
-use Rattle.cred_phc.specs.declared.scheme.Variant.TheVariants.{D, I, Id}
+use Rattle.cred_phc.specs.{declared.setting.Scheme.Scheme, declared.setting.Scheme.TheVariants.Argon2, declared.setting.Scheme.TheVariants.Scrypt}
+use Rattle.cred_phc.specs.{Names.Version, Names.V10, Names.V13, declared.setting.Variant.Variant}
+use Rattle.cred_phc.specs.declared.setting.Variant.TheVariants.{D, I, Id}
 use Rattle.cred_phc.specs.Values.{RecordValue, setting_of, record_of}
 use Rattle.cred_book.specs.Works.{same_version, same_variant, same_scheme, same_record, same}
 

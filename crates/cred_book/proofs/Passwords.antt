@@ -6,7 +6,7 @@ use Rattle.std.proofs.lemmas.Slice.Eq.{bytes_eq-Decides}
 use Rattle.cred_phc.specs.{Tags.tag, Values.RecordValue}
 use Rattle.cred_book.specs.{Accounts.Accounts, Commits.judgement, Commits.judgement_at, Commits.judgement_if, Passwords.IsPasswordAt, Passwords.IsPasswordOf}
 use Rattle.cred_book.specs.Works.{right, same, whole}
-use Rattle.cred_book.specs.declared.reply.Reply.TheVariants as reply
+use Rattle.cred_book.specs.declared.request.Reply.TheVariants as reply
 use Rattle.cred_book.specs.declared.request.Request.TheVariants.{Verify}
 
 right_decides : (stored : RecordValue) (pw : List ℕ) → Decides (right stored pw) (IsPasswordOf stored pw)

@@ -5,7 +5,7 @@ use Rattle.std.specs.{Cmp.Lexicographic.nat_list_cmp_total, Ordering.eq_by_cmp, 
 use Rattle.cred_phc.specs.{Values.RecordValue, Values.SettingValue, Values.record_of}
 use Rattle.cred_book.specs.{Accounts.Accounts, Names.name_cmp, Passwords.KeepsTags, Passwords.made_setting, Passwords.with_passwords, Works.name_of, Works.new_record, Works.right, Works.seq, Works.seq_at, Works.whole, declared.request.Request.Request}
 use Rattle.cred_book.specs.declared.request.Request.TheVariants.{Enrol, Verify, Change, Upgrade, Remove}
-use Rattle.cred_book.specs.declared.reply.Reply.TheVariants as reply
+use Rattle.cred_book.specs.declared.request.Reply.TheVariants as reply
 use Rattle.cred_book.proofs.Rows.{same_names}
 
 -- ---- one account

@@ -5,8 +5,8 @@ use Rattle.std.specs.FinMap as map
 use Rattle.cred_phc.specs.Values.{RecordValue}
 use Rattle.cred_book.specs.{Accounts.Accounts, Commits.commit_outcome, Commits.commit_outcome_at, Commits.commit_outcome_if, Names.name_cmp}
 use Rattle.cred_book.specs.Updates.{HasDone, IsConditional, IsExact, IsLog, IsWorked, Rows, Update, answer, operation_of, operations_done, outcome_at, outcome_on, refusal, replies_done, seq_after, seq_replies, standing, store_after, update_of, updated, with_row}
-use Rattle.cred_book.specs.{Works.Task, Works.name_of, Works.same, Works.seq, Works.seq_at, declared.reply.Reply.Reply}
-use Rattle.cred_book.specs.{declared.reply.Reply.TheVariants.NoAccount, declared.request.Request.Request}
+use Rattle.cred_book.specs.{Works.Task, Works.name_of, Works.same, Works.seq, Works.seq_at, declared.request.Reply.Reply}
+use Rattle.cred_book.specs.{declared.request.Reply.TheVariants.NoAccount, declared.request.Request.Request}
 use Rattle.cred_book.proofs.{Equality.same-Decides, Rows.get_row, Rows.row_again, Rows.same_names}
 
 -- ---- one update

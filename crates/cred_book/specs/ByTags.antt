@@ -4,8 +4,8 @@ use Rattle.std.specs.Str.{bytes_eq}
 use Rattle.cred_phc.specs.{Values.SettingValue, Values.RecordValue, Values.record_of}
 use Rattle.cred_book.specs.{Works.same_scheme, declared.request.Request.Request}
 use Rattle.cred_book.specs.declared.request.Request.TheVariants.{Enrol, Verify, Change, Upgrade, Remove}
-use Rattle.cred_book.specs.declared.reply.Reply.{Reply}
-use Rattle.cred_book.specs.declared.reply.Reply.TheVariants as reply
+use Rattle.cred_book.specs.declared.request.Reply.{Reply}
+use Rattle.cred_book.specs.declared.request.Reply.TheVariants as reply
 
 -- a tag of so many bytes for a password under a setting
 abbrev pub TagFunction : Type 0

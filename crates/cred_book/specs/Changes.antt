@@ -2,8 +2,8 @@
 use Rattle.std.specs.Prelude.{ℕ, List, Bool, if◌then◌else◌, Option, Some, None}
 use Rattle.std.specs.FinMap as map
 use Rattle.cred_phc.specs.Values.{RecordValue}
-use Rattle.cred_book.specs.{Accounts.Accounts, Works.Task, Works.name_of, Works.whole, Works.makes_change, declared.change.Change.Change}
-use Rattle.cred_book.specs.declared.reply.Reply.{Reply}
+use Rattle.cred_book.specs.{Accounts.Accounts, Works.Task, Works.name_of, Works.whole, Works.makes_change, declared.request.Change.Change}
+use Rattle.cred_book.specs.declared.request.Reply.{Reply}
 
 -- the change of an operation with this outcome, if it makes one
 abbrev pub change_with : List ℕ → Reply × Option RecordValue → Option Change

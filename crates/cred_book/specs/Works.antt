@@ -2,14 +2,14 @@
 use Rattle.std.specs.Prelude.{ℕ, List, length, Bool, true, false, ◌&&◌, not, ◌==◌, if◌then◌else◌, Option, Some, None}
 use Rattle.std.specs.Str.{bytes_eq}
 use Rattle.std.specs.FinMap as map
-use Rattle.cred_phc.specs.{declared.scheme.Scheme.Scheme, declared.scheme.Scheme.TheVariants.Argon2, declared.scheme.Scheme.TheVariants.Scrypt}
-use Rattle.cred_phc.specs.{Names.Version, Names.V10, Names.V13, declared.scheme.Variant.Variant}
-use Rattle.cred_phc.specs.declared.scheme.Variant.TheVariants.{D, I, Id}
+use Rattle.cred_phc.specs.{declared.setting.Scheme.Scheme, declared.setting.Scheme.TheVariants.Argon2, declared.setting.Scheme.TheVariants.Scrypt}
+use Rattle.cred_phc.specs.{Names.Version, Names.V10, Names.V13, declared.setting.Variant.Variant}
+use Rattle.cred_phc.specs.declared.setting.Variant.TheVariants.{D, I, Id}
 use Rattle.cred_phc.specs.{Ranges.is_current, Tags.tag, Values.SettingValue, Values.RecordValue, Values.record_of}
 use Rattle.cred_book.specs.{Accounts.Accounts, declared.request.Request.Request}
 use Rattle.cred_book.specs.declared.request.Request.TheVariants.{Enrol, Verify, Change, Upgrade, Remove}
-use Rattle.cred_book.specs.declared.reply.Reply.{Reply}
-use Rattle.cred_book.specs.declared.reply.Reply.TheVariants as reply
+use Rattle.cred_book.specs.declared.request.Reply.{Reply}
+use Rattle.cred_book.specs.declared.request.Reply.TheVariants as reply
 
 -- ---- equality of records, as a test
 

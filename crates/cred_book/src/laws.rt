@@ -10,8 +10,7 @@ ghost use Rattle.cred_book.specs.Passwords.{IsPasswordAt, IsPasswordOf, KeepsTag
 ghost use Rattle.cred_book.specs.Updates.{HasDone, IsConditional, IsExact, IsLog, Rows, Update, answer, operation_of, operations_done, outcome_on, replies_done, seq_after, seq_replies, standing, store_after, update_of, updated};
 ghost use Rattle.cred_book.specs.Works.{Task, makes_change, name_of, seq, whole};
 
-use crate::reply::Reply;
-use crate::request::Request;
+use crate::request::{Reply, Request};
 
 /// A commit that makes a change makes the change that its work announced, and any other commit
 /// leaves the book unchanged. A commit answers and does what `judge` says.

@@ -9,25 +9,18 @@
 mod account_book;
 mod account_map;
 mod book;
-mod change;
 mod error;
-mod keeper;
 mod laws;
 mod name;
 mod outcome;
 mod register;
-mod reply;
 mod request;
-mod same;
-mod slot;
 mod ticket;
 
-pub use account_book::AccountBook;
+pub use account_book::{AccountBook, Keeper};
 pub use account_map::AccountMap;
 pub use book::{AccountArray, Book};
-pub use change::Change;
 pub use error::BookError;
-pub use keeper::Keeper;
 pub use laws::{
     a_password_counts_by_its_tags, an_answer_tells_of_one_account, change_is_committed,
     passwords_are_seen_by_their_tags, requests_are_operations, updates_are_one_history,
@@ -35,9 +28,6 @@ pub use laws::{
 };
 pub use name::Name;
 pub use outcome::Hashing;
-pub use register::{AccountTree, Register};
-pub use reply::Reply;
-pub use request::Request;
-pub use same::same_is_equality;
-pub use slot::Slot;
-pub use ticket::{Ticket, VerifyWorked, Worked};
+pub use register::{AccountTree, Register, Slot};
+pub use request::{Change, Reply, Request};
+pub use ticket::{Ticket, VerifyWorked, Worked, same_is_equality};

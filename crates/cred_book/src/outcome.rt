@@ -5,8 +5,7 @@ ghost use Rattle.cred_phc.specs.Tags.{tag};
 ghost use Rattle.cred_book.specs.Works.{new_record, right, upgrade_outcome, whole};
 ghost use denote.Param.Send.{IsSync};
 
-use crate::reply::Reply;
-use crate::request::Request;
+use crate::request::{Reply, Request};
 use crate::ticket::Ticket;
 use cred_phc::{Password, Record, Scratch, Setting, Tag, TagError, tag_in, tag_of};
 use cred_pool::Gate;

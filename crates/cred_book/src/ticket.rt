@@ -1,14 +1,12 @@
 //! An operation between its begin and its commit: the request with a copy of its account's record,
-//! and then its effect at the copy.
+//! then its effect at the copy, and the test whether the record still equals the copy.
 
-ghost use Rattle.std.specs.Prelude.{◌≡◌, IfErr, IfOk, true, false};
-ghost use Rattle.cred_book.specs.{Changes.change_of, Commits.judgement_at, Works.is_verify, Works.whole};
+ghost use Rattle.std.specs.Prelude.{◌≡◌, ◌↔◌, IfErr, IfOk, IsTrue, Option, true, false};
+ghost use Rattle.cred_phc.specs.Values.{RecordValue};
+ghost use Rattle.cred_book.specs.{Changes.change_of, Commits.judgement_at, Works.is_verify, Works.same, Works.whole};
 
-use crate::change::Change;
 use crate::outcome::{Hashing, HashingIn, Operations, Outcome};
-use crate::reply::Reply;
-use crate::request::Request;
-use crate::same::is_same;
+use crate::request::{Change, Reply, Request};
 use cred_phc::{Record, Scratch, TagError};
 use cred_pool::Gate;
 use std::alloc::Global;
@@ -239,3 +237,21 @@ impl VerifyWorked {
         &self.worked
     }
 }
+
+/// Whether all parts of the two records are equal, or both are none.
+pub(crate) fn is_same(a: &Option<Record>, b: &Option<Record>) -> bool
+    ensures { result ≡ same a.now b.now }
+{
+    is_equal(a, b)
+}
+
+fn is_equal(a: &Option<Record>, b: &Option<Record>) -> bool
+    ensures { IsTrue result ↔ (a.now ≡ b.now) }
+{
+    *a == *b
+}
+
+/// States a law: the test by which definitions compare records is equality.
+pub fn same_is_equality()
+    ensures { (a b : Option RecordValue) → (same a b ≡ true) ↔ (a ≡ b) }
+{}

@@ -3,8 +3,8 @@ use Rattle.std.proofs.Common.{◌≡◌, ◌∙◌, ◌⊎◌, ◌↔◌, ℕ, L
 use Rattle.cred_argon.specs.{Argon.argon, Parameters.Parameters, Parameters.parameters, declared.block.Block.Block}
 use Rattle.cred_argon.specs.declared.error.ArgonError.TheVariants.{Memory}
 use Rattle.cred_phc.specs.{Tags.argon_kind, Tags.argon_parameters, Tags.scheme_tag, Tags.tag, Text.record_text}
-use Rattle.cred_phc.specs.{Values.RecordValue, Values.SettingValue, Values.record_of, declared.scheme.Scheme.Scheme}
-use Rattle.cred_phc.specs.declared.scheme.Scheme.TheVariants.{Argon2, Scrypt}
+use Rattle.cred_phc.specs.{Values.RecordValue, Values.SettingValue, Values.record_of, declared.setting.Scheme.Scheme}
+use Rattle.cred_phc.specs.declared.setting.Scheme.TheVariants.{Argon2, Scrypt}
 use Rattle.cred_c.specs.Answers.{IsWritten, Output, output}
 use Rattle.cred_c.specs.Lanes.{IsFilled, IsSlice, IsEndUnder, IsRecordEndUnder, part_fault_number, record_inputs}
 use Rattle.cred_c.specs.declared.part_fault.PartFault.{PartFault}

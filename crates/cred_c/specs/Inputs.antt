@@ -3,8 +3,8 @@ use Rattle.std.specs.Prelude.{◌≡◌, ℕ, ◌≤◌, ◌⊎◌, List, Result
 use Rattle.cred_argon.specs.{Numbers.kind_number, Numbers.version_number, Parameters.Parameters, Parameters.parameters, declared.kind.Kind.Kind}
 use Rattle.cred_argon.specs.declared.kind.Version.{Version}
 use Rattle.cred_c.specs.{declared.raw.ScryptNumbers.ScryptNumbers, declared.tag_numbers.Argon2Numbers.Argon2Numbers}
-use Rattle.cred_phc.specs.{declared.error.PhcError.PhcError, declared.scheme.Scheme.Scheme, declared.scheme.Scheme.TheVariants.Argon2}
-use Rattle.cred_phc.specs.{declared.scheme.Variant.Variant, Values.RecordValue, Values.SettingValue, Values.made_setting, Values.made_record}
+use Rattle.cred_phc.specs.{declared.error.PhcError.PhcError, declared.setting.Scheme.Scheme, declared.setting.Scheme.TheVariants.Argon2}
+use Rattle.cred_phc.specs.{declared.setting.Variant.Variant, Values.RecordValue, Values.SettingValue, Values.made_setting, Values.made_record}
 
 -- a kind of Argon2
 abbrev pub IsKind : ℕ → Type 0

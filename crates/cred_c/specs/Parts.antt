@@ -2,8 +2,8 @@
 use Rattle.std.specs.Prelude.{ℕ, length}
 use Rattle.cred_argon.specs.Numbers.{kind_number, version_number}
 use Rattle.cred_c.specs.declared.parts.Parts.{Parts}
-use Rattle.cred_phc.specs.{Tags.argon_kind, Values.RecordValue, declared.scheme.Scheme.Scheme}
-use Rattle.cred_phc.specs.{declared.scheme.Scheme.TheVariants.Argon2, declared.scheme.Scheme.TheVariants.Scrypt, declared.scheme.Variant.Variant}
+use Rattle.cred_phc.specs.{Tags.argon_kind, Values.RecordValue, declared.setting.Scheme.Scheme}
+use Rattle.cred_phc.specs.{declared.setting.Scheme.TheVariants.Argon2, declared.setting.Scheme.TheVariants.Scrypt, declared.setting.Variant.Variant}
 
 abbrev pub variant_number : Variant → ℕ
 variant_number variant = kind_number (argon_kind variant)

@@ -3,8 +3,8 @@ use Rattle.std.specs.Prelude.{◌≡◌, ℕ, ◌≤◌, Option, Some, None, len
 use Rattle.cred_argon.specs.Numbers.{version_number}
 use Rattle.cred_c.specs.{Parts.variant_number, declared.reading.RecordReading.RecordReading, declared.reading.SettingReading.SettingReading}
 use Rattle.cred_c.specs.declared.tag_numbers.TagNumbers.{TagNumbers}
-use Rattle.cred_phc.specs.{Values.RecordValue, Values.SettingValue, declared.scheme.Scheme.Scheme}
-use Rattle.cred_phc.specs.declared.scheme.Scheme.TheVariants.{Argon2, Scrypt}
+use Rattle.cred_phc.specs.{Values.RecordValue, Values.SettingValue, declared.setting.Scheme.Scheme}
+use Rattle.cred_phc.specs.declared.setting.Scheme.TheVariants.{Argon2, Scrypt}
 
 -- the numbers of a tag of len bytes by a scheme, if it is one of Argon2
 abbrev pub tag_numbers : Scheme → ℕ → Option TagNumbers

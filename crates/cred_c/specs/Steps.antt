@@ -4,8 +4,8 @@ use Rattle.std.specs.Prelude.{◌≡◌, ◌⊎◌, ℕ, ◌==◌, if◌then◌e
 use Rattle.std.specs.Option.{option_map}
 use Rattle.cred_phc.specs.{Errors.error_number, Faults.record_fault, Faults.setting_fault, Text.IsRecordText, Text.IsSettingText, Text.record_text}
 use Rattle.cred_phc.specs.Values.{IsRecord, IsSetting, RecordValue, password_fits}
-use Rattle.cred_book.specs.{Works.makes_change, declared.reply.Reply.Reply}
-use Rattle.cred_book.specs.declared.reply.Reply.TheVariants as reply
+use Rattle.cred_book.specs.{Works.makes_change, declared.request.Reply.Reply}
+use Rattle.cred_book.specs.declared.request.Reply.TheVariants as reply
 use Rattle.cred_book.specs.declared.request.Request.{Request}
 use Rattle.cred_book.specs.declared.request.Request.TheVariants as request
 use Rattle.cred_c.specs.{Answers.IsWritten, Answers.Output, declared.operation.RecordOperation.RecordOperation}

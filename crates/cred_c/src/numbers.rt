@@ -2,7 +2,7 @@
 ghost use Rattle.std.specs.Prelude.{◌≡◌, ◌<◌, ◌≤◌, ◌↔◌, IfSome, None, Some};
 ghost use Rattle.cred_argon.specs.{Numbers.kind_number, Numbers.version_number, declared.kind.Kind.Kind, declared.kind.Version.Version};
 ghost use Rattle.cred_c.specs.{Answers.argon_number, Answers.scrypt_number, Inputs.IsVersion, Parts.variant_number};
-ghost use Rattle.cred_phc.specs.declared.scheme.Variant.{Variant};
+ghost use Rattle.cred_phc.specs.declared.setting.Variant.{Variant};
 
 use cred_argon::{ArgonError, Kind, Version};
 use cred_phc::Variant;

@@ -3,7 +3,7 @@
 ghost use Rattle.std.specs.Prelude.{◌≡◌, ◌≤◌, IfSome, IsTrue, Some, length, take};
 ghost use Rattle.cred_c.specs.{Lanes.AreNumbers, Lanes.record_parameters, Readings.IsReadRecord, Readings.IsReadSetting, Readings.tag_numbers};
 ghost use Rattle.cred_phc.specs.{Ranges.scheme_fits, Tags.argon_parameters, Values.IsRecord, Values.IsSetting, Values.RecordValue, Values.SettingValue};
-ghost use Rattle.cred_phc.specs.declared.scheme.Scheme.{Scheme};
+ghost use Rattle.cred_phc.specs.declared.setting.Scheme.{Scheme};
 
 use crate::numbers::{DONE, variant_of, version_of};
 use crate::part_fault::PartFault;

@@ -3,7 +3,7 @@ ghost use Rattle.std.specs.Prelude.{◌≡◌, ◌<◌, ◌↔◌, drop};
 ghost use Rattle.cred_argon.specs.declared.kind.Version.{Version};
 ghost use Rattle.cred_c.specs.{Answers.IsWritten, Answers.output, Inputs.AreOf, Inputs.IsKind, Inputs.IsVersion, Inputs.record_of_parts, Inputs.record_scheme};
 ghost use Rattle.cred_phc.specs.{Errors.error_number, Tags.argon_kind, Text.record_text, Values.RecordValue, declared.error.PhcError.PhcError};
-ghost use Rattle.cred_phc.specs.declared.scheme.Variant.{Variant};
+ghost use Rattle.cred_phc.specs.declared.setting.Variant.{Variant};
 
 use crate::numbers::{DONE, NO_KIND, NO_ROOM, NO_VERSION, byte_of, variant_of, version_of};
 use crate::tag_numbers::Argon2Numbers;

@@ -3,7 +3,7 @@ use Rattle.std.proofs.Common.{◌≡◌, ℕ, ◌<◌, ◌≤◌, ◌+◌, ◌-�
 use Rattle.std.proofs.{KnownBytes.Appends-nil, KnownBytes.Appends-trans, KnownBytes.Consumes-nil, KnownBytes.Consumes-trans, Math.Nat.min-eq_left, Math.Seq.drop-append_seam}
 use Rattle.std.specs.Io.KnownBytes.{Consumes, IsAtEnd, Keeps}
 use Rattle.cred_book.specs.Accounts.{Accounts}
-use Rattle.cred_cli.specs.{Calls.Call, Feeding.standing, Outcome.HasCause, Outcome.IsAnswered, Script.out, Script.script_start, Steps.WriteFails, declared.fault.ScriptFault.ScriptFault, declared.run.Run.Run, declared.script.End.End, declared.watched.Watched.Watched}
+use Rattle.cred_cli.specs.{Calls.Call, Feeding.standing, Outcome.HasCause, Outcome.IsAnswered, Script.out, Script.script_start, Steps.WriteFails, declared.fault.ScriptFault.ScriptFault, declared.script.End.End, declared.script.Run.Run, declared.watched.Watched.Watched}
 use Rattle.cred_cli.specs.Watched.{Basis, Contract, Transcript, Fits, GivesAsContracted, IsLogged, IsNew, IsWritten, Reading, TakesAsContracted, call_on, calls_of, ended_of, failed_of, transcript_reading, given_of, held_on, inner_of, left_on, log_on, log_of, name_of, reading_on, taken_of}
 use Rattle.cred_cli.proofs.{Prompts.IsCalled, Writes.taken_later}
 

@@ -2,7 +2,7 @@
 use Rattle.std.proofs.Common.{◌≡◌, ◌≢◌, ℕ, suc, ◌-◌, ◌≤◌, List, take, Option, Some, None, Bool, true, false, not, ◌&&◌, if◌then◌else◌, is_none, is_some, nat_lt, refl, sym, ap, ◌∙◌, slice_get, set, arith, inl, inr, eq-eqb}
 use Rattle.std.proofs.{Math.ListN.length-set, lemmas.Bool.cond_both, lemmas.Bool.ne_eqb, lemmas.Bool.Decides.eqb_tells, lemmas.List.get_or-set_same, lemmas.List.get_or-set_other}
 use Rattle.cred_phc.specs.Values.{RecordValue}
-use Rattle.cred_book.specs.{Accounts.Accounts, Commits.commit_outcome, Commits.commit_outcome_at, declared.reply.Reply.Reply, declared.request.Request.Request, declared.error.BookError.TheVariants.Exists, declared.error.BookError.TheVariants.Full, declared.error.BookError.TheVariants.NoAccount}
+use Rattle.cred_book.specs.{Accounts.Accounts, Commits.commit_outcome, Commits.commit_outcome_at, declared.request.Reply.Reply, declared.request.Request.Request, declared.error.BookError.TheVariants.Exists, declared.error.BookError.TheVariants.Full, declared.error.BookError.TheVariants.NoAccount}
 use Rattle.cred_book.specs.Works.{Task, name_of, right, same, same_scheme, seq, seq_at, whole}
 use Rattle.cred_book.proofs.Commitments.{committed_found}
 use Rattle.cred_cli.specs.{Events.IsSound, Tickets.HoldTickets, Tickets.IsTicketOf, declared.event.Event.Event}
@@ -11,7 +11,7 @@ use Rattle.cred_cli.specs.{Steps.Step, Steps.step, Steps.stay, Steps.slot, Steps
 use Rattle.cred_cli.specs.declared.event.Event.TheVariants.{Account, Load, Show, Begin, Commit, Bad}
 use Rattle.cred_cli.proofs.{Names.same_names, Names.book_at-suc, Names.take_done, Openings.known_at, Openings.open_at-suc}
 use Rattle.std.specs.FinMap as map
-use Rattle.cred_book.specs.declared.reply.Reply.TheVariants as reply
+use Rattle.cred_book.specs.declared.request.Reply.TheVariants as reply
 use Rattle.cred_book.specs.declared.request.Request.TheVariants as request
 
 -- a step at place i of a history

@@ -1,14 +1,14 @@
 -- The effects of a begin and of a commit, step by step.
 use Rattle.std.proofs.{Common.◌≡◌, Common.ℕ, Common.◌-◌, Common.List, Common.Option, Common.Some, Common.None, Common.Ok, Common.true, Common.false, Common.is_some, Common.set, Common.refl, Common.sym, Common.ap, Common.◌∙◌, lemmas.List.set-get_or}
 use Rattle.cred_phc.specs.Values.{RecordValue}
-use Rattle.cred_book.specs.{Accounts.Accounts, Commits.Begins, Commits.Commits, Commits.commit_outcome, Works.Task, Works.name_of, declared.reply.Reply.Reply, declared.request.Request.Request}
+use Rattle.cred_book.specs.{Accounts.Accounts, Commits.Begins, Commits.Commits, Commits.commit_outcome, Works.Task, Works.name_of, declared.request.Reply.Reply, declared.request.Request.Request}
 use Rattle.cred_cli.specs.{Answers.IsDone, Answers.line_bytes, History.Answer, History.Begun, History.Refused, Texts.line_of, Texts.reply_line, declared.answer.AnswerLine.AnswerLine}
 use Rattle.cred_cli.specs.{Steps.Step, Steps.stay, Steps.slot, Steps.begin_step, Steps.begin_step_at, Steps.commit_step, Steps.reply_answer, declared.refusal.Refusal.TheVariants.Book, declared.refusal.Refusal.TheVariants.Busy, declared.refusal.Refusal.TheVariants.Idle}
 use Rattle.cred_book.proofs.Rows.{no_some}
 use Rattle.cred_cli.proofs.Simulation.{begun-at, committing-at}
 use Rattle.std.specs.FinMap as map
 use Rattle.cred_book.specs.declared.error.BookError.TheVariants as error
-use Rattle.cred_book.specs.declared.reply.Reply.TheVariants as reply
+use Rattle.cred_book.specs.declared.request.Reply.TheVariants as reply
 
 -- an answer that leaves all as it is
 pub stays_done : (line : AnswerLine) (step : Step) (answer : Answer) (book : Accounts) (slots : List (Option Task)) → step ≡ stay answer book slots →

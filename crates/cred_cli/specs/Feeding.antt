@@ -2,7 +2,7 @@
 use Rattle.std.specs.Prelude.{◌≡◌, ℕ, suc, ◌==◌, if◌then◌else◌, Option, Some, List, [], ◌∷◌, ◌++◌, length, take, slice_get, Result, MatchResult}
 use Rattle.cred_book.specs.{Accounts.Accounts, Works.Task}
 use Rattle.cred_cli.specs.{Events.most_kept, declared.event.Event.Event, declared.fault.ScriptFault.ScriptFault, Watched.Reading, Watched.Writing}
-use Rattle.cred_cli.specs.{declared.progress.Progress.Progress, declared.run.Run.Run, declared.script.End.End}
+use Rattle.cred_cli.specs.{declared.progress.Progress.Progress, declared.script.End.End, declared.script.Run.Run}
 use Rattle.cred_cli.specs.{Outcome.IsAnswered, Outcome.ScriptFails, Outcome.StandsAfter, Script.ScriptStart, Script.events_of, Script.line_ends}
 use Rattle.cred_cli.specs.{Scripts.ScriptEnds, Tickets.HoldTickets}
 

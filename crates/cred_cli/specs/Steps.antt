@@ -1,7 +1,8 @@
 -- One event on the present book, with the open tickets.
 use Rattle.std.specs.Prelude.{◌≡◌, ℕ, ◌-◌, if◌then◌else◌, true, Bool, Option, Some, None, List, nat_lt, slice_index_or, slice_set}
 use Rattle.cred_phc.specs.Values.{RecordValue}
-use Rattle.cred_book.specs.{Accounts.Accounts, Commits.commit_outcome, Works.Task, Works.name_of, declared.reply.Reply.Reply, declared.request.Request.Request}
+use Rattle.cred_book.specs.{Accounts.Accounts, Commits.commit_outcome, Works.Task, Works.name_of}
+use Rattle.cred_book.specs.{declared.request.Reply.Reply, declared.request.Request.Request}
 use Rattle.cred_book.specs.declared.error.BookError.TheVariants.{Exists, Full, NoAccount}
 use Rattle.cred_cli.specs.History.{Answer, Done, Begun, Changed, Replied, Refused, show_answer}
 use Rattle.cred_cli.specs.{Outcome.FrontWritten, declared.event.Event.Event, declared.fault.ScriptFault.ScriptFault}
@@ -9,7 +10,7 @@ use Rattle.cred_cli.specs.declared.event.Event.TheVariants.{Account, Load, Show,
 use Rattle.cred_cli.specs.declared.fault.ScriptFault.TheVariants.{Write}
 use Rattle.cred_cli.specs.declared.refusal.Refusal.TheVariants.{Book, Busy, Idle}
 use Rattle.std.specs.FinMap as map
-use Rattle.cred_book.specs.declared.reply.Reply.TheVariants as reply
+use Rattle.cred_book.specs.declared.request.Reply.TheVariants as reply
 
 -- the answer, the book after, and the open tickets after
 pub record Step : Type 0 where

@@ -3,8 +3,8 @@ use Rattle.std.specs.Prelude.{ℕ, List, [], ◌∷◌, ◌++◌, codes, decimal
 use Rattle.cred_phc.specs.Text.{record_text}
 use Rattle.cred_cli.specs.History.{Answer, Done, Shown, Begun, Changed, Replied, Refused}
 use Rattle.cred_cli.specs.{Refusals.error_number, Refusals.error_word, declared.refusal.Refusal.Refusal}
-use Rattle.cred_book.specs.declared.reply.Reply.{Reply}
-use Rattle.cred_book.specs.declared.reply.Reply.TheVariants as reply
+use Rattle.cred_book.specs.declared.request.Reply.{Reply}
+use Rattle.cred_book.specs.declared.request.Reply.TheVariants as reply
 
 -- `bad N WORD`
 abbrev pub refusal_text : Refusal → List ℕ

@@ -1,20 +1,18 @@
-//! The effect of an event, and the line that answers it.
+//! The effect of an event, the line that answers it, and how a whole line is written.
 
-ghost use Rattle.std.specs.Prelude.{◌≡◌, IfErr, IfOk, OnOk, OnErr, Some, true};
+ghost use Rattle.std.specs.Prelude.{◌≡◌, ◌++◌, IfErr, IfOk, OnOk, OnErr, Some, true};
 ghost use Rattle.std.specs.Io.KnownBytes.{Appends};
 ghost use Rattle.cred_book.specs.Works.{is_for_current};
-ghost use Rattle.cred_cli.specs.{Answers.IsDone, Answers.line_bytes, Events.IsSound, History.Done, History.Refused, History.Shown};
+ghost use Rattle.cred_cli.specs.{Answers.IsDone, Answers.line_bytes, Events.IsSound, History.Refused, History.Shown};
 ghost use Rattle.cred_cli.specs.{Steps.WriteFails, Steps.begin_step, Steps.commit_step, Steps.step, Texts.line_of, Texts.reply_line};
-ghost use Rattle.cred_cli.specs.Watched.{Basis, IsWritten, failed_of, held_on};
+ghost use Rattle.cred_cli.specs.Watched.{Basis, IsWritten, TakesAsContracted, failed_of, held_on, inner_of, name_of, taken_of};
 
 use crate::event::Event;
 use crate::fault::ScriptFault;
-use crate::key::Key;
 use crate::refusal::Refusal;
-use crate::tickets::Tickets;
+use crate::tickets::{Key, Tickets};
 use crate::tools::Tools;
 use crate::watched::Watched;
-use crate::writing::write_whole;
 use cred_book::{BookError, Keeper, Reply, Request};
 use cred_phc::{Record, write_record};
 use cred_pool::NoGate;
@@ -184,4 +182,31 @@ pub(crate) fn record_line(alloc: Global, stored: &Record) -> Result<Vec<u8>, All
     let mut text = write_record(alloc, stored).map_err(|_| AllocError)?;
     text.push(b'\n')?;
     Ok(text)
+}
+
+/// Writes all the bytes, in as many calls as the writer needs.
+///
+/// Errors: `Write` if a call fails, is interrupted or accepts no byte. A proper prefix of the bytes
+/// is written then.
+pub fn write_whole<W: Write>(writer: &mut Watched<W>, bytes: &[u8]) -> Result<(), ScriptFault>
+    ensures done { OnOk result
+        (Appends (W.contents (inner_of writer.old)) (W.contents (inner_of writer.new)) bytes.now) }
+    ensures named { name_of writer.new ≡ name_of writer.old }
+    ensures fails { IfErr result
+        (WriteFails (W.contents (inner_of writer.old)) (W.contents (inner_of writer.new)) bytes.now
+        (failed_of writer.new)) }
+    ensures taken { OnOk result (taken_of writer.new ≡ taken_of writer.old ++ bytes.now) }
+    ensures taken_in_part { IfErr result (WriteFails (Some (taken_of writer.old))
+        (Some (taken_of writer.new)) bytes.now (failed_of writer.new)) }
+    ensures takes { TakesAsContracted W.contents writer.old writer.new }
+{
+    let mut rest = bytes;
+    while !rest.is_empty() {
+        let n = writer.write(rest).unwrap_or(0);
+        if n == 0 {
+            return Err(ScriptFault::Write);
+        }
+        rest = &rest[n..];
+    }
+    Ok(())
 }

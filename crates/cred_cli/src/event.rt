@@ -6,8 +6,8 @@ ghost use Rattle.cred_book.specs.Works.{is_for_current};
 ghost use Rattle.cred_cli.specs.Events.{IsSound, begin_event, begun, commit_event, event_of, event_of_pieces, is_line, longest_line, most_pieces};
 
 use crate::fields;
-use crate::key::Key;
 use crate::refusal::Refusal;
+use crate::tickets::Key;
 use arrayvec::ArrayVec;
 use cred_book::{Name, Request};
 use cred_phc::{Pieces, Record};

@@ -6,8 +6,8 @@ ghost use Rattle.cred_phc.specs.Ranges.{is_current};
 ghost use Rattle.cred_book.specs.Works.{is_for_current};
 ghost use Rattle.cred_cli.specs.Events.{change_request, key_field, name_and_password, name_and_record, name_field, name_password_setting, only_name, own_setting, password_field, password_of, record_field, request_of, setting_field};
 
-use crate::key::Key;
 use crate::refusal::Refusal;
+use crate::tickets::Key;
 use cred_book::{Name, Request};
 use cred_phc::{Password, Record, Setting, parse_record, parse_setting};
 

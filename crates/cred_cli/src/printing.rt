@@ -3,11 +3,11 @@
 ghost use Rattle.std.specs.Prelude.{◌≡◌};
 ghost use Rattle.cred_cli.specs.{Commands.Prints, Statuses.status_number, Statuses.status_of, Watched.Basis, Watched.TakesAsContracted, Watched.writing_on};
 
+use crate::answer::write_whole;
 use crate::exit_status::ExitStatus;
 use crate::fault::ScriptFault;
 use crate::refusal::Refusal;
 use crate::watched::Watched;
-use crate::writing::write_whole;
 use std::io::Write;
 
 /// Writes the whole line, and returns the status `good`.

@@ -6,8 +6,8 @@ use Rattle.std.specs.FinMap as map
 use Rattle.cred_phc.specs.Values.{RecordValue}
 use Rattle.cred_book.specs.Accounts.{Accounts}
 use Rattle.cred_book.specs.Commits.{commit_outcome, judgement, judgement_at, judgement_if}
-use Rattle.cred_book.specs.{Works.Task, Works.name_of, Works.same, Works.same_scheme, Works.whole, Works.makes_change, Works.right, declared.reply.Reply.Reply}
-use Rattle.cred_book.specs.declared.reply.Reply.TheVariants as reply
+use Rattle.cred_book.specs.{Works.Task, Works.name_of, Works.same, Works.same_scheme, Works.whole, Works.makes_change, Works.right, declared.request.Reply.Reply}
+use Rattle.cred_book.specs.declared.request.Reply.TheVariants as reply
 use Rattle.cred_book.specs.declared.request.Request.{Request}
 use Rattle.cred_book.specs.declared.request.Request.TheVariants.{Enrol, Verify, Change, Upgrade, Remove}
 use Rattle.cred_desk.specs.{declared.entry.Entry.Entry, Commits.HavePasswords, Commits.reply_of, Commits.entry_of, Commits.list_after}

@@ -6,7 +6,7 @@ use mathlib.Core.List.{IsPrefix}
 use Rattle.std.specs.FinMap as map
 use Rattle.cred_book.specs.{Accounts.Accounts, Calls.Admits, Calls.Loads, Works.Task, declared.error.BookError.BookError}
 use Rattle.cred_book.specs.declared.error.BookError.TheVariants as error
-use Rattle.cred_book.specs.declared.reply.Reply.{Reply}
+use Rattle.cred_book.specs.declared.request.Reply.{Reply}
 use Rattle.cred_desk.specs.Commits.{entry_of, list_after, reply_of, weight}
 use Rattle.cred_desk.specs.Histories.{IsAdmitted, IsDeleted, IsListed, IsLoaded, after, deletion, entry}
 use Rattle.cred_desk.specs.{Naming.Naming, Standing.Standing, Standing.IsUncounted, declared.entry.AccountState.AccountState}

@@ -1,7 +1,7 @@
 -- The answer of a commit, and the list after it.
 use Rattle.std.specs.Prelude.{◌≡◌, ℕ, List, [], ◌∷◌, ◌++◌, if◌then◌else◌, Option, Some, None}
 use Rattle.cred_phc.specs.Values.{IsPassword}
-use Rattle.cred_book.specs.{Accounts.Accounts, Commits.judgement, Works.Task, Works.name_of, declared.reply.Reply.Reply, declared.request.Request.Request}
+use Rattle.cred_book.specs.{Accounts.Accounts, Commits.judgement, Works.Task, Works.name_of, declared.request.Reply.Reply, declared.request.Request.Request}
 use Rattle.cred_book.specs.declared.request.Request.TheVariants.{Enrol, Verify, Change, Upgrade, Remove}
 use Rattle.cred_desk.specs.{Histories.IsAllowed, Histories.IsListed, Histories.after, Histories.entry, Histories.put, Naming.Naming, declared.entry.Entry.Entry}
 

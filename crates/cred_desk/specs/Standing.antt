@@ -1,7 +1,7 @@
 -- A session as a clause sees it, and the effects of its calls.
 use Rattle.std.specs.Prelude.{◌≡◌, ◌≢◌, ◌<◌, ℕ, List, [], length, Some, None, Result, Ok, Err}
 use Rattle.std.specs.FinMap as map
-use Rattle.cred_book.specs.{Accounts.Accounts, Works.Task, Works.name_of, declared.reply.Reply.Reply, declared.request.Request.Request}
+use Rattle.cred_book.specs.{Accounts.Accounts, Works.Task, Works.name_of, declared.request.Reply.Reply, declared.request.Request.Request}
 use Rattle.cred_desk.specs.{Commits.reply_of, declared.entry.Entry.Entry, declared.error.DeskError.DeskError}
 use Rattle.cred_desk.specs.declared.error.DeskError.TheVariants as error
 

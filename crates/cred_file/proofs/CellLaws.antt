@@ -8,12 +8,12 @@ use Rattle.std.specs.FinMap as fin
 use Rattle.std.specs.FinMap.{get-empty, get-entries, get-from_sorted, get-insert, get-remove, entries-from_sorted, len-entries}
 use Rattle.std.specs.FinMap.Entries.{below_all}
 use Rattle.cred_phc.specs.{Values.IsRecord, Values.RecordValue, Text.IsRecordText, Text.bare_text, Text.record_text, Reading.read_record}
-use Rattle.cred_phc.specs.declared.scheme.Scheme.{Scheme}
-use Rattle.cred_phc.specs.declared.scheme.Scheme.TheVariants.{Argon2, Scrypt}
+use Rattle.cred_phc.specs.declared.setting.Scheme.{Scheme}
+use Rattle.cred_phc.specs.declared.setting.Scheme.TheVariants.{Argon2, Scrypt}
 use Rattle.cred_phc.proofs.RecordLaws.{read_back}
 use Rattle.cred_book.proofs.Rows.{no_some, row_again, row_over, same_names, same_rows}
 use Rattle.cred_book.specs.{Accounts.Accounts, Names.name_cmp}
-use Rattle.cred_file.specs.declared.mark.Mark.{Mark}
+use Rattle.cred_file.specs.declared.marks.Mark.{Mark}
 use Rattle.cred_file.specs.Cells.{Cell, cell, cells_of, blank, is_marked, mark_text, mark_in, marked, marking, read_cell, renewal, renewed, unmarked, with_mark}
 
 -- ---- the text

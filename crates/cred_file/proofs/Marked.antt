@@ -8,7 +8,7 @@ use Rattle.std.specs.FinMap.{get-entries}
 use Rattle.cred_book.proofs.Registered.{lookup_find}
 use Rattle.cred_book.proofs.Rows.{no_some, same_names}
 use Rattle.cred_book.specs.Names.{name_cmp}
-use Rattle.cred_file.specs.declared.mark.Mark.{Mark}
+use Rattle.cred_file.specs.declared.marks.Mark.{Mark}
 use Rattle.cred_file.specs.Cells.{Marks, is_marked, mark_at, marked, renewed_with, unmarked}
 use Rattle.cred_file.specs.Transactions.{HasRoom, KeepsRoom}
 

@@ -7,7 +7,7 @@ use Rattle.sqlite.specs.State.{State, HasCleanDisk}
 use Rattle.cred_phc.specs.Values.{RecordValue}
 use Rattle.cred_book.proofs.Rows.{same_names}
 use Rattle.cred_book.specs.{Accounts.Accounts, Names.name_cmp}
-use Rattle.cred_file.specs.declared.mark.Mark.{Mark}
+use Rattle.cred_file.specs.declared.marks.Mark.{Mark}
 use Rattle.cred_file.specs.Cells.{AllMarks, Cells, cell, cells_of, marked}
 use Rattle.cred_file.specs.{Edits.AreThere, Edits.joined, Keeps.Has, Keeps.Lacks}
 use Rattle.cred_file.specs.Transactions.{AgreeOn, IsUnderWay, MakesWithin, marks_with}

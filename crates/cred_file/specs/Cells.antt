@@ -4,7 +4,7 @@ use Rattle.std.specs.FinMap as fin
 use Rattle.std.specs.Ordering.{eq_by_cmp}
 use Rattle.cred_phc.specs.{Values.RecordValue, Reading.read_record, declared.error.PhcError.PhcError}
 use Rattle.cred_book.specs.{Accounts.Accounts, Names.name_cmp}
-use Rattle.cred_file.specs.declared.mark.Mark.{Mark}
+use Rattle.cred_file.specs.declared.marks.Mark.{Mark}
 
 pub record Cell : Type 0 where
   pub stored : Option RecordValue

@@ -5,7 +5,7 @@ use Rattle.cred_phc.specs.Values.{RecordValue}
 use Rattle.cred_book.specs.{Accounts.Accounts, Names.name_cmp, declared.error.BookError.BookError}
 use Rattle.cred_book.specs.declared.error.BookError.TheVariants as error
 use Rattle.cred_file.specs.Cells.{AllMarks, Cells, Marks, blank, cells_of, mark_at, mark_in, marked, marking, renewal, renewed_with}
-use Rattle.cred_file.specs.declared.mark.Mark.{Mark}
+use Rattle.cred_file.specs.declared.marks.Mark.{Mark}
 use Rattle.cred_file.specs.declared.fault.Attempt.{Attempt}
 use Rattle.cred_file.specs.declared.fault.Attempt.TheVariants as attempt
 

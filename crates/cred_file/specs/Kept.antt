@@ -4,7 +4,7 @@ use Rattle.sqlite.specs.Held.{Held, held_code}
 use Rattle.cred_book.specs.Accounts.{Accounts}
 use Rattle.cred_book.specs.contracts.register.AccountTree as accounts
 use Rattle.cred_file.specs.Cells.{Cells, Marks, cells_of, mark_at, mark_in}
-use Rattle.cred_file.specs.declared.mark.Mark.{Mark}
+use Rattle.cred_file.specs.declared.marks.Mark.{Mark}
 use Rattle.cred_file.specs.contracts.marks.Marks as marked
 use Rattle.cred_file.specs.declared.fault.Lost.{Lost}
 use Rattle.cred_file.specs.contracts.fault.Lost as loss

@@ -5,7 +5,7 @@ use Rattle.sqlite.specs.State.{State}
 use Rattle.sqlite_catalog.specs.Listing.{IsSound}
 use Rattle.cred_book.specs.Accounts.{Accounts}
 use Rattle.cred_file.specs.Cells.{AllMarks, Cells, Marks, mark_at, renewed_with}
-use Rattle.cred_file.specs.declared.mark.Mark.{Mark}
+use Rattle.cred_file.specs.declared.marks.Mark.{Mark}
 use Rattle.cred_file.specs.{Schema.IsBookSchema, Table.StandsFor, Keeps.LeavesOnly}
 
 -- within a transaction the table stands for this book, and a crash leaves the first one

@@ -3,8 +3,7 @@
 ghost use Rattle.std.specs.Prelude.{◌≡◌};
 ghost use Rattle.cred_file.specs.declared.fault.Attempt.TheVariants as Attempt;
 
-use crate::mark::Mark;
-use crate::marks::Marks;
+use crate::marks::{Mark, Marks};
 use cred_book::{Name, Register};
 use cred_phc::{PhcError, Record};
 use sqlite::Error;

@@ -14,8 +14,7 @@ ghost use Rattle.sqlite.specs.State.{HasCleanDisk, Survives};
 
 use crate::catalogue::is_of_book;
 use crate::fault::{Lost, OpenFault};
-use crate::mark::Mark;
-use crate::marks::Marks;
+use crate::marks::{Mark, Marks};
 use crate::statements::{create_table, read_table};
 use cred_book::{BookError, Keeper, Name, Register, Reply, Worked};
 use cred_phc::Record;

@@ -3,7 +3,7 @@
 
 ghost use Rattle.std.specs.Prelude.{◌≡◌, ◌++◌, false, List, Ok, Some, true, ℕ};
 ghost use Rattle.cred_phc.specs.{Reading.read_record, Text.IsRecordText, Text.record_text, Values.IsRecord, Values.RecordValue};
-ghost use Rattle.cred_file.specs.declared.mark.Mark.{Mark};
+ghost use Rattle.cred_file.specs.declared.marks.Mark.{Mark};
 ghost use Rattle.cred_file.specs.Cells.{cell, mark_in, mark_text, read_cell, unmarked};
 ghost use Rattle.cred_file.specs.declared.fault.Attempt.{Attempt};
 ghost use Rattle.std.specs.FinMap as fin;

@@ -5,7 +5,6 @@ mod catalogue;
 mod fault;
 mod file_book;
 mod laws;
-mod mark;
 mod marks;
 mod reading;
 mod restart;
@@ -19,6 +18,5 @@ pub use laws::{
     a_lock_stays, a_renamed_name_is_gone, files_hold_the_book, marks_are_read_back,
     old_rows_are_unmarked,
 };
-pub use mark::Mark;
-pub use marks::Marks;
+pub use marks::{Mark, Marks};
 pub use restart::{crash_and_open, reopen};

@@ -1,14 +1,64 @@
-//! The marks of accounts, in memory beside the register.
+//! The marks of one account, and those of all accounts, in memory beside the register.
 
 ghost use Rattle.std.specs.Prelude.{◌≡◌, true, OnOk};
 ghost use Rattle.std.specs.FinMap as map;
-ghost use Rattle.cred_file.specs.{Cells.is_marked, Cells.mark_at, Cells.marked, Cells.renewed, Cells.unmarked, Transactions.HasRoom, Transactions.KeepsRoom};
+ghost use Rattle.cred_file.specs.Cells.{is_marked, mark_at, marked, renewed, renewed_with, unmarked};
+ghost use Rattle.cred_file.specs.Transactions.{HasRoom, KeepsRoom};
 
-use crate::mark::Mark;
 use cred_book::Name;
 use std::alloc::{AllocError, Global};
 use std::collections::{BTreeMap, btree_map};
 use std::marker::Model;
+
+/// An administrator's mark on an account, beside the account's record. In a book's table the mark
+/// precedes the record's text, as `!` and `~`.
+#[derive(Clone, Copy, Debug, PartialEq, Eq)]
+pub struct Mark {
+    /// No password opens the account.
+    pub locked: bool,
+    /// The password opens the account, and must be changed.
+    pub must_change: bool,
+}
+
+impl Mark {
+    /// Returns no marks.
+    pub fn none() -> Mark
+        ensures { result ≡ unmarked }
+    {
+        Mark {
+            locked: false,
+            must_change: false,
+        }
+    }
+
+    /// Whether the account has any mark.
+    pub fn is_marked(self) -> bool
+        ensures { result ≡ is_marked self }
+    {
+        self.locked || self.must_change
+    }
+
+    /// Returns the mark after a new record replaces the old one: a lock stays.
+    pub fn renewed(self) -> Mark
+        ensures { result ≡ renewed self }
+    {
+        Mark {
+            locked: self.locked,
+            must_change: false,
+        }
+    }
+
+    /// Returns the mark after a new record with a mark of its own replaces the old one: a lock
+    /// stays.
+    pub fn renewed_with(self, given: Mark) -> Mark
+        ensures { result ≡ renewed_with given self }
+    {
+        Mark {
+            locked: given.locked || self.locked,
+            must_change: given.must_change,
+        }
+    }
+}
 
 /// A map from names to their marks. A name that isn't in the map has no mark.
 #[derive(Drop)]
@@ -21,7 +71,7 @@ impl Model for Marks {
     ghost use Rattle.std.specs.Coded.{coded_ℕ, coded_list};
     ghost use Rattle.std.specs.FinMap as map;
     ghost use Rattle.cred_book.specs.Names.{name_cmp};
-    ghost use Rattle.cred_file.specs.contracts.mark.Mark as kept;
+    ghost use Rattle.cred_file.specs.contracts.marks.Mark as kept;
     ghost use Rattle.cred_file.specs.Cells.{Marks};
 
     ghost Value = { Marks };

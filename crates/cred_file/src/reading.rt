@@ -11,8 +11,7 @@ ghost use Rattle.std.specs.Result.{result_map_both};
 ghost use Rattle.cred_file.specs.Cells.{Cells, begins, cell, cells_of, mark_at, past, read_cell};
 
 use crate::fault::OpenFault;
-use crate::mark::Mark;
-use crate::marks::Marks;
+use crate::marks::{Mark, Marks};
 use cred_book::{BookError, Name, Register};
 use cred_phc::{PhcError, Record, parse_record};
 use sqlite::types::ValueRef;

@@ -12,8 +12,7 @@ ghost use Rattle.sqlite.specs.{State.HasCleanDisk, State.IsUnchanged, State.Surv
 ghost use Rattle.sqlite_value.specs.Value.{owned};
 
 use crate::fault::OpenFault;
-use crate::mark::Mark;
-use crate::marks::Marks;
+use crate::marks::{Mark, Marks};
 use crate::reading::Draft;
 use crate::row_statement::RowStatement;
 use cred_book::{Name, Register};

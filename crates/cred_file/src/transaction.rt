@@ -9,8 +9,7 @@ ghost use Rattle.sqlite.specs.{State.HasCleanDisk, State.Shows, State.Survives, 
 ghost use Rattle.sqlite_value.specs.Value.{owned};
 ghost use Rattle.sqlite_trees.specs.View.{doubt};
 
-use crate::mark::Mark;
-use crate::marks::Marks;
+use crate::marks::{Mark, Marks};
 use crate::row_statement::RowStatement;
 use crate::statements::{text_of, value_of};
 use cred_book::{Name, Register};

@@ -3,7 +3,7 @@ use Rattle.std.proofs.Common.{◌≡◌, ◌≢◌, ℕ, List, [], All, Bool, tr
 use Rattle.cred_phc.specs.Values.{RecordValue}
 use Rattle.cred_book.specs.{Names.name_cmp, Works.makes_change, Works.name_of, Works.new_record, Works.whole, declared.request.Request.Request}
 use Rattle.cred_book.proofs.Telling.{get_beside, get_without}
-use Rattle.cred_file.specs.{Cells.marked, Cells.unmarked, declared.mark.Mark.Mark}
+use Rattle.cred_file.specs.{Cells.marked, Cells.unmarked, declared.marks.Mark.Mark}
 use Rattle.cred_file.proofs.TableLemmas.{same_name}
 use Rattle.std.specs.Ordering.{eq_by_cmp}
 use Rattle.cred_admin.specs.{Commands.reset_at, Edits.deletion_at, Edits.disabling_at, Edits.expiry_at, Edits.locking_at, Edits.renaming_at, Edits.unlocking_at}

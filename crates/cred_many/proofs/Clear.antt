@@ -1,9 +1,9 @@
 -- Changes at names where nothing is counted.
 use Rattle.std.proofs.Common.{◌≡◌, ℕ, Bool, true, false, List, [], ◌∷◌, ◌++◌, Option, Some, None, IfSome, sym, ap, ◌∙◌}
 use Rattle.cred_phc.specs.Values.{RecordValue}
-use Rattle.cred_book.specs.{Accounts.Accounts, Commits.judgement, Commits.judgement_at, Commits.judgement_if, Works.Task, Works.makes_change, Works.name_of, Works.same, Works.whole, declared.reply.Reply.Reply}
+use Rattle.cred_book.specs.{Accounts.Accounts, Commits.judgement, Commits.judgement_at, Commits.judgement_if, Works.Task, Works.makes_change, Works.name_of, Works.same, Works.whole, declared.request.Reply.Reply}
 use Rattle.cred_book.specs.declared.request.Request.TheVariants.{Enrol, Verify, Change, Upgrade, Remove}
-use Rattle.cred_book.specs.declared.reply.Reply.TheVariants as reply
+use Rattle.cred_book.specs.declared.request.Reply.TheVariants as reply
 use Rattle.cred_book.specs.declared.request.Request.TheVariants as request
 use Rattle.cred_admin.specs.{Marked.MarkedBook, Marked.tried, declared.verdict.Verdict.TheVariants.Told}
 use Rattle.cred_tries.specs.{Answers.IsSettled, Limits.Limits}

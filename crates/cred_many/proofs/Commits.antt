@@ -1,9 +1,9 @@
 -- A commit is the whole operation unless the record has changed.
 use Rattle.std.proofs.Common.{◌≡◌, ℕ, List, sym, subst, Option, Some, None, IfSome, Bool, true, false, if◌then◌else◌, unwrap_or, inl, inr, refl, ap, ◌∙◌}
 use Rattle.cred_phc.specs.Values.{RecordValue}
-use Rattle.cred_book.specs.{Works.Task, Works.is_for_current, Works.makes_change, Works.name_of, Works.new_record, Works.same, Works.whole, declared.reply.Reply.Reply, declared.request.Request.Request}
+use Rattle.cred_book.specs.{Works.Task, Works.is_for_current, Works.makes_change, Works.name_of, Works.new_record, Works.same, Works.whole, declared.request.Reply.Reply, declared.request.Request.Request}
 use Rattle.cred_book.specs.declared.request.Request.TheVariants.{Enrol, Verify, Change, Upgrade, Remove}
-use Rattle.cred_book.specs.declared.reply.Reply.TheVariants as reply
+use Rattle.cred_book.specs.declared.request.Reply.TheVariants as reply
 use Rattle.cred_cli.specs.{History.Answer, History.Changed, Steps.reply_answer, Texts.reply_line}
 use Rattle.cred_cli.proofs.Simulation.{whole_replies}
 use Rattle.cred_many.specs.{Asks.IsJobOf, Asks.IsSound, Asks.hashed_for, Asks.is_reset, declared.ask.Ask.TheVariants.Whole, declared.ask.Ask.TheVariants.Login, declared.ask.Ask.TheVariants.Reset, declared.ask.Ask.TheVariants.Quick, declared.ask.Ask.TheVariants.Forgive, declared.ask.Ask.TheVariants.Later, Served.done, Served.NeedsMemory, Served.effect_of, Served.login_verdict, Served.record_at, Served.told_verdict, declared.ask.Ask.Ask}

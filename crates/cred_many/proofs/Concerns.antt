@@ -1,9 +1,9 @@
 -- A line that doesn't name an account has the same effect whatever mark the account has.
 use Rattle.std.proofs.Common.{◌≡◌, ◌≢◌, ℕ, suc, List, [], ◌∷◌, ◌++◌, All, Bool, true, false, cond, if◌then◌else◌, not, ◌&&◌, nat_lt, Option, Some, None, refl, sym, ap, ◌∙◌, arith}
 use Rattle.cred_phc.specs.Values.{RecordValue}
-use Rattle.cred_book.specs.{Accounts.Accounts, Names.name_cmp, Works.makes_change, Works.name_of, Works.new_record, Works.whole, declared.reply.Reply.Reply, declared.request.Request.Request}
+use Rattle.cred_book.specs.{Accounts.Accounts, Names.name_cmp, Works.makes_change, Works.name_of, Works.new_record, Works.whole, declared.request.Reply.Reply, declared.request.Request.Request}
 use Rattle.cred_cli.specs.{History.Done, History.Refused, Texts.line_of, Texts.reply_line}
-use Rattle.cred_file.specs.{Cells.marked, Cells.renewed, Cells.unmarked, declared.mark.Mark.Mark}
+use Rattle.cred_file.specs.{Cells.marked, Cells.renewed, Cells.unmarked, declared.marks.Mark.Mark}
 use Rattle.cred_file.proofs.TableLemmas.{same_name}
 use Rattle.std.specs.Ordering.{eq_by_cmp}
 use Rattle.cred_admin.specs.{Commands.reset_at, Edits.deletion_at, Edits.disabling_at, Edits.edit_line, Edits.expiry_at, Edits.is_renamed, Edits.locking_at, Edits.renaming_at, Edits.unlocking_at, Statuses.verdict_line}
@@ -19,7 +19,7 @@ use Rattle.cred_book.specs.declared.error.BookError.TheVariants as error
 use Rattle.cred_book.specs.declared.request.Request.TheVariants as request
 use Rattle.cred_cli.specs.declared.refusal.Refusal.TheVariants as refusal
 use Rattle.cred_admin.specs.declared.edit_reply.EditReply.TheVariants as reply
-use Rattle.cred_book.specs.declared.reply.Reply.TheVariants as replied
+use Rattle.cred_book.specs.declared.request.Reply.TheVariants as replied
 use Rattle.cred_admin.specs.declared.verdict.Verdict.TheVariants.{Told}
 use Rattle.std.specs.FinMap as map
 

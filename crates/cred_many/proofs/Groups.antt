@@ -3,10 +3,10 @@ use Rattle.std.proofs.Common.{◌≡◌, ℕ, ◌<◌, List, [], ◌∷◌, ◌+
 use Rattle.std.proofs.{lemmas.List.length-append, lemmas.List.length-map, lemmas.List.map-append, lemmas.Option.IfSome_then, lemmas.List.Elements.All-get_or, lemmas.List.Elements.All-nil, lemmas.List.Elements.All-push}
 use Rattle.std.specs.{Cmp.Lexicographic.nat_list_cmp_total, List.All, Option.option_or, Ordering.eq_by_cmp, FinMap.get-empty, FinMap.get-insert, FinMap.same_map}
 use Rattle.cred_phc.specs.Values.{RecordValue}
-use Rattle.cred_book.specs.{Accounts.Accounts, Commits.judgement, Commits.judgement_at, Commits.judgement_if, Names.name_cmp, Works.Task, Works.makes_change, Works.name_of, Works.same, Works.whole, declared.reply.Reply.Reply}
+use Rattle.cred_book.specs.{Accounts.Accounts, Commits.judgement, Commits.judgement_at, Commits.judgement_if, Names.name_cmp, Works.Task, Works.makes_change, Works.name_of, Works.same, Works.whole, declared.request.Reply.Reply}
 use Rattle.cred_cli.specs.Texts.{reply_line}
 use Rattle.cred_cli.proofs.Readings.{if_known}
-use Rattle.cred_file.specs.{Cells.marked, Cells.renewed, Cells.unmarked, Edits.joined, Edits.taken_in, Transactions.changed_marks, declared.mark.Mark.Mark}
+use Rattle.cred_file.specs.{Cells.marked, Cells.renewed, Cells.unmarked, Edits.joined, Edits.taken_in, Transactions.changed_marks, declared.marks.Mark.Mark}
 use Rattle.cred_file.proofs.{Joined.deeper, Joined.get_joined, Marked.marked_same, TableLemmas.same_name}
 use Rattle.cred_admin.specs.Marked.{MarkedBook, barred, is_outdated, marked_book, marks_after, tried, tried_at, tried_if, with_replaced}
 use Rattle.cred_admin.specs.declared.verdict.Verdict.{Verdict}

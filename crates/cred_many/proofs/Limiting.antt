@@ -1,6 +1,6 @@
 -- The answers that the limiter counts, if there is a limit.
 use Rattle.std.proofs.Common.{◌≡◌, ◌⊎◌, inl, inr, ℕ, Bool, true, false, if◌then◌else◌, List, [], ◌∷◌, ◌++◌, Option, Some, None, Result, Ok, Err, OnOk, OnErr, is_err, IfSome, option_map, refl, sym, ap, ◌∙◌, subst}
-use Rattle.cred_book.specs.declared.reply.Reply.{Reply}
+use Rattle.cred_book.specs.declared.request.Reply.{Reply}
 use Rattle.cred_tries.specs.Answers.{HasCounted, IsIdle, IsReadBy, IsSettled, KeepLimit, clock_of, with_told}
 use Rattle.cred_tries.specs.Clocks.{after_reading}
 use Rattle.cred_tries.specs.Histories.{Event, Sent}

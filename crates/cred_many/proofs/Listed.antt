@@ -3,7 +3,7 @@ use Rattle.std.proofs.Common.{◌≡◌, ◌≢◌, ℕ, zero, suc, ◌-◌, Lis
 use Rattle.std.specs.{Ordering.is_lt}
 use Rattle.cred_phc.specs.Values.{RecordValue}
 use Rattle.cred_book.specs.Names.{name_cmp}
-use Rattle.cred_file.specs.{Cells.is_marked, Cells.mark_text, declared.mark.Mark.Mark}
+use Rattle.cred_file.specs.{Cells.is_marked, Cells.mark_text, declared.marks.Mark.Mark}
 use Rattle.cred_many.specs.Names.{is_listed, marked_page, page, spaced, spaced_marks}
 
 abbrev pub Entries : Type 0

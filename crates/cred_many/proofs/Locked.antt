@@ -6,7 +6,7 @@ use Rattle.cred_phc.specs.Values.{RecordValue}
 use Rattle.cred_book.specs.{Works.name_of, Works.new_record, declared.request.Request.Request}
 use Rattle.cred_book.specs.declared.request.Request.TheVariants.{Enrol, Verify, Change as Changes, Upgrade, Remove}
 use Rattle.cred_cli.specs.Texts.{reply_line}
-use Rattle.cred_file.specs.{Cells.marked, Cells.renewed, declared.mark.Mark.Mark}
+use Rattle.cred_file.specs.{Cells.marked, Cells.renewed, declared.marks.Mark.Mark}
 use Rattle.cred_admin.specs.{Commands.reset_at, Edits.disabling_at, Edits.expiry_at, Edits.lacks_room, Edits.locking_at, Edits.renaming_at, Statuses.verdict_line}
 use Rattle.cred_admin.specs.Marked.{MarkedBook, expired, locked, shut, tried, tried_at, with_mark, with_record}
 use Rattle.cred_admin.specs.declared.edits.Edit.TheVariants.{Disable, Delete, Rename, Lock, Unlock, Expire}

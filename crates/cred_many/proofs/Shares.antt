@@ -1,7 +1,7 @@
 -- A share of the memory that covers a job covers each of its hashes.
 use Rattle.std.proofs.Common.{◌≡◌, ℕ, ◌≤◌, Some, None}
 use Rattle.std.proofs.Math.Nat.{le-max_left, le-max_right, le_trans}
-use Rattle.cred_phc.specs.declared.scheme.Scheme.{Scheme}
+use Rattle.cred_phc.specs.declared.setting.Scheme.{Scheme}
 use Rattle.cred_book.specs.Works.{Task}
 use Rattle.cred_cli.specs.Costs.{memory_alone}
 use Rattle.cred_many.specs.Costs.{Covers, job_memory, made_memory}

@@ -1,6 +1,6 @@
 -- The costs of new records, and the memory that hashes take.
 use Rattle.std.specs.Prelude.{◌≡◌, ℕ, ◌≤◌, IsTrue, Option, Some, None, max, true}
-use Rattle.cred_phc.specs.{Ranges.is_current, Ranges.scheme_fits, Values.RecordValue, declared.scheme.Scheme.Scheme}
+use Rattle.cred_phc.specs.{Ranges.is_current, Ranges.scheme_fits, Values.RecordValue, declared.setting.Scheme.Scheme}
 use Rattle.cred_book.specs.{Works.Task, declared.request.Request.Request}
 use Rattle.cred_book.specs.declared.request.Request.TheVariants.{Enrol, Verify, Change, Upgrade, Remove}
 use Rattle.cred_cli.specs.Costs.{memory_alone}

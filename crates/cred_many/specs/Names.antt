@@ -1,7 +1,7 @@
 -- The answers to lines that list names.
 use Rattle.std.specs.{List.filter, Ordering.is_lt, Prelude.ℕ, Prelude.List, Prelude.[], Prelude.◌∷◌, Prelude.◌++◌, Prelude.◌&&◌, Prelude.Bool, Prelude.not, Prelude.codes, Prelude.take}
 use Rattle.cred_book.specs.Names.{name_cmp}
-use Rattle.cred_file.specs.{Cells.is_marked, Cells.mark_text, declared.mark.Mark.Mark}
+use Rattle.cred_file.specs.{Cells.is_marked, Cells.mark_text, declared.marks.Mark.Mark}
 
 -- of names in their order, the first ones that don't come before this one, at most so many
 abbrev pub page : List ℕ → ℕ → List (List ℕ) → List (List ℕ)

@@ -2,8 +2,8 @@
 use Rattle.std.specs.{List.range_with_len, List.Sorted.IsPermutation, Option.option_map}
 use Rattle.std.specs.Prelude.{◌≡◌, ◌≢◌, ◌⊎◌, ℕ, ◌<◌, ◌≤◌, ◌+◌, ◌-◌, ◌^◌, List, [], ◌∷◌, ◌++◌, Bool, true, false, if◌then◌else◌, IfSome, is_some, nat_lt, Option, Some, None, length, map, take, slice_get, slice_index_or, unwrap_or, codes, decimal}
 use Rattle.cred_phc.specs.{Text.record_text, Values.RecordValue}
-use Rattle.cred_file.specs.{Cells.cell, Cells.is_blank, Cells.is_marked, Cells.mark_text, declared.mark.Mark.Mark}
-use Rattle.cred_book.specs.{Works.name_of, Works.new_record, Works.same, declared.reply.Reply.Reply}
+use Rattle.cred_file.specs.{Cells.cell, Cells.is_blank, Cells.is_marked, Cells.mark_text, declared.marks.Mark.Mark}
+use Rattle.cred_book.specs.{Works.name_of, Works.new_record, Works.same, declared.request.Reply.Reply}
 use Rattle.cred_cli.specs.{History.Done, History.Refused, History.Shown, Script.lines_of, Texts.line_of, Texts.reply_line}
 use Rattle.cred_cli.specs.Watched.{failed_of}
 use Rattle.cred_admin.specs.{Commands.reset_step, Edits.disabling, Edits.edit_line, Edits.edit_status, Edits.edited, Edits.lacks_room, Listing.passwd_line}
@@ -19,7 +19,7 @@ use Rattle.cred_many.specs.declared.ask.QuickAsk.TheVariants.{Account, Load, Sho
 use Rattle.cred_many.specs.{declared.ending.Served.Served, declared.fault.ServiceFault.ServiceFault}
 use Rattle.std.specs.FinMap as fin
 use Rattle.cred_book.specs.declared.error.BookError.TheVariants as error
-use Rattle.cred_book.specs.declared.reply.Reply.TheVariants as reply
+use Rattle.cred_book.specs.declared.request.Reply.TheVariants as reply
 use Rattle.cred_book.specs.declared.request.Request.TheVariants as request
 use Rattle.cred_cli.specs.declared.refusal.Refusal.TheVariants as refusal
 use Rattle.cred_admin.specs.declared.edit_reply.EditReply.TheVariants as edit

@@ -1,7 +1,7 @@
 -- The description of a service.
 use Rattle.std.specs.Prelude.{◌≡◌, ℕ, zero, suc, List, [], ◌∷◌, ◌++◌, Option, Some, None, slice_get, codes, drop, map, take}
 use Rattle.rand_core.specs.Stream.{Stream, fill_bytes}
-use Rattle.cred_phc.specs.{Values.SettingValue, Values.setting_of, declared.scheme.Scheme.Scheme, declared.scheme.Scheme.TheVariants.Scrypt}
+use Rattle.cred_phc.specs.{Values.SettingValue, Values.setting_of, declared.setting.Scheme.Scheme, declared.setting.Scheme.TheVariants.Scrypt}
 use Rattle.cred_admin.specs.Marked.{MarkedBook, marked_book}
 use Rattle.cred_file.specs.Cells.{unmarked}
 use Rattle.cred_cli.specs.{Costs.no_bounds, Script.line_ends, Script.lines_of, declared.costs.CostBounds.CostBounds}

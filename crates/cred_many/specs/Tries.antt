@@ -1,8 +1,8 @@
 -- What answers tell of the passwords that are tried.
 use Rattle.std.specs.Prelude.{ℕ, Bool, true, false, Option, Some, None}
-use Rattle.cred_book.specs.{declared.reply.Reply.Reply, declared.request.Request.Request}
+use Rattle.cred_book.specs.{declared.request.Reply.Reply, declared.request.Request.Request}
 use Rattle.cred_book.specs.declared.request.Request.TheVariants.{Enrol}
-use Rattle.cred_book.specs.declared.reply.Reply.TheVariants as reply
+use Rattle.cred_book.specs.declared.request.Reply.TheVariants as reply
 use Rattle.cred_admin.specs.declared.verdict.Verdict.{Verdict}
 use Rattle.cred_admin.specs.declared.verdict.Verdict.TheVariants.{Told, Expired, Same}
 use Rattle.cred_tries.specs.Histories.{Event, Right, Wrong, Forgiven}

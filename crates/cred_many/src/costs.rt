@@ -18,7 +18,7 @@ pub struct Costs {
 }
 
 impl Model for Costs {
-    ghost use Rattle.cred_phc.specs.declared.scheme.Scheme.{Scheme};
+    ghost use Rattle.cred_phc.specs.declared.setting.Scheme.{Scheme};
     ghost use Rattle.cred_many.specs.Costs.{IsForNew};
 
     ghost Value = { Scheme };

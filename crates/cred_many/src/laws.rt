@@ -2,7 +2,7 @@
 
 ghost use Rattle.std.specs.Prelude.{◌≡◌, ◌≢◌, ◌∷◌, ◌≤◌, All, List, Some, ℕ, true};
 ghost use Rattle.std.specs.FinMap as map;
-ghost use Rattle.cred_file.specs.declared.mark.Mark.{Mark};
+ghost use Rattle.cred_file.specs.declared.marks.Mark.{Mark};
 ghost use Rattle.cred_admin.specs.Marked.{MarkedBook, with_mark};
 ghost use Rattle.cred_admin.specs.declared.edits.Edit.TheVariants.{Lock};
 ghost use Rattle.cred_many.specs.{Asks.Entry, Locks.EndsLock, Locks.IsApart, Locks.IsLocked, Locks.IsNo, Locks.IsTryAt, Locks.PutsRecord, Served.answers, Served.book_after, Served.record_at, declared.ask.Ask.TheVariants.Quick, declared.ask.QuickAsk.TheVariants.Edit as Change};

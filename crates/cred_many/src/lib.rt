@@ -8,10 +8,8 @@ mod answer;
 mod ask;
 mod budget;
 mod costs;
-mod decoder;
 mod ending;
 mod fault;
-mod grammar;
 mod group;
 mod hashing;
 mod inbox;
@@ -26,7 +24,6 @@ mod sender;
 mod service;
 mod service_id;
 mod source;
-mod stopwatch;
 mod tries;
 
 pub use costs::Costs;

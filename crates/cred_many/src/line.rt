@@ -1,14 +1,20 @@
-//! A tagged line that was read.
+//! A tagged line, and the decoder that reads lines from bytes.
 
-ghost use Rattle.std.specs.{Prelude.◌≡◌, Prelude.IfSome, Prelude.map, Prelude.true, List.list_all};
+ghost use Rattle.std.specs.Prelude.{◌≡◌, [], ◌∷◌, ◌+◌, ◌^◌, ◌<◌, IfSome, length, map, true};
+ghost use Rattle.std.specs.List.{list_all};
 ghost use Rattle.cred_phc.specs.Ranges.{is_current};
-ghost use Rattle.cred_many.specs.{Asks.IsSound, Asks.entry_of, Asks.is_tag_byte, Asks.tag_of, Asks.tagged, Asks.tagged_of, Asks.untagged, Service.IsLine, Service.cut_line};
+ghost use Rattle.cred_cli.specs.Script.{line_ends, lines_of};
+ghost use Rattle.cred_many.specs.Asks.{IsSound, entry_of, is_tag_byte, tag_of, tagged, tagged_of, untagged};
+ghost use Rattle.cred_many.specs.Reading.{MovesOver, IsWholeLine, NothingIsLeft, ComesNext, how_many, place};
+ghost use Rattle.cred_many.specs.Service.{IsLine, cut_line, salts_after};
 
-use crate::ask::Ask;
-use crate::grammar::ask_of;
+use crate::ask::{Ask, ask_of};
+use crate::costs::Costs;
+use crate::service::ServiceConfig;
 use crate::service_id::ServiceId;
-use cred_cli::{CostBounds, Refusal, first_pieces, is_too_long};
-use cred_phc::{Setting, ShortBytes};
+use cred_cli::{CostBounds, LineStart, Refusal, first_pieces, is_too_long};
+use cred_phc::{Setting, ShortBytes, draw_salt};
+use rand_core::Rng;
 use std::marker::{Model, PhantomData};
 
 /// The maximum length of a tag in bytes.
@@ -158,4 +164,89 @@ fn is_tag_byte(byte: u8) -> bool
     ensures { result ≡ is_tag_byte byte }
 {
     matches!(byte, b'a'..=b'z' | b'0'..=b'9')
+}
+
+/// The line that is being read, its number, and the source of settings.
+#[derive(Drop)]
+pub(crate) struct LineDecoder<J: ServiceId, G: Rng> {
+    pub(crate) start: LineStart,
+    /// The number of lines before this one.
+    pub(crate) number: u64,
+    costs: Costs,
+    /// The bounds on the costs of a line.
+    most: CostBounds,
+    salts: G,
+    of: PhantomData<J>,
+
+    ghost costs_are: { costs ≡ J.service.costs },
+    ghost most_is: { most ≡ J.service.most },
+    ghost drawn: { G.stream salts ≡ salts_after J.service.salts number },
+}
+
+impl<J: ServiceId, G: Rng> LineDecoder<J, G> {
+    /// Creates the decoder, before the first line.
+    pub(crate) fn new(config: &ServiceConfig, salts: G) -> LineDecoder<J, G>
+        requires costs { config.now.costs ≡ J.service.costs }
+        requires most { config.now.most ≡ J.service.most }
+        requires salts { G.stream salts ≡ J.service.salts }
+        ensures start { result.start ≡ [] }
+        ensures number { result.number ≡ 0 }
+    {
+        LineDecoder {
+            start: LineStart::new(),
+            number: 0,
+            costs: config.costs,
+            most: config.most,
+            salts,
+            of: PhantomData,
+        }
+    }
+
+    /// Decodes one byte, and returns the line that it ends, if any.
+    pub(crate) fn take(&mut self, byte: u8) -> Option<Line<J>>
+        requires next { ComesNext J.service.input (place self.old.start self.old.number)
+            (byte ∷ []) }
+        requires few { self.old.number + 1 < 2 ^ 64 }
+        ensures on { MovesOver J.service.input (place self.old.start self.old.number)
+            (byte ∷ []) (place self.new.start self.new.number) }
+        ensures next { IfSome result (λ line. line.number ≡ self.old.number) }
+        ensures ended { how_many result ≡ line_ends (byte ∷ []) }
+        ensures number { self.new.number ≡ self.old.number + line_ends (byte ∷ []) }
+    {
+        if byte != b'\n' {
+            self.start.push(byte);
+            return None;
+        }
+        Some(self.end_line())
+    }
+
+    /// Returns the last line, if it has no end.
+    pub(crate) fn last(&self) -> Option<Line<J>>
+        requires { NothingIsLeft J.service.input (place self.now.start self.now.number) }
+        ensures next { IfSome result (λ line. line.number ≡ self.now.number) }
+        ensures whole { IfSome J.service.input
+            (λ all. self.now.number + how_many result ≡ length (lines_of all)) }
+    {
+        if self.start.bytes().is_empty() {
+            return None;
+        }
+        Some(Line::cut(self.number))
+    }
+
+    /// Returns the line that has ended, and begins the next.
+    fn end_line(&mut self) -> Line<J>
+        requires whole { IfSome J.service.input
+            (λ all. IsWholeLine all (place self.old.start self.old.number)) }
+        requires few { self.old.number + 1 < 2 ^ 64 }
+        ensures next { result.number ≡ self.old.number }
+        ensures start { self.new.start ≡ [] }
+        ensures number { self.new.number ≡ self.old.number + 1 }
+    {
+        let salt = draw_salt(&mut self.salts);
+        let drawn = self.costs.setting(&salt);
+        let line = Line::read(self.number, &self.most, drawn, self.start.bytes());
+        self.number += 1;
+        self.start.clear();
+        line
+    }
 }

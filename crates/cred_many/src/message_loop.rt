@@ -1,4 +1,4 @@
-//! The work of the thread with the book on the messages of the others.
+//! The work of the thread with the book on the messages of the others, and its stopwatch.
 
 ghost use Rattle.std.specs.Prelude.{◌≡◌, ◌++◌, ◌∷◌, [], None, true};
 ghost use Rattle.crossbeam_channel.specs.Claims.{view};
@@ -8,7 +8,6 @@ use crate::group::MOST_TOGETHER;
 use crate::inbox::Inbox;
 use crate::scribe::{Hashed, Job, Message, Scribe};
 use crate::service_id::ServiceId;
-use crate::stopwatch::Stopwatch;
 use cred_admin::Host;
 use cred_book::Name;
 use crossbeam_channel::Sender;
@@ -16,7 +15,7 @@ use std::alloc::Global;
 use std::io::Write;
 use std::mem;
 use std::sync::Wait;
-use std::time::Clock;
+use std::time::{Clock, Instant};
 
 /// The ends of the channels to the other threads, and the work that is left.
 #[derive(Drop)]
@@ -225,5 +224,32 @@ impl<J: ServiceId> MessageLoop<J> {
                 let _ = self.room.send(rt, ());
             }
         }
+    }
+}
+
+/// Tells how many seconds have passed since its creation.
+#[derive(Clone, Copy)]
+pub(crate) struct Stopwatch {
+    began: Option<Instant>,
+    /// The last reading.
+    seconds: u64,
+}
+
+impl Stopwatch {
+    pub(crate) fn new<C: Clock>(rt: &C) -> Stopwatch {
+        Stopwatch {
+            began: Instant::now(rt).ok(),
+            seconds: 0,
+        }
+    }
+
+    /// Returns the seconds until now, or until the last reading if the clock can't be read.
+    pub(crate) fn read<C: Clock>(&mut self, rt: &C) -> u64 {
+        if let Some(began) = self.began {
+            if let Ok(passed) = began.elapsed(rt) {
+                self.seconds = passed.as_secs();
+            }
+        }
+        self.seconds
     }
 }

@@ -6,16 +6,15 @@ ghost use Rattle.cred_many.specs.{Reading.HasHanded, Reading.IsOfReading, Servic
 
 use crate::budget::{Budget, Idle, Limit, parts};
 use crate::costs::Costs;
-use crate::decoder::LineDecoder;
 use crate::hashing::Hashing;
 use crate::inbox::{Inbox, WorkerEnd, make_inbox};
-use crate::message_loop::MessageLoop;
+use crate::line::LineDecoder;
+use crate::message_loop::{MessageLoop, Stopwatch};
 use crate::open::MOST_OPEN;
 use crate::scribe::{Ending, Job, OfReading, Reading, Scribe, await_end, read_all};
 use crate::sender::LineSender;
 use crate::service_id::ServiceId;
 use crate::source::{LineReader, Source};
-use crate::stopwatch::Stopwatch;
 use cred_admin::Host;
 use cred_cli::{CostBounds, Tools};
 use cred_file::FileBook;

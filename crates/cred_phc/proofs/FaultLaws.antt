@@ -3,9 +3,9 @@ use Rattle.std.proofs.Common.{◌≡◌, ◌∙◌, ℕ, ◌==◌, nat_lt, Bool,
 use Rattle.std.specs.{Str.bytes_eq, Option.ok_or}
 use Rattle.cred_phc.specs.declared.error.PhcError.{PhcError}
 use Rattle.cred_phc.specs.declared.error.PhcError.TheVariants.{Shape, Version as WrongVersion, Params, Range, Salt, Tag, TooLong, Scheme as NoScheme}
-use Rattle.cred_phc.specs.{declared.scheme.Scheme.Scheme, declared.scheme.Scheme.TheVariants.Argon2, declared.scheme.Scheme.TheVariants.Scrypt}
-use Rattle.cred_phc.specs.{declared.scheme.Variant.Variant, declared.scheme.SchemeName.SchemeName}
-use Rattle.cred_phc.specs.{declared.scheme.SchemeName.TheVariants.Argon2 as NamesArgon2, declared.scheme.SchemeName.TheVariants.Scrypt as NamesScrypt, Base64.bytes_of}
+use Rattle.cred_phc.specs.{declared.setting.Scheme.Scheme, declared.setting.Scheme.TheVariants.Argon2, declared.setting.Scheme.TheVariants.Scrypt}
+use Rattle.cred_phc.specs.{declared.setting.Variant.Variant, declared.setting.SchemeName.SchemeName}
+use Rattle.cred_phc.specs.{declared.setting.SchemeName.TheVariants.Argon2 as NamesArgon2, declared.setting.SchemeName.TheVariants.Scrypt as NamesScrypt, Base64.bytes_of}
 use Rattle.cred_phc.specs.Faults.{Judge, unless, numbers_fault, bytes_fault, judges_of, first, judgement, version_fault, named_fault, fields_fault, setting_fault, record_fault}
 use Rattle.cred_phc.specs.{Fields.name_of, Fields.numbers_of, Pieces.pieces, Ranges.argon_fits, Ranges.scrypt_fits, Ranges.salt_low}
 use Rattle.cred_phc.specs.Reading.{◌>>=◌, guard, next, end, argon_of, version_at, numbers_at, argon_at, scrypt_at, named_at, scheme_at, setting_at, tag_at, fields_of, read_setting, read_record}

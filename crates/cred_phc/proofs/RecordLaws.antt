@@ -5,7 +5,7 @@ use Rattle.std.specs.{Cmp.second_so, List.join_with_byte, Option.ok_or}
 use Rattle.base64.specs.GeneralPurpose.{IsBytes}
 use Rattle.cred_phc.specs.declared.error.PhcError.{PhcError}
 use Rattle.cred_phc.specs.declared.error.PhcError.TheVariants.{Salt, Tag, TooLong, Version as WrongVersion}
-use Rattle.cred_phc.specs.{declared.scheme.Scheme.Scheme, declared.scheme.Scheme.TheVariants.Argon2}
+use Rattle.cred_phc.specs.{declared.setting.Scheme.Scheme, declared.setting.Scheme.TheVariants.Argon2}
 use Rattle.cred_phc.specs.{Names.variant_name, Names.version_text, Base64.base64, Base64.bytes_of, Pieces.pieces}
 use Rattle.cred_phc.specs.Ranges.{between, is_current, salt_low}
 use Rattle.cred_phc.specs.Reading.{next, end, scheme_at, setting_at, tag_at, fields_of, read_setting, read_record}

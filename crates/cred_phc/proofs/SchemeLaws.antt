@@ -4,11 +4,11 @@ use borrow.Author.Tests.{eqb-true, not-false}
 use Rattle.std.specs.{Cmp.second_so, Str.bytes_eq, Option.ok_or}
 use Rattle.cred_argon.specs.{declared.kind.Version.Version, declared.kind.Version.TheVariants.V10, declared.kind.Version.TheVariants.V13}
 use Rattle.cred_phc.specs.declared.error.PhcError.TheVariants.{Shape, Version as WrongVersion, Params, Range, Scheme as NoScheme}
-use Rattle.cred_phc.specs.{declared.scheme.Scheme.Scheme, declared.scheme.Scheme.TheVariants.Argon2, declared.scheme.Scheme.TheVariants.Scrypt}
-use Rattle.cred_phc.specs.declared.scheme.Variant.{Variant}
-use Rattle.cred_phc.specs.declared.scheme.Variant.TheVariants.{D, I, Id}
-use Rattle.cred_phc.specs.declared.scheme.SchemeName.{SchemeName}
-use Rattle.cred_phc.specs.declared.scheme.SchemeName.TheVariants.{Argon2 as NamesArgon2, Scrypt as NamesScrypt}
+use Rattle.cred_phc.specs.{declared.setting.Scheme.Scheme, declared.setting.Scheme.TheVariants.Argon2, declared.setting.Scheme.TheVariants.Scrypt}
+use Rattle.cred_phc.specs.declared.setting.Variant.{Variant}
+use Rattle.cred_phc.specs.declared.setting.Variant.TheVariants.{D, I, Id}
+use Rattle.cred_phc.specs.declared.setting.SchemeName.{SchemeName}
+use Rattle.cred_phc.specs.declared.setting.SchemeName.TheVariants.{Argon2 as NamesArgon2, Scrypt as NamesScrypt}
 use Rattle.cred_phc.specs.{Fields.name_of, Fields.numbers_of, Names.variant_name}
 use Rattle.cred_phc.specs.Ranges.{argon_fits, scrypt_fits, scheme_fits, is_current}
 use Rattle.cred_phc.specs.Reading.{guard, next, argon_of, scrypt_of, version_of, version_at, numbers_at, argon_at, scrypt_at, named_at, scheme_at}

@@ -5,9 +5,9 @@ use Rattle.std.proofs.lemmas.Fmt.{length-decimal-le}
 use Rattle.std.specs.List.{join_with_byte}
 use Rattle.base64.specs.GeneralPurpose.{IsBytes}
 use Rattle.base64.proofs.EngineFacts.{front_bytes}
-use Rattle.cred_phc.specs.{declared.scheme.Scheme.Scheme, declared.scheme.Scheme.TheVariants.Argon2, declared.scheme.Scheme.TheVariants.Scrypt}
-use Rattle.cred_phc.specs.declared.scheme.Variant.{Variant}
-use Rattle.cred_phc.specs.declared.scheme.Variant.TheVariants.{D, I, Id}
+use Rattle.cred_phc.specs.{declared.setting.Scheme.Scheme, declared.setting.Scheme.TheVariants.Argon2, declared.setting.Scheme.TheVariants.Scrypt}
+use Rattle.cred_phc.specs.declared.setting.Variant.{Variant}
+use Rattle.cred_phc.specs.declared.setting.Variant.TheVariants.{D, I, Id}
 use Rattle.cred_phc.specs.{Names.variant_name, Names.version_text, Ranges.scheme_fits, Text.label, Text.numbers_text, Text.scheme_fields, Text.bare_fields}
 use Rattle.cred_argon.specs.{declared.kind.Version.Version, declared.kind.Version.TheVariants.V10, declared.kind.Version.TheVariants.V13}
 use Rattle.cred_phc.proofs.{FieldLaws.lacks-label, PieceLaws.AllLack, PieceLaws.lacks, PieceLaws.lacks-append}

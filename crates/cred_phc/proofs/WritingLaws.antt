@@ -1,7 +1,7 @@
 -- Texts are written field by field.
 use Rattle.std.proofs.Common.{◌≡◌, ◌∙◌, ℕ, List, [], ◌∷◌, ◌++◌, drop, refl, sym, ap, append_assoc}
 use Rattle.std.specs.List.{join_with_byte}
-use Rattle.cred_phc.specs.{declared.scheme.Scheme.Scheme, declared.scheme.Scheme.TheVariants.Argon2, declared.scheme.Scheme.TheVariants.Scrypt, Base64.base64}
+use Rattle.cred_phc.specs.{declared.setting.Scheme.Scheme, declared.setting.Scheme.TheVariants.Argon2, declared.setting.Scheme.TheVariants.Scrypt, Base64.base64}
 use Rattle.cred_phc.specs.{Text.scheme_fields, Text.scheme_text, Text.setting_text, Text.record_text, Values.SettingValue, Values.RecordValue}
 
 join-push : (byte : ℕ) (first : List ℕ) (more : List (List ℕ)) (last : List ℕ) → join_with_byte byte (first ∷ more ++ last ∷ []) ≡ join_with_byte byte (first ∷ more) ++ byte ∷ last

@@ -3,7 +3,8 @@ use Rattle.std.specs.Prelude.{ℕ, List, [], ◌∷◌, ◌++◌, length, take, 
 use Rattle.std.specs.Str.{bytes_eq}
 use Rattle.cred_phc.specs.declared.error.PhcError.{PhcError}
 use Rattle.cred_phc.specs.declared.error.PhcError.TheVariants.{Shape, Version as WrongVersion, Params, Range, Salt, Tag, TooLong, Scheme as NoScheme}
-use Rattle.cred_phc.specs.{declared.scheme.SchemeName.SchemeName, declared.scheme.SchemeName.TheVariants.Argon2, declared.scheme.SchemeName.TheVariants.Scrypt}
+use Rattle.cred_phc.specs.declared.setting.SchemeName.{SchemeName}
+use Rattle.cred_phc.specs.declared.setting.SchemeName.TheVariants.{Argon2, Scrypt}
 use Rattle.cred_phc.specs.Ranges.{argon_fits, scrypt_fits, MIN_ARGON2_SALT, MIN_SCRYPT_SALT, MAX_SALT, MIN_TAG, MAX_TAG, MAX_TEXT}
 use Rattle.cred_phc.specs.Names.{version_text, version_label, memory_label, passes_label, cost_label, block_size_label, parallelism_label}
 use Rattle.cred_phc.specs.{Pieces.pieces, Base64.bytes_of, Fields.name_of, Fields.numbers_of}

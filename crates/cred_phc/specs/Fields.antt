@@ -1,8 +1,9 @@
 -- The value of one field of a text.
 use Rattle.std.specs.Prelude.{ℕ, List, [], ◌∷◌, length, drop, take, Option, Some, None, if◌then◌else◌}
 use Rattle.std.specs.Str.{bytes_eq}
-use Rattle.cred_phc.specs.declared.scheme.Variant.TheVariants.{D, I, Id}
-use Rattle.cred_phc.specs.{declared.scheme.SchemeName.SchemeName, declared.scheme.SchemeName.TheVariants.Argon2, declared.scheme.SchemeName.TheVariants.Scrypt}
+use Rattle.cred_phc.specs.declared.setting.Variant.TheVariants.{D, I, Id}
+use Rattle.cred_phc.specs.declared.setting.SchemeName.{SchemeName}
+use Rattle.cred_phc.specs.declared.setting.SchemeName.TheVariants.{Argon2, Scrypt}
 use Rattle.cred_phc.specs.{Names.variant_name, Names.scrypt_name, Pieces.pieces, Number.number_of}
 
 abbrev pub name_of : List ℕ → Option SchemeName

@@ -3,8 +3,8 @@
 use Rattle.std.specs.Prelude.{ℕ, List, codes}
 pub use Rattle.cred_argon.specs.declared.kind.Version.{Version}
 pub use Rattle.cred_argon.specs.declared.kind.Version.TheVariants.{V10, V13}
-use Rattle.cred_phc.specs.declared.scheme.Variant.{Variant}
-use Rattle.cred_phc.specs.declared.scheme.Variant.TheVariants.{D, I, Id}
+use Rattle.cred_phc.specs.declared.setting.Variant.{Variant}
+use Rattle.cred_phc.specs.declared.setting.Variant.TheVariants.{D, I, Id}
 
 abbrev pub variant_name : Variant → List ℕ
 variant_name D = codes "argon2d"

@@ -2,13 +2,12 @@
 use Rattle.std.specs.Prelude.{ℕ, ◌*◌, ◌^◌, nat_le, nat_lt, Bool, true, false, ◌&&◌}
 use Rattle.cred_argon.specs.declared.params.TheConstants.{MAX_LANES, MAX_MEMORY, MAX_PASSES}
 use Rattle.cred_scrypt.specs.declared.params.TheConstants.{MAX_BLOCK_SIZE, MAX_BLOCKS, MAX_LN, MAX_ROWS}
-pub use Rattle.cred_phc.specs.declared.scheme.TheConstants.{MIN_ARGON2_SALT, MIN_SCRYPT_SALT}
-pub use Rattle.cred_phc.specs.declared.setting.TheConstants.{MAX_SALT}
-pub use Rattle.cred_phc.specs.declared.tag.TheConstants.{MIN_TAG, MAX_TAG}
+pub use Rattle.cred_phc.specs.declared.setting.TheConstants.{MIN_ARGON2_SALT, MIN_SCRYPT_SALT, MAX_SALT}
+pub use Rattle.cred_phc.specs.declared.record.TheConstants.{MIN_TAG, MAX_TAG}
 pub use Rattle.cred_phc.specs.declared.password.TheConstants.{MAX_PASSWORD}
 pub use Rattle.cred_phc.specs.declared.parse.TheConstants.{MAX_TEXT}
 use Rattle.cred_argon.specs.declared.kind.Version.TheVariants.{V10, V13}
-use Rattle.cred_phc.specs.{declared.scheme.Scheme.Scheme, declared.scheme.Scheme.TheVariants.Argon2, declared.scheme.Scheme.TheVariants.Scrypt}
+use Rattle.cred_phc.specs.{declared.setting.Scheme.Scheme, declared.setting.Scheme.TheVariants.Argon2, declared.setting.Scheme.TheVariants.Scrypt}
 
 abbrev pub between : ℕ → ℕ → ℕ → Bool
 between low high n = nat_le low n && nat_le n high

@@ -5,10 +5,10 @@ use Rattle.std.specs.Prelude.{◌≡◌, ℕ, List, [], ◌∷◌, length, take,
 use Rattle.std.specs.{Option.ok_or, Str.bytes_eq}
 use Rattle.cred_phc.specs.declared.error.PhcError.{PhcError}
 use Rattle.cred_phc.specs.declared.error.PhcError.TheVariants.{Shape, Version as WrongVersion, Params, Range, Salt, Tag, TooLong, Scheme as NoScheme}
-use Rattle.cred_phc.specs.{declared.scheme.Scheme.Scheme, declared.scheme.Scheme.TheVariants.Argon2, declared.scheme.Scheme.TheVariants.Scrypt}
-use Rattle.cred_phc.specs.{declared.scheme.Variant.Variant, declared.parse.Form.Form}
-use Rattle.cred_phc.specs.{declared.parse.Form.TheVariants.Setting, declared.parse.Form.TheVariants.Record, declared.scheme.SchemeName.SchemeName}
-use Rattle.cred_phc.specs.declared.scheme.SchemeName.TheVariants.{Argon2 as NamesArgon2, Scrypt as NamesScrypt}
+use Rattle.cred_phc.specs.{declared.setting.Scheme.Scheme, declared.setting.Scheme.TheVariants.Argon2, declared.setting.Scheme.TheVariants.Scrypt}
+use Rattle.cred_phc.specs.{declared.setting.Variant.Variant, declared.parse.Form.Form}
+use Rattle.cred_phc.specs.{declared.parse.Form.TheVariants.Setting, declared.parse.Form.TheVariants.Record, declared.setting.SchemeName.SchemeName}
+use Rattle.cred_phc.specs.declared.setting.SchemeName.TheVariants.{Argon2 as NamesArgon2, Scrypt as NamesScrypt}
 use Rattle.cred_phc.specs.Ranges.{argon_fits, scrypt_fits, salt_low, MAX_SALT, MIN_TAG, MAX_TAG, MAX_TEXT}
 use Rattle.cred_phc.specs.Values.{SettingValue, setting_of, RecordValue, record_of}
 use Rattle.cred_phc.specs.Names.{version_text, version_label, memory_label, passes_label, cost_label, block_size_label, parallelism_label}

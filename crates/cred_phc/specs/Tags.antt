@@ -4,9 +4,9 @@ use Rattle.cred_argon.specs.declared.kind.Kind.{Kind}
 use Rattle.cred_argon.specs.declared.kind.Kind.TheVariants.{D as ArgonD, I as ArgonI, Id as ArgonId}
 use Rattle.cred_argon.specs.{Parameters.Parameters, Parameters.parameters, Argon.argon}
 use Rattle.cred_scrypt.specs.Scrypt.{scrypt}
-use Rattle.cred_phc.specs.declared.scheme.Variant.{Variant}
-use Rattle.cred_phc.specs.declared.scheme.Variant.TheVariants.{D, I, Id}
-use Rattle.cred_phc.specs.{declared.scheme.Scheme.Scheme, declared.scheme.Scheme.TheVariants.Argon2, declared.scheme.Scheme.TheVariants.Scrypt}
+use Rattle.cred_phc.specs.declared.setting.Variant.{Variant}
+use Rattle.cred_phc.specs.declared.setting.Variant.TheVariants.{D, I, Id}
+use Rattle.cred_phc.specs.{declared.setting.Scheme.Scheme, declared.setting.Scheme.TheVariants.Argon2, declared.setting.Scheme.TheVariants.Scrypt}
 use Rattle.cred_phc.specs.Values.{SettingValue}
 
 -- RFC 9106, section 3.1, type y

@@ -2,7 +2,7 @@
 -- with `$` (byte 36) between.
 use Rattle.std.specs.Prelude.{◌≡◌, ℕ, List, [], ◌∷◌, ◌++◌, ◌⊎◌, decimal, true, false}
 use Rattle.std.specs.List.{join_with_byte}
-use Rattle.cred_phc.specs.{declared.scheme.Scheme.Scheme, declared.scheme.Scheme.TheVariants.Argon2, declared.scheme.Scheme.TheVariants.Scrypt}
+use Rattle.cred_phc.specs.{declared.setting.Scheme.Scheme, declared.setting.Scheme.TheVariants.Argon2, declared.setting.Scheme.TheVariants.Scrypt}
 use Rattle.cred_phc.specs.Names.{variant_name, version_text, scrypt_name, memory_label, passes_label, cost_label, block_size_label, parallelism_label}
 use Rattle.cred_phc.specs.{Ranges.is_current, Values.SettingValue, Values.RecordValue, Base64.base64}
 

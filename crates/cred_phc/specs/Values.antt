@@ -1,7 +1,7 @@
 -- Settings, tags, records and passwords as contracts see them, and their ranges.
 use Rattle.std.specs.Prelude.{ℕ, List, length, Bool, if◌then◌else◌, not, Result, Ok, Err, Option, Some, None, IsTrue}
 use Rattle.base64.specs.GeneralPurpose.{IsBytes}
-use Rattle.cred_phc.specs.{declared.scheme.Scheme.Scheme, declared.error.PhcError.PhcError}
+use Rattle.cred_phc.specs.{declared.setting.Scheme.Scheme, declared.error.PhcError.PhcError}
 use Rattle.cred_phc.specs.declared.error.PhcError.TheVariants.{Range, Salt, Tag}
 use Rattle.cred_phc.specs.Ranges.{between, scheme_fits, salt_low, MAX_SALT, MIN_TAG, MAX_TAG, MAX_PASSWORD}
 

@@ -1,9 +1,9 @@
 -- Records that other programs made, as values: those of Argon2i and Argon2id and of scrypt from the
 -- password `password`.
 use Rattle.std.specs.Prelude.{[], ◌∷◌, codes, replicate}
-use Rattle.cred_phc.specs.declared.scheme.Scheme.TheVariants.{Argon2, Scrypt}
+use Rattle.cred_phc.specs.declared.setting.Scheme.TheVariants.{Argon2, Scrypt}
 use Rattle.cred_argon.specs.declared.kind.Version.TheVariants.{V10, V13}
-use Rattle.cred_phc.specs.declared.scheme.Variant.TheVariants.{D, I, Id}
+use Rattle.cred_phc.specs.declared.setting.Variant.TheVariants.{D, I, Id}
 use Rattle.cred_phc.specs.Values.{RecordValue, setting_of, record_of}
 
 -- by the reference program of Argon2, with the salt `somesalt`

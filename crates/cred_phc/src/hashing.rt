@@ -6,10 +6,9 @@ ghost use Rattle.cred_phc.specs.{Functions.key, Functions.key_len, Ranges.argon_
 ghost use Rattle.cred_phc.specs.Values.{IsTag};
 
 use crate::password::Password;
-use crate::scheme::{Scheme, Variant};
+use crate::record::{MAX_TAG, Tag};
 use crate::scratch::Scratch;
-use crate::setting::Setting;
-use crate::tag::{MAX_TAG, Tag};
+use crate::setting::{Scheme, Setting, Variant};
 use cred_argon::{Inputs, Kind, Params, Version, argon2, argon2_in};
 use cred_pool::Gate;
 use cred_scrypt::{ScryptParams, scrypt, scrypt_in};

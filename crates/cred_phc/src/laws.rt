@@ -12,10 +12,8 @@ ghost use Rattle.cred_phc.specs.Values.{IsRecord, IsSetting, RecordValue, Settin
 
 use crate::error::PhcError;
 use crate::password::Password;
-use crate::record::Record;
-use crate::scheme::{Scheme, Variant};
-use crate::setting::Setting;
-use crate::tag::Tag;
+use crate::record::{Record, Tag};
+use crate::setting::{Scheme, Setting, Variant};
 use cred_argon::Version;
 
 /// Compares records by `==`, which is equality of all their parts.

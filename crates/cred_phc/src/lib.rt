@@ -6,18 +6,13 @@
 mod error;
 mod hashing;
 mod laws;
-mod number;
 mod parse;
 mod password;
 mod pieces;
 mod record;
-mod salt;
-mod scheme;
 mod scratch;
-mod secret;
 mod setting;
 mod short_bytes;
-mod tag;
 mod write;
 
 pub use cred_argon::Version;
@@ -28,15 +23,11 @@ pub use laws::{
     equal_versions, known_faults, known_texts, old_not_read, one_value_each,
     ranges_are_these_numbers, read_as_written, reading_is_the_grammar, two_old_texts,
 };
-pub use number::decimal;
 pub use parse::{parse_record, parse_setting};
 pub use password::{MAX_PASSWORD, Password};
-pub use pieces::Pieces;
-pub use record::Record;
-pub use salt::draw_salt;
-pub use scheme::{Scheme, Variant};
+pub use pieces::{Pieces, decimal};
+pub use record::{Record, Tag};
 pub use scratch::Scratch;
-pub use setting::Setting;
+pub use setting::{Scheme, Setting, Variant, draw_salt};
 pub use short_bytes::ShortBytes;
-pub use tag::Tag;
 pub use write::{write_record, write_setting};

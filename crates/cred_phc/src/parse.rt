@@ -6,15 +6,12 @@ ghost use Rattle.cred_phc.specs.Reading.{Gives, argon_at, end, fields_of, may_be
 ghost use Rattle.cred_phc.specs.{Text.IsRecordText, Text.IsSettingText, Values.IsRecord, Values.IsSetting, Values.RecordValue, Values.SettingValue};
 
 use crate::error::PhcError;
-use crate::number::numbers;
-use crate::pieces::Pieces;
-use crate::record::Record;
-use crate::scheme::{
+use crate::pieces::{Pieces, numbers};
+use crate::record::{Record, Tag};
+use crate::setting::{
     BLOCK_SIZE_LABEL, COST_LABEL, MEMORY_LABEL, PARALLELISM_LABEL, PASSES_LABEL, SCRYPT, Scheme,
-    SchemeName, VERSION_LABEL, Variant, version_text,
+    SchemeName, Setting, VERSION_LABEL, Variant, version_text,
 };
-use crate::setting::Setting;
-use crate::tag::Tag;
 use cred_argon::Version;
 
 /// The length in bytes over which the readers refuse a text unread. No text of a value has even

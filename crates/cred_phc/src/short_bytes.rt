@@ -1,10 +1,10 @@
-//! Bytes within a value that code can copy without an allocation.
+//! Bytes within a value that code can copy without an allocation. Their comparison is generic over
+//! secret bytes, so it can't branch on a byte, or use a byte as an index.
 
-ghost use Rattle.std.specs.Prelude.{◌≡◌, ◌≤◌, length, if◌then◌else◌};
+ghost use Rattle.std.specs.Prelude.{◌≡◌, ◌↔◌, ◌≤◌, length, map, if◌then◌else◌};
 ghost use Rattle.base64.specs.GeneralPurpose.{IsBytes};
 ghost use Rattle.cred_phc.specs.{Base64.bytes_of, Ranges.between};
 
-use crate::secret::difference;
 use cred_base64::{decode, decoded_len};
 use std::marker::Model;
 
@@ -95,7 +95,7 @@ impl<const CAP: usize> PartialEq for ShortBytes<CAP> {
 
     ghost laws = { partial_equiv_from_equiv nat_list_eq_equiv };
 
-    /// Compares the bytes by [`difference`](crate::secret::difference), which can't look at one. So
+    /// Compares the bytes by [`difference`], which can't look at one. So
     /// no branch depends on a byte, except by the verdict.
     fn eq(&self, other: &Self) -> bool {
         let (these, those) = (self.as_slice(), other.as_slice());
@@ -110,4 +110,46 @@ impl<const CAP: usize> Eq for ShortBytes<CAP> {
     ghost use Rattle.std.specs.Cmp.Lexicographic.{nat_list_eq_equiv};
 
     ghost laws = { nat_list_eq_equiv };
+}
+
+/// A byte that code can only combine with others: no call turns it into a `bool` or a number.
+pub(crate) trait SecretByte: Copy {
+    ghost use Rattle.std.specs.Prelude.{ℕ};
+
+    ghost value: { Self → ℕ };
+
+    /// Returns zero exactly if the two bytes are equal.
+    fn difference(self, other: Self) -> Self
+        ensures { (value result ≡ 0) ↔ (value self ≡ value other) };
+
+    /// Returns zero exactly if both bytes are zero.
+    fn either(self, other: Self) -> Self
+        ensures { (value result ≡ 0) ↔ ((value self ≡ 0) × (value other ≡ 0)) };
+}
+
+impl SecretByte for u8 {
+    ghost value = { λ byte. byte };
+
+    fn difference(self, other: u8) -> u8 {
+        self ^ other
+    }
+
+    fn either(self, other: u8) -> u8 {
+        self | other
+    }
+}
+
+/// Returns zero exactly if the bytes are the same. The loop reads each byte even if an early one
+/// differs, so the time doesn't tell how far two tags agree. The loop can't end at a byte or branch
+/// on one, since the bound of `S` has no call that tells a byte's value.
+pub(crate) fn difference<S: SecretByte>(zero: S, these: &[S], those: &[S]) -> S
+    requires zero { S.value zero ≡ 0 }
+    requires lengths { length these.now ≡ length those.now }
+    ensures { (S.value result ≡ 0) ↔ (map S.value these.now ≡ map S.value those.now) }
+{
+    let mut sum = zero;
+    for i in 0..these.len() {
+        sum = sum.either(these[i].difference(those[i]));
+    }
+    sum
 }

@@ -6,13 +6,11 @@ ghost use Rattle.cred_phc.specs.{Base64.base64, Text.label, Text.numbers_text, T
 ghost use Rattle.cred_phc.specs.Values.{IsRecord, IsSetting};
 
 use crate::error::PhcError;
-use crate::record::Record;
-use crate::scheme::{
+use crate::record::{MAX_TAG, Record};
+use crate::setting::{
     BLOCK_SIZE_LABEL, COST_LABEL, MEMORY_LABEL, PARALLELISM_LABEL, PASSES_LABEL, SCRYPT, Scheme,
-    version_text,
+    Setting, version_text,
 };
-use crate::setting::Setting;
-use crate::tag::MAX_TAG;
 use cred_base64::{encode, encoded_len};
 use itoa::Buffer;
 use std::alloc::{AllocError, Global};

@@ -12,7 +12,7 @@ ghost use Rattle.cred_file.specs.declared.fault.Attempt.TheVariants as Attempt;
 
 use super::FileBook;
 use crate::fault::{Attempt, Lost};
-use crate::mark::Mark;
+use crate::marks::Mark;
 use crate::row_statement::RowStatement;
 use crate::statements::{delete_row, rename_row, text_of, write_row};
 use cred_book::{BookError, Name, Reply, Worked};

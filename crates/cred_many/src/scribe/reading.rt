@@ -5,9 +5,9 @@ ghost use Rattle.crossbeam_channel.specs.{Claims.view, Ends.receives_on, Ends.se
 ghost use Rattle.cred_cli.specs.Script.{line_ends};
 ghost use Rattle.cred_many.specs.Reading.{HasHanded, IsEnd, IsOfReading, MovesOver, NothingIsLeft, ComesNext, place};
 
-use crate::decoder::LineDecoder;
 use crate::ending::{End, MOST_LINES};
 use crate::inbox::{Inbox, ReaderEnd};
+use crate::line::LineDecoder;
 use crate::sender::{Gone, LineSender};
 use crate::service_id::ServiceId;
 use crate::source::Source;

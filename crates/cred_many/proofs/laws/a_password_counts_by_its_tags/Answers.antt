@@ -1,9 +1,9 @@
 use Rattle.std.proofs.Common.{◌≡◌, ℕ, List, Bool, true, false, Option, Some, None, IfSome, unwrap_or, length, if◌then◌else◌, refl, ap, ◌∙◌}
 use Rattle.cred_phc.specs.Values.{RecordValue}
-use Rattle.cred_book.specs.{Passwords.KeepsTags, Passwords.made_setting, Works.name_of, Works.whole, declared.request.Request.Request, declared.reply.Reply.Reply}
+use Rattle.cred_book.specs.{Passwords.KeepsTags, Passwords.made_setting, Works.name_of, Works.whole, declared.request.Request.Request, declared.request.Reply.Reply}
 use Rattle.cred_book.proofs.Telling.{as_new, as_whole}
 use Rattle.cred_cli.specs.Texts.{reply_line}
-use Rattle.cred_file.specs.declared.mark.Mark.{Mark}
+use Rattle.cred_file.specs.declared.marks.Mark.{Mark}
 use Rattle.cred_admin.specs.{Commands.reset_step, Marked.MarkedBook, Marked.barred, Marked.due, Marked.keeps_password, Marked.shut, Marked.tried, Marked.tried_at, Marked.tried_if, Statuses.verdict_line}
 use Rattle.cred_admin.specs.declared.verdict.Verdict.{Verdict}
 use Rattle.cred_admin.specs.declared.verdict.Verdict.TheVariants.{Same, Told}
@@ -11,7 +11,7 @@ use Rattle.cred_many.specs.{Served.done, Served.login_verdict, Telling.KeepsTags
 use Rattle.cred_many.specs.declared.ask.Ask.TheVariants.{Quick, Whole, Login, Reset, Forgive, Later}
 use Rattle.cred_book.specs.declared.request.Request.TheVariants.{Enrol, Verify, Change, Upgrade, Remove}
 use Rattle.cred_book.specs.Passwords as book_passwords
-use Rattle.cred_book.specs.declared.reply.Reply.TheVariants as reply
+use Rattle.cred_book.specs.declared.request.Reply.TheVariants as reply
 use Rattle.std.specs.FinMap as map
 use Rattle.cred_many.proofs.laws.a_password_counts_by_its_tags.Goals as goal
 

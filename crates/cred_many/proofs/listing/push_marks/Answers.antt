@@ -1,7 +1,7 @@
 use Rattle.std.proofs.Common.{sym, ap, not, ◌&&◌, ◌∷◌, ◌++◌, ◌∙◌}
 use Rattle.std.specs.Ordering.{is_lt}
 use Rattle.cred_book.specs.Names.{name_cmp}
-use Rattle.cred_file.specs.{Cells.is_marked, Cells.mark_text, declared.mark.Mark.Mark}
+use Rattle.cred_file.specs.{Cells.is_marked, Cells.mark_text, declared.marks.Mark.Mark}
 use Rattle.cred_many.proofs.Listed.{all_marks_written, enough_marks, mark_skipped, mark_written}
 use Rattle.cred_many.proofs.listing.push_marks.Goals as goal
 

@@ -1,5 +1,0 @@
-use Rattle.cred_base64.proofs.PlaceLaws.{AgreeUpTo}
-use Rattle.cred_base64.proofs.encoding.encode.Given as goal
-
-abbrev pub invariant-loop-place : goal.invariant-loop-place
-invariant-loop-place l = AgreeUpTo l.letters l.bytes l.place
