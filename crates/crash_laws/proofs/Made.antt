@@ -7,7 +7,7 @@ use Rattle.sqlite.specs.{Store.Ghosts, declared.error.Error.Error}
 use Rattle.cred_book.specs.{declared.error.BookError.BookError}
 use Rattle.cred_book.specs.declared.error.BookError.TheVariants.{Memory}
 use Rattle.cred_book.specs.declared.error.BookError.TheVariants as error
-use Rattle.cred_file.specs.{Cells.Cells, Edits.Becomes, Edits.after_attempt, Keeps.IsOrWith, Kept.Kept, Kept.cells}
+use Rattle.cred_file.specs.{Cells.Cells, Changes.Becomes, Changes.after_attempt, Keeps.IsOrWith, Kept.Kept, Kept.cells}
 use Rattle.cred_file.specs.{declared.fault.Attempt.Attempt, declared.fault.Lost.Lost, Failures.IsLossOf, Failures.LosesForMemory, Failures.Remembers, Failures.WasClean}
 use Rattle.crash_laws.specs.Crashes.{Answer, AreMade, Asked, Follow, IsCall, IsLeft, IsUnderWay, after, after_one, asked_of, is_done}
 

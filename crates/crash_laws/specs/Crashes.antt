@@ -6,7 +6,7 @@ use Rattle.sqlite.specs.{Store.Ghosts, Tree.Trees}
 use Rattle.sqlite_trees.specs.View.{IsClean, doubt}
 use Rattle.cred_book.specs.{Accounts.register_capacity, declared.error.BookError.BookError}
 use Rattle.cred_book.specs.declared.error.BookError.TheVariants.{Memory}
-use Rattle.cred_file.specs.{Cells.Cells, Edits.after_attempt, Keeps.HoldsBook, Kept.Kept, Kept.cells}
+use Rattle.cred_file.specs.{Cells.Cells, Changes.after_attempt, Keeps.HoldsBook, Kept.Kept, Kept.cells}
 use Rattle.cred_file.specs.{declared.fault.Attempt.Attempt, declared.fault.OpenFault.OpenFault}
 use Rattle.cred_file.specs.Failures.{LosesForMemory, Remembers, WasClean}
 

@@ -2,7 +2,7 @@
 use Rattle.std.proofs.Common.{◌≡◌, ℕ, List, Option, Some, None, Result, Ok, Err, OnOk, OnErr, Bool, true, false, if◌then◌else◌, refl, sym, ap, ◌∙◌}
 use Rattle.cred_phc.specs.Values.{RecordValue}
 use Rattle.cred_book.specs.{Accounts.Accounts, Calls.AdmitsWithin, Calls.Loads, Commits.Commits, Commits.commit_outcome, Works.Task, declared.error.BookError.BookError, declared.request.Reply.Reply}
-use Rattle.cred_file.specs.{Cells.cells_of, Cells.mark_in as cell_mark, Cells.marked, Cells.renewed, Cells.unmarked, Edits.PutsEntry, Edits.TakesIn, Edits.taken_in, declared.marks.Mark.Mark}
+use Rattle.cred_file.specs.{Cells.cells_of, Cells.mark_in as cell_mark, Cells.marked, Cells.renewed, Cells.unmarked, Changes.PutsEntry, Changes.TakesIn, Changes.taken_in, declared.marks.Mark.Mark}
 use Rattle.cred_file.proofs.CellLaws.{mark_absent, mark_here}
 use Rattle.cred_admin.specs.Marked.{Becomes, MarkedBook, mark_in, marked_book, with_put}
 use Rattle.cred_admin.proofs.Heeding.{book_is}

@@ -3,10 +3,10 @@ use Rattle.std.specs.Io.KnownBytes.{Keeps}
 use Rattle.std.specs.Prelude.{◌≡◌, ◌⊎◌, ℕ, List, Bool, not, Option, Some, None, Result, Ok, Err, IfErr, true, false}
 use Rattle.cred_phc.specs.Values.{RecordValue}
 use Rattle.cred_book.specs.{Works.new_record, declared.request.Reply.Reply}
-use Rattle.cred_file.specs.Edits.{has_room_for}
+use Rattle.cred_file.specs.Changes.{has_room_for}
 use Rattle.cred_admin.specs.{Lines.IsMisread, Lines.Reads, Listing.Tells, Seen.Seen, Marked.MarkedBook, Marked.tried, Marked.with_account, Marked.with_record, Statuses.hint_of, Statuses.verdict_line, Statuses.verdict_status}
-use Rattle.cred_admin.specs.declared.operation.Operation.TheVariants.{Add, Check, Change, Reset, Upgrade, Remove}
-use Rattle.cred_admin.specs.{declared.fault.Fault.Fault, declared.operation.Operation.Operation, declared.password.Passwords.Passwords}
+use Rattle.cred_admin.specs.declared.password_operation.PasswordOperation.TheVariants.{Add, Check, Change, Reset, Upgrade, Remove}
+use Rattle.cred_admin.specs.{declared.fault.Fault.Fault, declared.password_operation.PasswordOperation.PasswordOperation, declared.password.Passwords.Passwords}
 use Rattle.cred_admin.specs.{declared.password.Typed.Typed, declared.status.Hint.Hint, declared.status.Status.Status, declared.verdict.Verdict.Verdict, declared.verdict.Verdict.TheVariants.Told}
 use Rattle.cred_admin.specs.declared.password.Passwords.TheVariants.{Present, New, PresentAndNew}
 use Rattle.std.specs.FinMap as map
@@ -16,7 +16,7 @@ use Rattle.cred_admin.specs.declared.fault.Fault.TheVariants as fault
 
 -- ---- what is asked
 
-abbrev pub passwords_of : Operation → Passwords
+abbrev pub passwords_of : PasswordOperation → Passwords
 passwords_of (Add new) = New new.empty
 passwords_of Check = Present
 passwords_of (Change new) = PresentAndNew new.empty
@@ -65,7 +65,7 @@ abbrev pub as_told : Reply × MarkedBook → Verdict × MarkedBook
 as_told o = (Told o.0, o.1)
 
 -- the answer to the operation with these passwords, and the book after it
-abbrev pub done : MarkedBook → List ℕ → Operation → Typed → Verdict × MarkedBook
+abbrev pub done : MarkedBook → List ℕ → PasswordOperation → Typed → Verdict × MarkedBook
 done book name (Add new) t = as_told (enrolment book name (new_record new.setting t.last))
 done book name Check t = tried book (request.Verify name t.first)
 done book name (Change new) t = tried book (request.Change name t.first t.last new.setting)
@@ -74,7 +74,7 @@ done book name (Upgrade setting) t = tried book (request.Upgrade name t.first se
 done book name Remove t = tried book (request.Remove name t.first)
 
 -- the operation adds an account for which there is no room
-abbrev pub FindsNoRoom : ℕ → MarkedBook → List ℕ → Operation → Type 0
+abbrev pub FindsNoRoom : ℕ → MarkedBook → List ℕ → PasswordOperation → Type 0
 FindsNoRoom capacity book name (Add new) = has_room_for capacity book.accounts name ≡ false
 FindsNoRoom capacity book name _ = ⊥
 
@@ -88,7 +88,7 @@ ComesTo outcome NoRoom old new (Err fault.Full) = NoRoom × (new ≡ old)
 ComesTo outcome NoRoom old new (Err _) = ⊥
 
 -- the operation is done with these passwords, or not
-abbrev pub Works : ℕ → MarkedBook → MarkedBook → List ℕ → Operation → Typed
+abbrev pub Works : ℕ → MarkedBook → MarkedBook → List ℕ → PasswordOperation → Typed
     → Result Verdict Fault → Type 0
 Works capacity old new name o t r =
     ComesTo (done old name o t) (FindsNoRoom capacity old name o) old new r
@@ -100,21 +100,21 @@ abbrev pub answer_of : Verdict → Option Hint → List ℕ × Status
 answer_of v hint = (verdict_line v, verdict_status v hint)
 
 -- the operation is done, and answered or not; the hint is the first line's
-abbrev pub IsDone : ℕ → List ℕ → Operation → Seen → Result Status Fault → Type 0
+abbrev pub IsDone : ℕ → List ℕ → PasswordOperation → Seen → Result Status Fault → Type 0
 IsDone capacity name operation s ended = (t : Typed) × Reads (passwords_of operation) s.reading t
     × (v : Verdict) × Works capacity s.old s.new name operation t (Ok v)
     × Tells (answer_of v (hint_of t.first)) s.writing ended
     × IfErr ended (λ e. e ≡ fault.Write)
 
 -- the passwords aren't read, and the book is as it was; or the operation meets this fault
-abbrev pub IsNotDone : ℕ → List ℕ → Operation → Seen → Fault → Type 0
+abbrev pub IsNotDone : ℕ → List ℕ → PasswordOperation → Seen → Fault → Type 0
 IsNotDone capacity name operation s e =
     (IsMisread (passwords_of operation) s.reading e × (s.new ≡ s.old))
     ⊎ ((t : Typed) × Reads (passwords_of operation) s.reading t
     × Works capacity s.old s.new name operation t (Err e))
 
 -- the operation is done, or it isn't and nothing is written
-abbrev pub Obeys : ℕ → List ℕ → Operation → Seen → Result Status Fault → Type 0
+abbrev pub Obeys : ℕ → List ℕ → PasswordOperation → Seen → Result Status Fault → Type 0
 Obeys capacity name operation s ended = IsDone capacity name operation s ended
     ⊎ ((e : Fault) × (ended ≡ Err e) × IsNotDone capacity name operation s e
     × Keeps s.writing.before s.writing.now)

@@ -6,7 +6,7 @@ use Rattle.cred_phc.specs.Values.{RecordValue}
 use Rattle.cred_book.specs.{Accounts.Accounts, Commits.commit_outcome, Commits.judgement, Works.Task, Works.makes_change, Works.name_of, Works.same, Works.whole, declared.request.Reply.Reply, declared.request.Request.Request}
 use Rattle.cred_book.specs.declared.request.Request.TheVariants.{Enrol, Verify, Change, Upgrade, Remove}
 use Rattle.cred_book.specs.declared.request.Reply.TheVariants as reply
-use Rattle.cred_file.specs.{Cells.mark_at as kept_mark, Cells.marked, Cells.renewed, Cells.unmarked, Edits.taken_in, Kept.Kept, Transactions.changed_marks, declared.marks.Mark.Mark}
+use Rattle.cred_file.specs.{Cells.mark_at as kept_mark, Cells.marked, Cells.renewed, Cells.unmarked, Changes.taken_in, Kept.Kept, Transactions.changed_marks, declared.marks.Mark.Mark}
 use Rattle.cred_admin.specs.declared.verdict.Verdict.{Verdict}
 use Rattle.cred_admin.specs.declared.verdict.Verdict.TheVariants.{Told, Expired, Same}
 

@@ -1,7 +1,7 @@
 //! The keeper of a book whose changes wait for nobody.
 
-use crate::edit_reply::EditReply;
-use crate::edits::{Edit, make_edit};
+use crate::account_operation::AccountOperation;
+use crate::account_reply::AccountReply;
 use cred_book::{BookError, Name, Register, Reply, Worked};
 use cred_file::{FileBook, Mark};
 use cred_phc::Record;
@@ -14,8 +14,8 @@ use sqlite::Alter;
 pub trait Host {
     ghost use Rattle.std.specs.Prelude.{◌≡◌, ℕ, Bool, None, Some};
     ghost use Rattle.cred_book.specs.{Accounts.most_accounts, Calls.AdmitsWithin, Calls.Loads, Commits.Commits};
-    ghost use Rattle.cred_admin.specs.{Edits.EditsWithin, Marked.Becomes, Marked.MarkedBook, Marked.with_account, Marked.with_commit, Marked.with_put, Marked.with_record, Marked.with_replaced};
-    ghost use Rattle.cred_file.specs.Edits.{PutsEntry, TakesIn};
+    ghost use Rattle.cred_admin.specs.{AccountOperations.OperatesWithin, Marked.Becomes, Marked.MarkedBook, Marked.with_account, Marked.with_commit, Marked.with_put, Marked.with_record, Marked.with_replaced};
+    ghost use Rattle.cred_file.specs.Changes.{PutsEntry, TakesIn};
     ghost use Rattle.std.specs.FinMap as map;
 
     /// The accounts with their marks.
@@ -78,8 +78,8 @@ pub trait Host {
     ///
     /// Errors: `Full` if an account would be renamed, and there is no room for one more name;
     /// `Memory`. The book stays.
-    fn edit(&mut self, edit: &Edit) -> Result<EditReply, BookError>
-        ensures { EditsWithin capacity (book self.old) (book self.new) edit.now result };
+    fn operate(&mut self, operation: &AccountOperation) -> Result<AccountReply, BookError>
+        ensures { OperatesWithin capacity (book self.old) (book self.new) operation.now result };
 
     /// Gives each of these accounts its record in this register, or none, in place of any other.
     /// The changes are made together, so that a crash leaves the book with all of them or with
@@ -137,8 +137,8 @@ impl<S: Alter> Host for FileBook<S> {
         FileBook::commit(self, worked)
     }
 
-    fn edit(&mut self, edit: &Edit) -> Result<EditReply, BookError> {
-        make_edit(self, edit)
+    fn operate(&mut self, operation: &AccountOperation) -> Result<AccountReply, BookError> {
+        operation.work_in(self)
     }
 
     #[tactic(auto, using(crate::proofs::Becoming::replaced))]

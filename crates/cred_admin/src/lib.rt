@@ -6,34 +6,34 @@
 //! command writes an answer before the change.
 #![tactic(auto)]
 
+mod account_operation;
+mod account_reply;
 mod detail;
-mod edit_reply;
-mod edits;
 mod entry;
 mod fault;
 mod host;
 mod import;
 mod laws;
 mod listing;
-mod operation;
 mod password;
+mod password_operation;
 mod printing;
 mod setting;
 mod showing;
 mod status;
 mod verdict;
 
+pub use account_operation::{AccountOperation, disable_shown};
+pub use account_reply::{AccountReply, account_reply_line};
 pub use detail::Detail;
-pub use edit_reply::{EditReply, edit_line};
-pub use edits::{Edit, disable_shown, edit_account};
 pub use entry::LineFault;
 pub use fault::Fault;
 pub use host::Host;
 pub use import::{BadLine, Existing, Gathered, ImportFault, LockedRecords, Rules, gather};
 pub use laws::imports_are_of_their_lines;
 pub use listing::{LineForm, a_piece_has_64_kib, line_of, list};
-pub use operation::{Operation, put_in_place};
 pub use password::{EmptyPassword, NewPassword, Passwords};
+pub use password_operation::{PasswordOperation, put_in_place};
 pub use printing::tell;
 pub use setting::{NewSetting, setting_of};
 pub use showing::{show, show_json};

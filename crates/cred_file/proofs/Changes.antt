@@ -18,7 +18,7 @@ use Rattle.sqlite.proofs.Callers.{one_step, one_permutation}
 use Rattle.cred_file.specs.Cells.{Cell, Cells, blank}
 use Rattle.cred_book.specs.{Names.is_name, Names.name_cmp}
 use Rattle.sqlite_schema.specs.declared.schema.Keys.{Keys}
-use Rattle.cred_file.specs.{Schema.account, Schema.book_schema, Edits.moved}
+use Rattle.cred_file.specs.{Schema.account, Schema.book_schema, Changes.moved}
 use Rattle.cred_file.specs.Table.{Line, Says, Tells, has_name, StandsFor}
 use Rattle.std.specs.FinMap.{get-remove}
 use Rattle.cred_book.proofs.Rows.{row_over}

@@ -12,7 +12,7 @@ use Rattle.std.specs.Cmp.Lexicographic.{nat_list_cmp_total}
 use Rattle.cred_phc.specs.Values.{RecordValue}
 use Rattle.cred_book.proofs.Rows.{no_some, same_rows}
 use Rattle.cred_book.specs.{Accounts.Accounts, Names.name_cmp}
-use Rattle.cred_file.specs.{Edits.AreApart, Edits.AreThere, Edits.joined, Edits.taken_in}
+use Rattle.cred_file.specs.{Changes.AreApart, Changes.AreThere, Changes.joined, Changes.taken_in}
 use Rattle.cred_file.specs.Transactions.{KeepsOthers}
 
 abbrev pub Entries : Type 0

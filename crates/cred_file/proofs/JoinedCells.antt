@@ -10,7 +10,7 @@ use Rattle.cred_book.proofs.Rows.{same_rows}
 use Rattle.cred_book.specs.{Accounts.Accounts, Names.name_cmp}
 use Rattle.cred_file.specs.declared.marks.Mark.{Mark}
 use Rattle.cred_file.specs.Cells.{AllMarks, Cell, Cells, Marks, cell, cells_of, mark_at, mark_in, renewed, renewed_with, unmarked}
-use Rattle.cred_file.specs.{Edits.AreApart, Edits.AreThere, Edits.joined, Edits.joined_cells, Edits.taken_cells, Edits.taken_in, Edits.with_added}
+use Rattle.cred_file.specs.{Changes.AreApart, Changes.AreThere, Changes.joined, Changes.joined_cells, Changes.taken_cells, Changes.taken_in, Changes.with_added}
 use Rattle.cred_file.specs.Transactions.{AgreeOn, IsUnderWay, added_mark, changed_mark, changed_marks, marks_with, taken_marks}
 use Rattle.cred_file.proofs.CellLaws.{get_cells, len_cells, mark_here}
 use Rattle.cred_file.proofs.Joined.{deeper, get_joined, there_still}

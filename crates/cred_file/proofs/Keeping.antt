@@ -17,7 +17,7 @@ use Rattle.cred_file.specs.Cells.{Cell, Cells}
 use Rattle.cred_book.specs.{Accounts.Accounts, Accounts.register_capacity, Calls.EntersWithin, Names.is_name, declared.error.BookError.BookError}
 use Rattle.sqlite_catalog.specs.Listing.{IsSound}
 use Rattle.cred_file.specs.Schema.{IsBookSchema, book_schema, statistics, insert_text, update_text, delete_text, rename_text}
-use Rattle.cred_file.specs.{Failures.Changes, Failures.Refuses, Failures.put_text, Rows.Suits, Rows.is_update, Table.StandsFor, Table.Tells, Edits.after_attempt, Edits.moved, Edits.PutsEntry}
+use Rattle.cred_file.specs.{Failures.Changes, Failures.Refuses, Failures.put_text, Rows.Suits, Rows.is_update, Table.StandsFor, Table.Tells, Changes.after_attempt, Changes.moved, Changes.PutsEntry}
 use Rattle.cred_file.specs.{Keeps.HoldsBook, Keeps.IsTableOf, Keeps.IsRenamable, Keeps.LeavesOnly, Keeps.Keeps, Keeps.IsOrWith, declared.fault.Lost.Lost}
 use Rattle.sqlite_trees.specs.View.{doubt}
 use Rattle.cred_book.specs.declared.error.BookError.TheVariants as error

@@ -9,7 +9,7 @@ use Rattle.cred_book.specs.{Accounts.Accounts, Names.name_cmp}
 use Rattle.cred_file.specs.declared.fault.Attempt.{Attempt}
 use Rattle.cred_file.specs.declared.fault.Attempt.TheVariants as attempt
 use Rattle.cred_file.specs.Cells.{Cell, Cells, Marks, blank, cell, cells_of, mark_at, mark_in, renewal, renewed_with}
-use Rattle.cred_file.specs.{Edits.AreApart, Edits.IsOfRecords, Edits.after_attempt, Edits.taken_cells, Edits.with_added}
+use Rattle.cred_file.specs.{Changes.AreApart, Changes.IsOfRecords, Changes.after_attempt, Changes.taken_cells, Changes.with_added}
 use Rattle.cred_file.proofs.CellLaws.{get_cells}
 use Rattle.cred_file.proofs.JoinedCells.{get_both}
 

@@ -6,7 +6,7 @@ use Rattle.std.specs.FinMap as fin
 use Rattle.std.specs.{FinMap.len-insert, FinMap.len-remove, FinMap.get-remove, FinMap.get-insert, Cmp.Lexicographic.nat_list_cmp_total}
 use Rattle.cred_phc.specs.Values.{RecordValue}
 use Rattle.cred_book.specs.{Accounts.Accounts, Accounts.register_capacity, Names.name_cmp}
-use Rattle.cred_file.specs.Edits.{renamed}
+use Rattle.cred_file.specs.Changes.{renamed}
 use Rattle.cred_book.proofs.Rows.{no_some, same_rows}
 
 less : (b : Bool) (n m : ℕ) → m ≡ cond b (n - 1) n → n ≤ register_capacity → m ≤ register_capacity

@@ -9,7 +9,7 @@ use Rattle.cred_book.proofs.Rows.{same_names}
 use Rattle.cred_book.specs.{Accounts.Accounts, Names.name_cmp}
 use Rattle.cred_file.specs.declared.marks.Mark.{Mark}
 use Rattle.cred_file.specs.Cells.{AllMarks, Cells, cell, cells_of, marked}
-use Rattle.cred_file.specs.{Edits.AreThere, Edits.joined, Keeps.Has, Keeps.Lacks}
+use Rattle.cred_file.specs.{Changes.AreThere, Changes.joined, Keeps.Has, Keeps.Lacks}
 use Rattle.cred_file.specs.Transactions.{AgreeOn, IsUnderWay, MakesWithin, marks_with}
 use Rattle.cred_file.proofs.CellLaws.{cells_put, has_cell}
 use Rattle.cred_file.proofs.Joined.{AreLeft, AreReplaced, Entries, all_entered, among, none_again, none_replaced, one_replaced, still_there, tied}

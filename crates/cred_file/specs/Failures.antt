@@ -8,7 +8,7 @@ use Rattle.cred_book.specs.{declared.error.BookError.BookError}
 use Rattle.cred_book.specs.declared.error.BookError.TheVariants as error
 use Rattle.cred_file.specs.{declared.fault.Attempt.Attempt, declared.fault.Lost.Lost, declared.fault.OpenFault.OpenFault}
 use Rattle.cred_file.specs.declared.fault.OpenFault.TheVariants as fault
-use Rattle.cred_file.specs.{Edits.Becomes, Edits.after_attempt, Kept.Kept, Kept.cells, Schema.create_text, Schema.delete_text, Schema.insert_text, Schema.no_schema, Schema.rename_text, Schema.update_text}
+use Rattle.cred_file.specs.{Changes.Becomes, Changes.after_attempt, Kept.Kept, Kept.cells, Schema.create_text, Schema.delete_text, Schema.insert_text, Schema.no_schema, Schema.rename_text, Schema.update_text}
 use Rattle.cred_file.specs.{Keeps.Makes, Keeps.MayMake, Table.Tells}
 
 -- if the disk returns the written bytes, the statement was run and this was its error

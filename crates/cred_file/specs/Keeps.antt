@@ -6,7 +6,7 @@ use Rattle.sqlite_catalog.specs.Listing.{IsSound}
 use Rattle.sqlite_trees.specs.View.{IsClean}
 use Rattle.cred_file.specs.Cells.{Cells}
 use Rattle.cred_book.specs.Accounts.{register_capacity}
-use Rattle.cred_file.specs.{declared.fault.Lost.Lost, declared.fault.OpenFault.OpenFault, Edits.after_attempt, Opening.IsForWant, Schema.IsBookSchema, Table.StandsFor}
+use Rattle.cred_file.specs.{declared.fault.Lost.Lost, declared.fault.OpenFault.OpenFault, Changes.after_attempt, Opening.IsForWant, Schema.IsBookSchema, Table.StandsFor}
 
 -- a database with the one table, whose rows stand for the book
 pub record HoldsBook (db : Trees) (book : Cells) : Type 0 where

@@ -3,7 +3,7 @@
 pub mod Schema
 pub mod Cells
 pub mod Table
-pub mod Edits
+pub mod Changes
 pub mod Keeps
 pub mod Kept
 pub mod Rows

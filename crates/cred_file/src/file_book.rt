@@ -1,8 +1,8 @@
 //! A book in the table of a database.
 
 mod batch;
+mod changes;
 mod copy;
-mod edits;
 
 ghost use Rattle.sqlite.specs.Held.{state};
 ghost use Rattle.cred_file.specs.{Cells.mark_in, Schema.no_schema, Failures.IsUnbegun, Kept.cells, Keeps.Keeps, Keeps.MayBegin, Opening.IsFound, Opening.IsUnopened};

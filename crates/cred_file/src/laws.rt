@@ -8,7 +8,7 @@ ghost use Rattle.cred_file.specs.Cells.{cell, mark_in, mark_text, read_cell, unm
 ghost use Rattle.cred_file.specs.declared.fault.Attempt.{Attempt};
 ghost use Rattle.std.specs.FinMap as fin;
 ghost use Rattle.cred_book.specs.Accounts.{Accounts};
-ghost use Rattle.cred_file.specs.{Cells.Cells, Edits.IsOfRecords, Edits.after_attempt, Edits.renamed, Keeps.HoldsBook, Opening.IsFound};
+ghost use Rattle.cred_file.specs.{Cells.Cells, Changes.IsOfRecords, Changes.after_attempt, Changes.renamed, Keeps.HoldsBook, Opening.IsFound};
 ghost use Rattle.sqlite.specs.{Files.HoldsDatabase, Held.Held, Held.state, Start.FindsIn, State.IsLive, State.Opens, Tree.Trees};
 
 use sqlite::Alter;

@@ -3,7 +3,7 @@
 ghost use Rattle.std.specs.Prelude.{◌≡◌, ◌≤◌, [], true, false, IfErr, IfOk, OnOk};
 ghost use Rattle.std.specs.FinMap as fin;
 ghost use Rattle.cred_book.specs.Accounts.{register_capacity};
-ghost use Rattle.cred_file.specs.{Cells.cell, Cells.cells_of, Cells.mark_at, Cells.mark_text, Edits.moved, Failures.Changes, Failures.FailsToDelete, Failures.FailsToPut, Failures.FailsToRename, Failures.Refuses};
+ghost use Rattle.cred_file.specs.{Cells.cell, Cells.cells_of, Cells.mark_at, Cells.mark_text, Changes.moved, Failures.Changes, Failures.FailsToDelete, Failures.FailsToPut, Failures.FailsToRename, Failures.Refuses};
 ghost use Rattle.cred_file.specs.Schema.{IsBookSchema, create_text, no_schema};
 ghost use Rattle.cred_file.specs.Keeps.{Has, IsRenamable, IsTableOf, MayBegin};
 ghost use Rattle.cred_file.specs.Rows.{Suits, is_update};

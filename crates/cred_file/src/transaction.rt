@@ -3,7 +3,7 @@
 ghost use Rattle.std.specs.Prelude.{◌≡◌, ◌⊎◌, ◌≤◌, ◌+◌, cond, false, List, None, ℕ, OnErr, OnOk};
 ghost use Rattle.std.specs.FinMap as fin;
 ghost use Rattle.cred_book.specs.Accounts.{Accounts};
-ghost use Rattle.cred_file.specs.{Cells.AllMarks, Cells.Cells, Cells.cell, Cells.cells_of, Cells.mark_at, Edits.AreApart, Edits.AreThere, Edits.joined, Edits.taken_cells, Edits.taken_in, Keeps.IsTableOf, Keeps.Lacks, Keeps.LeavesOnly, Rows.Suits, Table.Tells};
+ghost use Rattle.cred_file.specs.{Cells.AllMarks, Cells.Cells, Cells.cell, Cells.cells_of, Cells.mark_at, Changes.AreApart, Changes.AreThere, Changes.joined, Changes.taken_cells, Changes.taken_in, Keeps.IsTableOf, Keeps.Lacks, Keeps.LeavesOnly, Rows.Suits, Table.Tells};
 ghost use Rattle.cred_file.specs.Transactions.{AgreeOn, HasRoom, IsUnderWay, KeepsOthers, MakesWithin, added_mark, changed_mark, marks_with, taken_marks};
 ghost use Rattle.sqlite.specs.{State.HasCleanDisk, State.Shows, State.Survives, Held.state};
 ghost use Rattle.sqlite_value.specs.Value.{owned};

@@ -2,7 +2,7 @@
 use Rattle.std.specs.Io.KnownBytes.{Appends, Keeps}
 use Rattle.std.specs.Prelude.{◌≡◌, Bool, true, false, Option, Some, None, Result, Ok, Err}
 use Rattle.cred_book.specs.Accounts.{register_capacity}
-use Rattle.cred_admin.specs.{Commands.Obeys, Edits.DisablesShown, Edits.Edits}
+use Rattle.cred_admin.specs.{Commands.Obeys, AccountOperations.DisablesShown, AccountOperations.Operates}
 use Rattle.cred_admin.specs.{Listing.Prints, Listing.Tells, Listing.json_at, Listing.marked_line, Listing.shown_at, Marked.kept_book, Seen.Seen, Seen.seen}
 use Rattle.cred_admin.specs.{Statuses.status_of_fault, declared.fault.Fault.Fault, declared.import.ImportFault.ImportFault, declared.status.Status.Status}
 use Rattle.cred_admin.specs.declared.status.Status.TheVariants.{Done, Io, Memory, Database, Data}
@@ -11,7 +11,7 @@ use Rattle.cred_file.specs.{Keeps.Keeps as IsKept, Kept.Kept, Kept.cells, Openin
 use Rattle.sqlite.specs.{Held.Held, Held.state, State.HasCleanDisk, State.Survives, Store.Ghosts, declared.error.Error.Error}
 use Rattle.sqlite.specs.declared.error.ErrorCode.{ErrorCode}
 use Rattle.cred_keep.specs.{Imports.Imports, declared.book_command.BookCommand.BookCommand, declared.import.Imported.Imported}
-use Rattle.cred_keep.specs.declared.book_command.BookCommand.TheVariants.{Account, Edit, DisableShown, Show, ShowJson, List as Lines, Import}
+use Rattle.cred_keep.specs.declared.book_command.BookCommand.TheVariants.{Password, Account, DisableShown, Show, ShowJson, List as Lines, Import}
 use Rattle.cred_keep.specs.{declared.outcome.CommandResult.CommandResult, declared.outcome.Failure.Failure}
 use Rattle.std.specs.FinMap as map
 use Rattle.cred_admin.specs.declared.fault.Fault.TheVariants as fault
@@ -83,10 +83,10 @@ abbrev pub Commands : (Result Status Fault → Type 0) → Result CommandResult 
 Commands Holds ended = (r : Result Status Fault) × Holds r × (ended ≡ command_end r)
 
 abbrev pub Performs : BookCommand → Seen → Result CommandResult Failure → Type 0
-Performs (Account name operation) s ended =
+Performs (Password name operation) s ended =
     Commands (Obeys register_capacity name operation s) ended
-Performs (Edit edit) s ended =
-    Commands (Edits register_capacity s.old s.new edit s.writing) ended
+Performs (Account operation) s ended =
+    Commands (Operates register_capacity s.old s.new operation s.writing) ended
 Performs (DisableShown name) s ended =
     Commands (DisablesShown s.old s.new name (map.get s.old.accounts name) s.writing) ended
 Performs (Show name detail) s ended =
@@ -138,7 +138,7 @@ abbrev pub is_unread : BookCommand → Bool
 is_unread (Lines line) = true
 is_unread (Show name detail) = true
 is_unread (ShowJson name detail) = true
-is_unread (Edit edit) = true
+is_unread (Account operation) = true
 is_unread (DisableShown name) = true
-is_unread (Account name operation) = false
+is_unread (Password name operation) = false
 is_unread (Import how) = false

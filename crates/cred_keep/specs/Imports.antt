@@ -5,7 +5,7 @@ use Rattle.cred_book.specs.Accounts.{Accounts, register_capacity}
 use Rattle.cred_admin.specs.{Import.Tally, Import.tally, declared.import.ImportFault.ImportFault}
 use Rattle.cred_admin.specs.declared.import.ImportFault.TheVariants as fault
 use Rattle.cred_cli.specs.Watched.{Reading}
-use Rattle.cred_file.specs.{Cells.AllMarks, Cells.renewed_with, Edits.taken_in, Transactions.marks_with}
+use Rattle.cred_file.specs.{Cells.AllMarks, Cells.renewed_with, Changes.taken_in, Transactions.marks_with}
 use Rattle.cred_admin.specs.Marked.{MarkedBook, marked_book}
 use Rattle.cred_keep.specs.{declared.import.BadLines.TheVariants.Refused, declared.import.CountsForm.CountsForm}
 use Rattle.cred_keep.specs.declared.import.CountsForm.TheVariants.{Hidden, Plain, Json}

@@ -2,7 +2,7 @@
 pub mod BookCommands
 pub mod Copy
 pub mod Imports
-pub use Rattle.cred_admin.specs.Edits
+pub use Rattle.cred_admin.specs.AccountOperations
 pub use Rattle.cred_admin.specs.Import
 pub use Rattle.cred_admin.specs.Marked
 pub use Rattle.cred_admin.specs.Seen

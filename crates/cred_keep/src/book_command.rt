@@ -9,7 +9,8 @@ use crate::import::{Importing, import};
 use crate::outcome::{CommandResult, Failure, command_end, import_end};
 use crate::report::{refuse, tell_end};
 use cred_admin::{
-    Detail, Edit, LineForm, Operation, Status, disable_shown, edit_account, list, show, show_json,
+    AccountOperation, Detail, LineForm, PasswordOperation, Status, disable_shown, list, show,
+    show_json,
 };
 use cred_book::Name;
 use cred_cli::{Tools, Watched};
@@ -22,19 +23,36 @@ use std::thread::Threads;
 #[derive(Clone, Copy)]
 pub enum BookCommand {
     /// Does an operation on one account, with its passwords.
-    Account { name: Name, operation: Operation },
+    Password {
+        name: Name,
+        operation: PasswordOperation,
+    },
     /// Disables, deletes, renames, locks, unlocks or expires an account without its password.
-    Edit { edit: Edit },
+    Account {
+        operation: AccountOperation,
+    },
     /// Writes the account's line of a passwd-file, and removes its record without its password.
-    DisableShown { name: Name },
+    DisableShown {
+        name: Name,
+    },
     /// Writes this detail of the account's record.
-    Show { name: Name, detail: Detail },
+    Show {
+        name: Name,
+        detail: Detail,
+    },
     /// Writes the account with this detail of its record in JSON.
-    ShowJson { name: Name, detail: Detail },
+    ShowJson {
+        name: Name,
+        detail: Detail,
+    },
     /// Writes a line of each account.
-    List { line: LineForm },
+    List {
+        line: LineForm,
+    },
     /// Imports a passwd-file.
-    Import { how: Importing },
+    Import {
+        how: Importing,
+    },
 }
 
 /// Opens the book of a database, and does a command on it. The connection comes back. If the
@@ -94,10 +112,10 @@ fn perform<T: Threads + Sync, S: Alter, R: Read, W: Write>(
     ensures unread { is_unread command.now ≡ true → reader.new ≡ reader.old }
 {
     match command {
-        BookCommand::Account { name, operation } => {
+        BookCommand::Password { name, operation } => {
             command_end(operation.carry_out(tools, book, name, reader, writer))
         }
-        BookCommand::Edit { edit } => command_end(edit_account(book, edit, writer)),
+        BookCommand::Account { operation } => command_end(operation.carry_out(book, writer)),
         BookCommand::DisableShown { name } => {
             command_end(disable_shown(tools.alloc, book, name, writer))
         }

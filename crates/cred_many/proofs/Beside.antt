@@ -6,13 +6,13 @@ use Rattle.cred_book.proofs.Telling.{get_beside, get_without}
 use Rattle.cred_file.specs.{Cells.marked, Cells.unmarked, declared.marks.Mark.Mark}
 use Rattle.cred_file.proofs.TableLemmas.{same_name}
 use Rattle.std.specs.Ordering.{eq_by_cmp}
-use Rattle.cred_admin.specs.{Commands.reset_at, Edits.deletion_at, Edits.disabling_at, Edits.expiry_at, Edits.locking_at, Edits.renaming_at, Edits.unlocking_at}
+use Rattle.cred_admin.specs.{Commands.reset_at, AccountOperations.deletion_at, AccountOperations.disabling_at, AccountOperations.expiry_at, AccountOperations.locking_at, AccountOperations.renaming_at, AccountOperations.unlocking_at}
 use Rattle.cred_admin.specs.Marked.{MarkedBook, barred, marks_after, tried, tried_at, tried_if, with_mark, with_record}
-use Rattle.cred_admin.specs.declared.edits.Edit.TheVariants.{Disable, Delete, Rename, Lock, Unlock, Expire}
+use Rattle.cred_admin.specs.declared.account_operation.AccountOperation.TheVariants.{Disable, Delete, Rename, Lock, Unlock, Expire}
 use Rattle.cred_admin.specs.declared.verdict.Verdict.{Verdict}
-use Rattle.cred_many.specs.{Served.done, Telling.AreAlikeAt, Telling.names_in, declared.ask.Ask.Ask}
-use Rattle.cred_many.specs.declared.ask.Ask.TheVariants.{Quick, Whole, Login, Reset, Forgive, Later}
-use Rattle.cred_many.specs.declared.ask.QuickAsk.TheVariants.{Account, Load, Show, DisableShown, Bad, Edit as Change, List as Names, ListMarks}
+use Rattle.cred_many.specs.{Served.done, Telling.AreAlikeAt, Telling.names_in, declared.line_operation.LineOperation.LineOperation}
+use Rattle.cred_many.specs.declared.line_operation.LineOperation.TheVariants.{Quick, Whole, Login, Reset, Forgive, Later}
+use Rattle.cred_many.specs.declared.line_operation.QuickOperation.TheVariants.{Account, Load, Show, DisableShown, Bad, OnAccount, List as Names, ListMarks}
 use Rattle.cred_book.specs.declared.request.Request.TheVariants as request
 use Rattle.std.specs.FinMap as map
 
@@ -103,18 +103,18 @@ module _ (capacity : ℕ) (book : MarkedBook) (name : List ℕ) where
   unfolding tried
   tried_stays r ne = tried_at_stays r (map.get book.accounts (name_of r)) ne
 
-  pub done_stays : (ask : Ask) → All (λ named. name ≢ named) (names_in ask) → Stays (done capacity book ask).1
+  pub done_stays : (operation : LineOperation) → All (λ named. name ≢ named) (names_in operation) → Stays (done capacity book operation).1
   done_stays (Quick (Account key)) ne = account_stays key _ _ (ne 0 [] (omega arith)) refl refl
   done_stays (Quick (Load key stored)) ne = load_stays key stored _ (ne 0 [] (omega arith)) refl
   done_stays (Quick (Show key)) ne = (refl, refl)
   done_stays (Quick (DisableShown key)) ne = disabling_stays key (map.get book.accounts key) (ne 0 [] (omega arith))
-  done_stays (Quick (Change (Disable key))) ne = change_stays _ _ _ _ (disabling_stays key (map.get book.accounts key) (ne 0 [] (omega arith)))
-  done_stays (Quick (Change (Delete key))) ne = change_stays _ _ _ _ (deletion_stays key (map.get book.accounts key) (ne 0 [] (omega arith)))
-  done_stays (Quick (Change (Rename key new))) ne =
+  done_stays (Quick (OnAccount (Disable key))) ne = change_stays _ _ _ _ (disabling_stays key (map.get book.accounts key) (ne 0 [] (omega arith)))
+  done_stays (Quick (OnAccount (Delete key))) ne = change_stays _ _ _ _ (deletion_stays key (map.get book.accounts key) (ne 0 [] (omega arith)))
+  done_stays (Quick (OnAccount (Rename key new))) ne =
       change_stays _ _ _ _ (renaming_stays key new (map.get book.accounts key) (map.contains_key book.accounts new) (ne 0 [] (omega arith)) (ne 1 [] (omega arith)))
-  done_stays (Quick (Change (Lock key))) ne = change_stays _ _ _ _ (locking_stays key (map.get book.accounts key) (ne 0 [] (omega arith)))
-  done_stays (Quick (Change (Unlock key))) ne = change_stays _ _ _ _ (unlocking_stays key (map.get book.accounts key) (book.marks key).locked (ne 0 [] (omega arith)))
-  done_stays (Quick (Change (Expire key))) ne = change_stays _ _ _ _ (expiry_stays key (map.get book.accounts key) (ne 0 [] (omega arith)))
+  done_stays (Quick (OnAccount (Lock key))) ne = change_stays _ _ _ _ (locking_stays key (map.get book.accounts key) (ne 0 [] (omega arith)))
+  done_stays (Quick (OnAccount (Unlock key))) ne = change_stays _ _ _ _ (unlocking_stays key (map.get book.accounts key) (book.marks key).locked (ne 0 [] (omega arith)))
+  done_stays (Quick (OnAccount (Expire key))) ne = change_stays _ _ _ _ (expiry_stays key (map.get book.accounts key) (ne 0 [] (omega arith)))
   done_stays (Quick (Names from most)) ne = (refl, refl)
   done_stays (Quick (ListMarks from most)) ne = (refl, refl)
   done_stays (Quick (Bad why)) ne = (refl, refl)

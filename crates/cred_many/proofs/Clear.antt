@@ -8,18 +8,18 @@ use Rattle.cred_book.specs.declared.request.Request.TheVariants as request
 use Rattle.cred_admin.specs.{Marked.MarkedBook, Marked.tried, declared.verdict.Verdict.TheVariants.Told}
 use Rattle.cred_tries.specs.{Answers.IsSettled, Limits.Limits}
 use Rattle.cred_many.proofs.Limiting.{still_clear}
-use Rattle.cred_many.specs.{Asks.Entry, Asks.hashed_for, Asks.is_reset, declared.ask.Ask.Ask}
-use Rattle.cred_many.specs.declared.ask.Ask.TheVariants.{Quick, Whole, Login, Reset, Forgive, Later}
+use Rattle.cred_many.specs.{LineOperations.Entry, LineOperations.hashed_for, LineOperations.is_reset, declared.line_operation.LineOperation.LineOperation}
+use Rattle.cred_many.specs.declared.line_operation.LineOperation.TheVariants.{Quick, Whole, Login, Reset, Forgive, Later}
 use Rattle.cred_many.specs.{Scribe.AreCounted, Scribe.IsCounted, Scribe.is_clear, Served.book_after, Served.done, Tries.effect_by, Tries.is_try_request}
 use Rattle.cred_many.specs.declared.tries.Effect.TheVariants as effect
 
 -- ---- one line more
 
 pub are_counted_push : (capacity : ℕ) (limits : Option Limits) (book : MarkedBook) (list : List Entry) (e : Entry) → AreCounted capacity limits book list
-    → IsCounted limits limits (book_after capacity book list) e.ask → AreCounted capacity limits book (list ++ e ∷ [])
+    → IsCounted limits limits (book_after capacity book list) e.operation → AreCounted capacity limits book (list ++ e ∷ [])
 unfolding book_after
 are_counted_push capacity limits book [] e are is = (is, tt)
-are_counted_push capacity limits book (x ∷ xs) e are is = (are.0, are_counted_push capacity limits (done capacity book x.ask).1 xs e are.1 is)
+are_counted_push capacity limits book (x ∷ xs) e are is = (are.0, are_counted_push capacity limits (done capacity book x.operation).1 xs e are.1 is)
 
 -- ---- a change that is judged
 
@@ -45,8 +45,8 @@ change_at : (work : Task) (o : Option (Option RecordValue)) (found : Reply) (sto
 change_at work None found stored is = let not : false ≡ true = ap (λ (j : Reply × Option RecordValue × Bool). j.2) is in absurd cc
 change_at work (Some now) found stored is = change_if work now (same now work.1) found stored is
 
-pub change_counted : (limits : Option Limits) (here : MarkedBook) (ask : Ask) (work : Task) (found : Reply) (stored : Option RecordValue) → IfSome limits IsSettled → hashed_for ask ≡ Some work.0 → is_reset ask ≡ false → (tried here work.0).0 ≡ Told found
-    → (book : Accounts) → judgement book work ≡ (found, stored, true) → is_clear limits (name_of work.0) ≡ true → IsCounted limits limits here ask
+pub change_counted : (limits : Option Limits) (here : MarkedBook) (operation : LineOperation) (work : Task) (found : Reply) (stored : Option RecordValue) → IfSome limits IsSettled → hashed_for operation ≡ Some work.0 → is_reset operation ≡ false → (tried here work.0).0 ≡ Told found
+    → (book : Accounts) → judgement book work ≡ (found, stored, true) → is_clear limits (name_of work.0) ≡ true → IsCounted limits limits here operation
 unfolding judgement
 change_counted limits here (Whole q) work found stored settled job kept told book is clear =
     let same : work.0 ≡ q = cc in
@@ -59,6 +59,6 @@ change_counted limits here (Login name pw setting) work found stored settled job
     still_clear limits name settled (ap (λ r. is_clear limits (name_of r)) (sym same) ∙ clear) (effect_by true (tried here (request.Upgrade name pw setting)).0)
     (λ wrong. no_wrong true found (change_at work _ found stored is) (ap (effect_by true) (sym verdict) ∙ wrong))
 change_counted limits here (Reset name pw setting) work found stored settled job kept told book is clear = absurd cc
-change_counted limits here (Quick ask) work found stored settled job kept told book is clear = absurd cc
+change_counted limits here (Quick operation) work found stored settled job kept told book is clear = absurd cc
 change_counted limits here (Forgive name) work found stored settled job kept told book is clear = absurd cc
 change_counted limits here (Later name seconds) work found stored settled job kept told book is clear = absurd cc

@@ -6,7 +6,7 @@ use Rattle.cred_book.specs.declared.request.Request.TheVariants.{Enrol, Verify, 
 use Rattle.cred_book.specs.declared.request.Reply.TheVariants as reply
 use Rattle.cred_cli.specs.{History.Answer, History.Changed, Steps.reply_answer, Texts.reply_line}
 use Rattle.cred_cli.proofs.Simulation.{whole_replies}
-use Rattle.cred_many.specs.{Asks.IsJobOf, Asks.IsSound, Asks.hashed_for, Asks.is_reset, declared.ask.Ask.TheVariants.Whole, declared.ask.Ask.TheVariants.Login, declared.ask.Ask.TheVariants.Reset, declared.ask.Ask.TheVariants.Quick, declared.ask.Ask.TheVariants.Forgive, declared.ask.Ask.TheVariants.Later, Served.done, Served.NeedsMemory, Served.effect_of, Served.login_verdict, Served.record_at, Served.told_verdict, declared.ask.Ask.Ask}
+use Rattle.cred_many.specs.{LineOperations.IsJobOf, LineOperations.IsSound, LineOperations.hashed_for, LineOperations.is_reset, declared.line_operation.LineOperation.TheVariants.Whole, declared.line_operation.LineOperation.TheVariants.Login, declared.line_operation.LineOperation.TheVariants.Reset, declared.line_operation.LineOperation.TheVariants.Quick, declared.line_operation.LineOperation.TheVariants.Forgive, declared.line_operation.LineOperation.TheVariants.Later, Served.done, Served.NeedsMemory, Served.effect_of, Served.login_verdict, Served.record_at, Served.told_verdict, declared.line_operation.LineOperation.LineOperation}
 use Rattle.cred_admin.specs.{Commands.reset_step, Marked.HeedsMarks, Marked.MarkedBook, Marked.barred, Marked.due, Marked.is_outdated, Marked.keeps_password, Marked.marked_book, Marked.marks_after, Marked.shut, Marked.tried, Marked.tried_at, Marked.tried_if, Statuses.verdict_line}
 use Rattle.cred_admin.specs.declared.verdict.Verdict.{Verdict}
 use Rattle.cred_admin.specs.declared.verdict.Verdict.TheVariants.{Told, Expired, Same}
@@ -104,16 +104,16 @@ told_whole q (Told r) = refl
 told_whole q Expired = refl
 told_whole q Same = refl
 
-told_login : (ask : Ask) (name pw : _) (setting : _) (v : Verdict) → ask ≡ Login name pw setting → told_verdict ask v ≡ login_verdict v
-told_login ask name pw setting v is = rw is (of v)
+told_login : (operation : LineOperation) (name pw : _) (setting : _) (v : Verdict) → operation ≡ Login name pw setting → told_verdict operation v ≡ login_verdict v
+told_login operation name pw setting v is = rw is (of v)
   where
     of : (v : Verdict) → told_verdict (Login name pw setting) v ≡ login_verdict v
     of (Told r) = refl
     of Expired = refl
     of Same = refl
 
-pub done_whole : (ask : Ask) (capacity : ℕ) (book later : MarkedBook) (work : Task) (found : Verdict) → hashed_for ask ≡ Some work.0 → is_reset ask ≡ false → HeedsMarks book later work found → is_outdated found ≡ false
-    → (verdict_line (told_verdict ask found), later) ≡ done capacity book ask
+pub done_whole : (operation : LineOperation) (capacity : ℕ) (book later : MarkedBook) (work : Task) (found : Verdict) → hashed_for operation ≡ Some work.0 → is_reset operation ≡ false → HeedsMarks book later work found → is_outdated found ≡ false
+    → (verdict_line (told_verdict operation found), later) ≡ done capacity book operation
 done_whole (Whole q) capacity book later work found is kept commits current =
     let same : work.0 ≡ q = cc in
     ap (λ v. (verdict_line v, later)) (told_whole q found) ∙ ap (λ o. (verdict_line o.0, o.1)) (commits_whole book later work found commits current ∙ ap (tried book) same)
@@ -122,8 +122,8 @@ done_whole (Login name pw setting) capacity book later work found is kept commit
     ap (λ v. (verdict_line v, later)) (told_login (Login name pw setting) name pw setting found refl) ∙ ap (λ o. (verdict_line (login_verdict o.0), o.1)) (commits_whole book later work found commits current ∙ ap (tried book) same)
 done_whole _ capacity book later work found is kept commits current = absurd cc
 
-pub done_reset : (ask : Ask) (capacity : ℕ) (book later : MarkedBook) (work : Task) (stored : RecordValue) (found : Reply) → IsJobOf ask work → is_reset ask ≡ true → Some stored ≡ (whole work.0 work.1).1
-    → (found, later) ≡ reset_step book (name_of work.0) stored → (reply_line found, later) ≡ done capacity book ask
+pub done_reset : (operation : LineOperation) (capacity : ℕ) (book later : MarkedBook) (work : Task) (stored : RecordValue) (found : Reply) → IsJobOf operation work → is_reset operation ≡ true → Some stored ≡ (whole work.0 work.1).1
+    → (found, later) ≡ reset_step book (name_of work.0) stored → (reply_line found, later) ≡ done capacity book operation
 done_reset (Reset name pw setting) capacity book later work stored found job reset made put =
     let same : work.0 ≡ request.Enrol name pw setting = cc (job.0) in
     let new : Some stored ≡ Some (new_record setting pw) = made ∙ ap (λ r. (whole r work.1).1) same ∙ ap (λ copy. (whole (request.Enrol name pw setting) copy).1) (job.1 refl) in
@@ -171,7 +171,7 @@ wrong_stays b book new work v is current wrong =
 
 -- ---- what an answer tells of the password
 
-pub told_effect : (ask : Ask) (book new : MarkedBook) (work : Task) (v : Verdict) → hashed_for ask ≡ Some work.0 → is_reset ask ≡ false → HeedsMarks book new work v → is_outdated v ≡ false → effect_by (is_try ask) v ≡ effect_of book ask
+pub told_effect : (operation : LineOperation) (book new : MarkedBook) (work : Task) (v : Verdict) → hashed_for operation ≡ Some work.0 → is_reset operation ≡ false → HeedsMarks book new work v → is_outdated v ≡ false → effect_by (is_try operation) v ≡ effect_of book operation
 told_effect (Whole q) book new work v is kept commits current =
     let same : work.0 ≡ q = cc in
     ap (effect_by (is_try_request q)) (ap (λ o. o.0) (commits_whole book new work v commits current ∙ ap (tried book) same))
@@ -181,11 +181,11 @@ told_effect (Login name pw setting) book new work v is kept commits current =
 told_effect _ book new work v is kept commits current = absurd cc
 
 -- a commit is counted under the name that the line asks about
-pub commit_at : (ask : Ask) (book new : MarkedBook) (work : Task) (v : Verdict) (old later : Option Limits) (now : ℕ) → hashed_for ask ≡ Some work.0 → is_reset ask ≡ false → HeedsMarks book new work v → is_outdated v ≡ false
-    → HasEffect now old later (name_of work.0) (effect_by (is_try ask) v) → IsCountedAt now old later book ask
-commit_at ask book new work v old later now is kept commits current has = of ask is (told_effect ask book new work v is kept commits current) has
+pub commit_at : (operation : LineOperation) (book new : MarkedBook) (work : Task) (v : Verdict) (old later : Option Limits) (now : ℕ) → hashed_for operation ≡ Some work.0 → is_reset operation ≡ false → HeedsMarks book new work v → is_outdated v ≡ false
+    → HasEffect now old later (name_of work.0) (effect_by (is_try operation) v) → IsCountedAt now old later book operation
+commit_at operation book new work v old later now is kept commits current has = of operation is (told_effect operation book new work v is kept commits current) has
   where
-    of : (ask : Ask) → hashed_for ask ≡ Some work.0 → effect_by (is_try ask) v ≡ effect_of book ask → HasEffect now old later (name_of work.0) (effect_by (is_try ask) v) → IsCountedAt now old later book ask
+    of : (operation : LineOperation) → hashed_for operation ≡ Some work.0 → effect_by (is_try operation) v ≡ effect_of book operation → HasEffect now old later (name_of work.0) (effect_by (is_try operation) v) → IsCountedAt now old later book operation
     of (Whole q) is same has = let name : name_of work.0 ≡ name_of q = ap name_of (let r : work.0 ≡ q = cc in r) in subst (λ e. HasEffect now old later (name_of q) e) same (subst (λ n. HasEffect now old later n (effect_by (is_try (Whole q)) v)) name has)
     of (Login name pw setting) is same has =
         let named : name_of work.0 ≡ name = ap name_of (let r : work.0 ≡ request.Upgrade name pw setting = cc in r) in
@@ -197,12 +197,12 @@ commit_at ask book new work v old later now is kept commits current has = of ask
     of (Forgive name) is same has = absurd cc
     of (Later name seconds) is same has = absurd cc
 
-pub commit_counted : (ask : Ask) (book new : MarkedBook) (work : Task) (v : Verdict) (old later : Option Limits) (now : ℕ) → hashed_for ask ≡ Some work.0 → is_reset ask ≡ false → HeedsMarks book new work v → is_outdated v ≡ false
-    → HasEffect now old later (name_of work.0) (effect_by (is_try ask) v) → IsCounted old later book ask
-commit_counted ask book new work v old later now is kept commits current has = (now, commit_at ask book new work v old later now is kept commits current has)
+pub commit_counted : (operation : LineOperation) (book new : MarkedBook) (work : Task) (v : Verdict) (old later : Option Limits) (now : ℕ) → hashed_for operation ≡ Some work.0 → is_reset operation ≡ false → HeedsMarks book new work v → is_outdated v ≡ false
+    → HasEffect now old later (name_of work.0) (effect_by (is_try operation) v) → IsCounted old later book operation
+commit_counted operation book new work v old later now is kept commits current has = (now, commit_at operation book new work v old later now is kept commits current has)
 
 -- what is hashed for a line sends no try away
-pub hash_judged : (ask : Ask) (r : Request) → hashed_for ask ≡ Some r → IsNotSentAway ask
+pub hash_judged : (operation : LineOperation) (r : Request) → hashed_for operation ≡ Some r → IsNotSentAway operation
 hash_judged (Whole q) r is = tt
 hash_judged (Login name pw setting) r is = tt
 hash_judged (Reset name pw setting) r is = tt
@@ -211,8 +211,8 @@ hash_judged (Forgive name) r is = tt
 hash_judged (Later name seconds) r is = absurd cc
 
 -- a try may be judged where its password is told
-pub has_place : (ask : Ask) (v : Verdict) (limits : Option Limits) (name : List ℕ) (now : ℕ) → (is_try ask ≡ true → IsOpenTo limits name now) → HasPlace (effect_by (is_try ask) v) limits name now
-has_place ask v limits name now opens = by_try (is_try ask) v opens
+pub has_place : (operation : LineOperation) (v : Verdict) (limits : Option Limits) (name : List ℕ) (now : ℕ) → (is_try operation ≡ true → IsOpenTo limits name now) → HasPlace (effect_by (is_try operation) v) limits name now
+has_place operation v limits name now opens = by_try (is_try operation) v opens
   where
     first : (r : Reply) → HasPlace (reset_effect r) limits name now
     first reply.Enrolled = tt
@@ -231,12 +231,12 @@ has_place ask v limits name now opens = by_try (is_try ask) v opens
     by_try false Expired opens = tt
     by_try false Same opens = tt
 
-pub has_place_at : (ask : Ask) (v : Verdict) (old limits : Option Limits) (named name : List ℕ) (e : Effect) (now : ℕ) → limits ≡ old → named ≡ name → e ≡ effect_by (is_try ask) v → (is_try ask ≡ true → IsOpenTo old name now) → HasPlace e limits named now
-has_place_at ask v old limits named name e now same is told opens =
-    subst (λ l. HasPlace e l named now) (sym same) (subst (λ n. HasPlace e old n now) (sym is) (subst (λ f. HasPlace f old name now) (sym told) (has_place ask v old name now opens)))
+pub has_place_at : (operation : LineOperation) (v : Verdict) (old limits : Option Limits) (named name : List ℕ) (e : Effect) (now : ℕ) → limits ≡ old → named ≡ name → e ≡ effect_by (is_try operation) v → (is_try operation ≡ true → IsOpenTo old name now) → HasPlace e limits named now
+has_place_at operation v old limits named name e now same is told opens =
+    subst (λ l. HasPlace e l named now) (sym same) (subst (λ n. HasPlace e old n now) (sym is) (subst (λ f. HasPlace f old name now) (sym told) (has_place operation v old name now opens)))
 
 -- what is hashed for a line is of the version of today
-pub sound_current : (ask : Ask) (r : Request) → IsSound ask → hashed_for ask ≡ Some r → is_for_current r ≡ true
+pub sound_current : (operation : LineOperation) (r : Request) → IsSound operation → hashed_for operation ≡ Some r → is_for_current r ≡ true
 sound_current (Whole q) r sound is = let same : q ≡ r = cc in ap is_for_current (sym same) ∙ sound
 sound_current (Login name pw setting) r sound is = let same : request.Upgrade name pw setting ≡ r = cc in ap is_for_current (sym same) ∙ sound
 sound_current (Reset name pw setting) r sound is = let same : request.Enrol name pw setting ≡ r = cc in ap is_for_current (sym same) ∙ sound
@@ -245,7 +245,7 @@ sound_current (Forgive name) r sound is = absurd cc
 sound_current (Later name seconds) r sound is = absurd sound
 
 -- and needs memory for its hash
-pub hash_needs : (capacity : ℕ) (book : MarkedBook) (ask : Ask) (r : Request) → hashed_for ask ≡ Some r → NeedsMemory capacity book ask
+pub hash_needs : (capacity : ℕ) (book : MarkedBook) (operation : LineOperation) (r : Request) → hashed_for operation ≡ Some r → NeedsMemory capacity book operation
 hash_needs capacity book (Whole q) r is = tt
 hash_needs capacity book (Login name pw setting) r is = tt
 hash_needs capacity book (Reset name pw setting) r is = tt
@@ -255,8 +255,8 @@ hash_needs capacity book (Later name seconds) r is = absurd cc
 
 -- ---- a reset
 
-pub reset_at : (ask : Ask) (book : MarkedBook) (work : Task) (stored : RecordValue) (found : Reply) (later : MarkedBook) (old new : Option Limits) (now : ℕ) → IsJobOf ask work → is_reset ask ≡ true → Some stored ≡ (whole work.0 work.1).1
-    → (found, later) ≡ reset_step book (name_of work.0) stored → HasEffect now old new (name_of work.0) (reset_effect found) → IsCountedAt now old new book ask
+pub reset_at : (operation : LineOperation) (book : MarkedBook) (work : Task) (stored : RecordValue) (found : Reply) (later : MarkedBook) (old new : Option Limits) (now : ℕ) → IsJobOf operation work → is_reset operation ≡ true → Some stored ≡ (whole work.0 work.1).1
+    → (found, later) ≡ reset_step book (name_of work.0) stored → HasEffect now old new (name_of work.0) (reset_effect found) → IsCountedAt now old new book operation
 reset_at (Reset name pw setting) book work stored found later old new now job reset made put has =
     let same : work.0 ≡ request.Enrol name pw setting = cc (job.0) in
     let named : name_of work.0 ≡ name = ap name_of same in
@@ -266,6 +266,6 @@ reset_at (Reset name pw setting) book work stored found later old new now job re
     subst (λ r. HasEffect now old new name (reset_effect r)) told (subst (λ n. HasEffect now old new n (reset_effect found)) named has)
 reset_at _ book work stored found later old new now job reset made put has = absurd cc
 
-pub reset_counted : (ask : Ask) (book : MarkedBook) (work : Task) (stored : RecordValue) (found : Reply) (later : MarkedBook) (old new : Option Limits) (now : ℕ) → IsJobOf ask work → is_reset ask ≡ true → Some stored ≡ (whole work.0 work.1).1
-    → (found, later) ≡ reset_step book (name_of work.0) stored → HasEffect now old new (name_of work.0) (reset_effect found) → IsCounted old new book ask
-reset_counted ask book work stored found later old new now job reset made put has = (now, reset_at ask book work stored found later old new now job reset made put has)
+pub reset_counted : (operation : LineOperation) (book : MarkedBook) (work : Task) (stored : RecordValue) (found : Reply) (later : MarkedBook) (old new : Option Limits) (now : ℕ) → IsJobOf operation work → is_reset operation ≡ true → Some stored ≡ (whole work.0 work.1).1
+    → (found, later) ≡ reset_step book (name_of work.0) stored → HasEffect now old new (name_of work.0) (reset_effect found) → IsCounted old new book operation
+reset_counted operation book work stored found later old new now job reset made put has = (now, reset_at operation book work stored found later old new now job reset made put has)

@@ -6,19 +6,19 @@ use Rattle.cred_cli.specs.{History.Done, History.Refused, Texts.line_of, Texts.r
 use Rattle.cred_file.specs.{Cells.marked, Cells.renewed, Cells.unmarked, declared.marks.Mark.Mark}
 use Rattle.cred_file.proofs.TableLemmas.{same_name}
 use Rattle.std.specs.Ordering.{eq_by_cmp}
-use Rattle.cred_admin.specs.{Commands.reset_at, Edits.deletion_at, Edits.disabling_at, Edits.edit_line, Edits.expiry_at, Edits.is_renamed, Edits.locking_at, Edits.renaming_at, Edits.unlocking_at, Statuses.verdict_line}
+use Rattle.cred_admin.specs.{Commands.reset_at, AccountOperations.deletion_at, AccountOperations.disabling_at, AccountOperations.account_reply_line, AccountOperations.expiry_at, AccountOperations.is_renamed, AccountOperations.locking_at, AccountOperations.renaming_at, AccountOperations.unlocking_at, Statuses.verdict_line}
 use Rattle.cred_admin.specs.Marked.{MarkedBook, barred, expired, locked, marked_book, marks_after, tried, tried_at, tried_if, unlocked, with_mark, with_record}
-use Rattle.cred_admin.specs.declared.edits.Edit.TheVariants.{Disable, Delete, Rename, Lock, Unlock, Expire}
-use Rattle.cred_admin.specs.declared.edit_reply.EditReply.{EditReply}
+use Rattle.cred_admin.specs.declared.account_operation.AccountOperation.TheVariants.{Disable, Delete, Rename, Lock, Unlock, Expire}
+use Rattle.cred_admin.specs.declared.account_reply.AccountReply.{AccountReply}
 use Rattle.cred_admin.specs.declared.verdict.Verdict.{Verdict}
-use Rattle.cred_many.specs.{Asks.Entry, Locks.IsApart, Locks.ListsMarks, Served.answers, Served.book_after, Served.disabled_line, Served.done, Served.login_verdict, Served.shown_line, Telling.names_in, declared.ask.Ask.Ask}
-use Rattle.cred_many.specs.declared.ask.Ask.TheVariants.{Quick, Whole, Login, Reset, Forgive, Later}
-use Rattle.cred_many.specs.declared.ask.QuickAsk.TheVariants.{Account, Load, Show, DisableShown, Bad, Edit as Change, List as Names, ListMarks}
+use Rattle.cred_many.specs.{LineOperations.Entry, Locks.IsApart, Locks.ListsMarks, Served.answers, Served.book_after, Served.disabled_line, Served.done, Served.login_verdict, Served.shown_line, Telling.names_in, declared.line_operation.LineOperation.LineOperation}
+use Rattle.cred_many.specs.declared.line_operation.LineOperation.TheVariants.{Quick, Whole, Login, Reset, Forgive, Later}
+use Rattle.cred_many.specs.declared.line_operation.QuickOperation.TheVariants.{Account, Load, Show, DisableShown, Bad, OnAccount, List as Names, ListMarks}
 use Rattle.cred_many.proofs.Beside.{mark_beside}
 use Rattle.cred_book.specs.declared.error.BookError.TheVariants as error
 use Rattle.cred_book.specs.declared.request.Request.TheVariants as request
 use Rattle.cred_cli.specs.declared.refusal.Refusal.TheVariants as refusal
-use Rattle.cred_admin.specs.declared.edit_reply.EditReply.TheVariants as reply
+use Rattle.cred_admin.specs.declared.account_reply.AccountReply.TheVariants as reply
 use Rattle.cred_book.specs.declared.request.Reply.TheVariants as replied
 use Rattle.cred_admin.specs.declared.verdict.Verdict.TheVariants.{Told}
 use Rattle.std.specs.FinMap as map
@@ -127,31 +127,31 @@ module _ (capacity : ℕ) (book : MarkedBook) (name : List ℕ) (m : Mark) where
   tried_same r ne = tried_at_same r (map.get book.accounts (name_of r)) ne
 
   -- changes of accounts
-  abbrev after_edit : MarkedBook → EditReply × MarkedBook → List ℕ × MarkedBook
-  after_edit b e = if is_renamed e.0 && not (nat_lt (map.len book.accounts) capacity) then (line_of (Refused (refusal.Book error.Full)), b) else (edit_line e.0, e.1)
+  abbrev after_edit : MarkedBook → AccountReply × MarkedBook → List ℕ × MarkedBook
+  after_edit b e = if is_renamed e.0 && not (nat_lt (map.len book.accounts) capacity) then (line_of (Refused (refusal.Book error.Full)), b) else (account_reply_line e.0, e.1)
 
-  told_same : (x y : EditReply × MarkedBook) → Same x y → Same (after_edit other x) (after_edit book y)
+  told_same : (x y : AccountReply × MarkedBook) → Same x y → Same (after_edit other x) (after_edit book y)
   told_same x y same = ap (after_edit other) same ∙ by_room (is_renamed y.0 && not (nat_lt (map.len book.accounts) capacity))
     where
-      by_room : (b : Bool) → ◌≡◌ {A = List ℕ × MarkedBook} (cond b (line_of (Refused (refusal.Book error.Full)), other) (edit_line y.0, with_mark y.1 name m))
-          ((cond {A = List ℕ × MarkedBook} b (line_of (Refused (refusal.Book error.Full)), book) (edit_line y.0, y.1)).0, with_mark (cond {A = List ℕ × MarkedBook} b (line_of (Refused (refusal.Book error.Full)), book) (edit_line y.0, y.1)).1 name m)
+      by_room : (b : Bool) → ◌≡◌ {A = List ℕ × MarkedBook} (cond b (line_of (Refused (refusal.Book error.Full)), other) (account_reply_line y.0, with_mark y.1 name m))
+          ((cond {A = List ℕ × MarkedBook} b (line_of (Refused (refusal.Book error.Full)), book) (account_reply_line y.0, y.1)).0, with_mark (cond {A = List ℕ × MarkedBook} b (line_of (Refused (refusal.Book error.Full)), book) (account_reply_line y.0, y.1)).1 name m)
       by_room true = refl
       by_room false = refl
 
-  pub done_same : (ask : Ask) → All (λ named. name ≢ named) (names_in ask) → (ListsMarks ask → ⊥) → Same (done capacity other ask) (done capacity book ask)
+  pub done_same : (operation : LineOperation) → All (λ named. name ≢ named) (names_in operation) → (ListsMarks operation → ⊥) → Same (done capacity other operation) (done capacity book operation)
   done_same (Quick (Account key)) ne plain = account_same key (ne 0 [] (omega arith)) _ _ refl refl
   done_same (Quick (Load key stored)) ne plain = load_same key (ne 0 [] (omega arith)) stored _ refl
   done_same (Quick (Show key)) ne plain = ap (λ k. (shown_line k (map.get book.accounts key), other)) (here key (ne 0 [] (omega arith)))
   done_same (Quick (DisableShown key)) ne plain =
       ap (λ k. (disabled_line key k (map.get book.accounts key), (disabling_at other key (map.get book.accounts key)).1)) (here key (ne 0 [] (omega arith)))
-      ∙ ap (λ (e : EditReply × MarkedBook). (disabled_line key (book.marks key) (map.get book.accounts key), e.1)) (disabling_same key (ne 0 [] (omega arith)) (map.get book.accounts key))
-  done_same (Quick (Change (Disable key))) ne plain = told_same _ _ (disabling_same key (ne 0 [] (omega arith)) (map.get book.accounts key))
-  done_same (Quick (Change (Delete key))) ne plain = told_same _ _ (deletion_same key (ne 0 [] (omega arith)) (map.get book.accounts key))
-  done_same (Quick (Change (Rename key new))) ne plain = told_same _ _ (renaming_same key new (map.get book.accounts key) (map.contains_key book.accounts new) (ne 0 [] (omega arith)) (ne 1 [] (omega arith)))
-  done_same (Quick (Change (Lock key))) ne plain = told_same _ _ (locking_same key (ne 0 [] (omega arith)) (map.get book.accounts key))
-  done_same (Quick (Change (Unlock key))) ne plain =
+      ∙ ap (λ (e : AccountReply × MarkedBook). (disabled_line key (book.marks key) (map.get book.accounts key), e.1)) (disabling_same key (ne 0 [] (omega arith)) (map.get book.accounts key))
+  done_same (Quick (OnAccount (Disable key))) ne plain = told_same _ _ (disabling_same key (ne 0 [] (omega arith)) (map.get book.accounts key))
+  done_same (Quick (OnAccount (Delete key))) ne plain = told_same _ _ (deletion_same key (ne 0 [] (omega arith)) (map.get book.accounts key))
+  done_same (Quick (OnAccount (Rename key new))) ne plain = told_same _ _ (renaming_same key new (map.get book.accounts key) (map.contains_key book.accounts new) (ne 0 [] (omega arith)) (ne 1 [] (omega arith)))
+  done_same (Quick (OnAccount (Lock key))) ne plain = told_same _ _ (locking_same key (ne 0 [] (omega arith)) (map.get book.accounts key))
+  done_same (Quick (OnAccount (Unlock key))) ne plain =
       told_same _ _ (ap (λ (k : Mark). unlocking_at other key (map.get book.accounts key) k.locked) (here key (ne 0 [] (omega arith))) ∙ unlocking_same key (ne 0 [] (omega arith)) (map.get book.accounts key) (book.marks key).locked)
-  done_same (Quick (Change (Expire key))) ne plain = told_same _ _ (expiry_same key (ne 0 [] (omega arith)) (map.get book.accounts key))
+  done_same (Quick (OnAccount (Expire key))) ne plain = told_same _ _ (expiry_same key (ne 0 [] (omega arith)) (map.get book.accounts key))
   done_same (Quick (Names from most)) ne plain = refl
   done_same (Quick (ListMarks from most)) ne plain = absurd (plain tt)
   done_same (Quick (Bad why)) ne plain = refl
@@ -162,18 +162,18 @@ module _ (capacity : ℕ) (book : MarkedBook) (name : List ℕ) (m : Mark) where
   done_same (Later key seconds) ne plain = refl
 
 -- lines one after another
-pub book_same : (capacity : ℕ) (book : MarkedBook) (name : List ℕ) (m : Mark) (lines : List Entry) → All (λ e. IsApart name e.ask) lines
+pub book_same : (capacity : ℕ) (book : MarkedBook) (name : List ℕ) (m : Mark) (lines : List Entry) → All (λ e. IsApart name e.operation) lines
     → book_after capacity (with_mark book name m) lines ≡ with_mark (book_after capacity book lines) name m
 unfolding book_after
 book_same capacity book name m [] ne = refl
 book_same capacity book name m (e ∷ es) ne =
-    ap (λ (o : List ℕ × MarkedBook). book_after capacity o.1 es) (done_same capacity book name m e.ask (ne 0 e (omega arith)).0 (ne 0 e (omega arith)).1)
-    ∙ book_same capacity (done capacity book e.ask).1 name m es (λ i d low. ne (suc i) d (omega (arith, low)))
+    ap (λ (o : List ℕ × MarkedBook). book_after capacity o.1 es) (done_same capacity book name m e.operation (ne 0 e (omega arith)).0 (ne 0 e (omega arith)).1)
+    ∙ book_same capacity (done capacity book e.operation).1 name m es (λ i d low. ne (suc i) d (omega (arith, low)))
 
-pub answers_same : (capacity : ℕ) (book : MarkedBook) (name : List ℕ) (m : Mark) (lines : List Entry) → All (λ e. IsApart name e.ask) lines
+pub answers_same : (capacity : ℕ) (book : MarkedBook) (name : List ℕ) (m : Mark) (lines : List Entry) → All (λ e. IsApart name e.operation) lines
     → answers capacity (with_mark book name m) lines ≡ answers capacity book lines
 unfolding answers
 answers_same capacity book name m [] ne = refl
 answers_same capacity book name m (e ∷ es) ne =
-    ap (λ (o : List ℕ × MarkedBook). (e.tag ++ 32 ∷ o.0) ++ answers capacity o.1 es) (done_same capacity book name m e.ask (ne 0 e (omega arith)).0 (ne 0 e (omega arith)).1)
-    ∙ ap (λ t. (e.tag ++ 32 ∷ (done capacity book e.ask).0) ++ t) (answers_same capacity (done capacity book e.ask).1 name m es (λ i d low. ne (suc i) d (omega (arith, low))))
+    ap (λ (o : List ℕ × MarkedBook). (e.tag ++ 32 ∷ o.0) ++ answers capacity o.1 es) (done_same capacity book name m e.operation (ne 0 e (omega arith)).0 (ne 0 e (omega arith)).1)
+    ∙ ap (λ t. (e.tag ++ 32 ∷ (done capacity book e.operation).0) ++ t) (answers_same capacity (done capacity book e.operation).1 name m es (λ i d low. ne (suc i) d (omega (arith, low))))

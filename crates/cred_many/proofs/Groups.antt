@@ -6,13 +6,13 @@ use Rattle.cred_phc.specs.Values.{RecordValue}
 use Rattle.cred_book.specs.{Accounts.Accounts, Commits.judgement, Commits.judgement_at, Commits.judgement_if, Names.name_cmp, Works.Task, Works.makes_change, Works.name_of, Works.same, Works.whole, declared.request.Reply.Reply}
 use Rattle.cred_cli.specs.Texts.{reply_line}
 use Rattle.cred_cli.proofs.Readings.{if_known}
-use Rattle.cred_file.specs.{Cells.marked, Cells.renewed, Cells.unmarked, Edits.joined, Edits.taken_in, Transactions.changed_marks, declared.marks.Mark.Mark}
+use Rattle.cred_file.specs.{Cells.marked, Cells.renewed, Cells.unmarked, Changes.joined, Changes.taken_in, Transactions.changed_marks, declared.marks.Mark.Mark}
 use Rattle.cred_file.proofs.{Joined.deeper, Joined.get_joined, Marked.marked_same, TableLemmas.same_name}
 use Rattle.cred_admin.specs.Marked.{MarkedBook, barred, is_outdated, marked_book, marks_after, tried, tried_at, tried_if, with_replaced}
 use Rattle.cred_admin.specs.declared.verdict.Verdict.{Verdict}
 use Rattle.cred_admin.specs.declared.verdict.Verdict.TheVariants.{Told}
 use Rattle.cred_admin.proofs.Heeding.{book_is}
-use Rattle.cred_many.specs.{Asks.Entry, Asks.hashed_for, Asks.is_reset, declared.fault.ServiceFault.ServiceFault, declared.open.Open.Open}
+use Rattle.cred_many.specs.{LineOperations.Entry, LineOperations.hashed_for, LineOperations.is_reset, declared.fault.ServiceFault.ServiceFault, declared.open.Open.Open}
 use Rattle.cred_many.specs.{Scribe.AddsSome, Scribe.AreClosed, Scribe.AreReplaced, Scribe.HasAnswered, Scribe.History, Scribe.IsConcluded, Scribe.IsGroup, Scribe.entries_of, Served.answers, Served.book_after, Served.done, Served.line_at, Served.most_together, Served.told_reply, Service.IsLine, Service.Service, Transcript.Written}
 use Rattle.cred_tries.specs.{Answers.IsSettled, Limits.Limits}
 use Rattle.cred_many.proofs.Limiting.{settled}
@@ -75,11 +75,11 @@ none_together capacity s limits book = record {
   plain = λ q there. let never : false ≡ true = sym (ap is_some (get-empty name_cmp q)) ∙ there in absurd cc;
   text_is = refl;
   counted = λ settled. tt;
-  judged = All-nil (λ (e : Entry). IsNotSentAway e.ask);
+  judged = All-nil (λ (e : Entry). IsNotSentAway e.operation);
 }
 
 module _ (capacity : ℕ) (s : Service) (limits : Option Limits) (book : MarkedBook) (changed : Accounts) (list : List Entry) (text : List ℕ) (e : Entry) (work : Task) (found : Reply) (stored : Option RecordValue)
-    (g : IsGroup capacity s limits book changed list text) (job : hashed_for e.ask ≡ Some work.0) (kept : is_reset e.ask ≡ false) (is : judgement book.accounts work ≡ (found, stored, true))
+    (g : IsGroup capacity s limits book changed list text) (job : hashed_for e.operation ≡ Some work.0) (kept : is_reset e.operation ≡ false) (is : judgement book.accounts work ≡ (found, stored, true))
     (first : fin.get changed (name_of work.0) ≡ None) (plain : book.marks (name_of work.0) ≡ unmarked) (clear : is_clear limits (name_of work.0) ≡ true) where
   abbrev here : MarkedBook
   here = book_after capacity book list
@@ -92,8 +92,8 @@ module _ (capacity : ℕ) (s : Service) (limits : Option Limits) (book : MarkedB
       let same = g.after (name_of work.0) ∙ ap (λ o. option_or o (fin.get book.accounts (name_of work.0))) first in
       judged_tried here work found stored (ap (λ m. m (name_of work.0)) g.marks ∙ plain) (judged_alike book.accounts here.accounts work same ∙ is)
 
-  is_done : (reply_line (told_reply e.ask found), next) ≡ done capacity here e.ask
-  is_done = done_whole e.ask capacity here next work (Told found) job kept (inl tries) (ap (λ o. is_outdated o.0) tries ∙ tried_current here work.0)
+  is_done : (reply_line (told_reply e.operation found), next) ≡ done capacity here e.operation
+  is_done = done_whole e.operation capacity here next work (Told found) job kept (inl tries) (ap (λ o. is_outdated o.0) tries ∙ tried_current here work.0)
 
   more_is : book_after capacity book (list ++ e ∷ []) ≡ next
   unfolding book_after
@@ -114,10 +114,10 @@ module _ (capacity : ℕ) (s : Service) (limits : Option Limits) (book : MarkedB
   plain_more : (q : List ℕ) → fin.contains_key (fin.insert changed (name_of work.0) stored) q ≡ true → book.marks q ≡ unmarked
   plain_more q there = plain_if q _ refl (sym (ap is_some (get-insert nat_list_cmp_total changed (name_of work.0) stored q)) ∙ there)
 
-  text_more : text ++ (e.tag ++ 32 ∷ reply_line (told_reply e.ask found)) ≡ answers capacity book (list ++ e ∷ [])
+  text_more : text ++ (e.tag ++ 32 ∷ reply_line (told_reply e.operation found)) ≡ answers capacity book (list ++ e ∷ [])
   unfolding answers
   text_more =
-      ap (λ t. t ++ (e.tag ++ 32 ∷ reply_line (told_reply e.ask found))) g.text_is
+      ap (λ t. t ++ (e.tag ++ 32 ∷ reply_line (told_reply e.operation found))) g.text_is
       ∙ ap (λ t. answers capacity book list ++ t) (ap (λ o. e.tag ++ 32 ∷ o.0) is_done ∙ sym (append-nil (line_at capacity here e)))
       ∙ sym (answers-append capacity book list (e ∷ []))
 
@@ -128,11 +128,11 @@ module _ (capacity : ℕ) (s : Service) (limits : Option Limits) (book : MarkedB
   -- nothing of the line is counted, since nothing was counted at its name
   counted_more : IfSome limits IsSettled → AreCounted capacity limits book (list ++ e ∷ [])
   counted_more settled = are_counted_push capacity limits book list e (g.counted settled)
-      (change_counted limits here e.ask work found stored settled job kept (ap (λ o. o.0) (sym tries)) book.accounts is clear)
+      (change_counted limits here e.operation work found stored settled job kept (ap (λ o. o.0) (sym tries)) book.accounts is clear)
 
   -- a line more, which changes an account that the others don't
   pub one_together : length list < most_together → IfSome s.input (λ bytes. IsLine s bytes e)
-      → IsGroup capacity s limits book (fin.insert changed (name_of work.0) stored) (list ++ e ∷ []) (text ++ (e.tag ++ 32 ∷ reply_line (told_reply e.ask found)))
+      → IsGroup capacity s limits book (fin.insert changed (name_of work.0) stored) (list ++ e ∷ []) (text ++ (e.tag ++ 32 ∷ reply_line (told_reply e.operation found)))
   one_together short came = record {
     came = came_more s.input g.came came;
     few = omega (arith, short, length-append list (e ∷ []));
@@ -141,7 +141,7 @@ module _ (capacity : ℕ) (s : Service) (limits : Option Limits) (book : MarkedB
     plain = plain_more;
     text_is = text_more;
     counted = counted_more;
-    judged = All-push (λ (e : Entry). IsNotSentAway e.ask) list e g.judged (hash_judged e.ask work.0 job);
+    judged = All-push (λ (e : Entry). IsNotSentAway e.operation) list e g.judged (hash_judged e.operation work.0 job);
   }
 
 -- replacing a record changes no mark if there was none
@@ -170,7 +170,7 @@ adds_together capacity s old now book later changed es lines left rest came limi
     on : HasAnswered capacity s old book None left came limits list times → HasAnswered capacity s now later f rest came limits (list ++ es) (times ++ map (λ _. passed_of limits) es)
     on h =
         served_on capacity s old now book later es (now_of capacity s.tries limits s.opening es) left rest came limits limits failed f list times h
-        (IfSome_then s.input g.came (λ bytes all i d within. record { line = get_or es i d; came = All-get_or (IsLine s bytes) es i d within all; tag = refl; ask = inl refl })) g.few (rw same at closed)
+        (IfSome_then s.input g.came (λ bytes all i d within. record { line = get_or es i d; came = All-get_or (IsLine s bytes) es i d within all; tag = refl; operation = inl refl })) g.few (rw same at closed)
         is_after (rw (is, g.text_is) at told) (length-now_of capacity s.tries limits s.opening es)
         (counts_all capacity s.tries limits s.opening list es times h.timed h.counted (subst (λ b. AreCounted capacity limits b es) h.book_is (g.counted (settled s.tries limits times _ h.counted))))
 
@@ -183,13 +183,13 @@ answered_together capacity s old now book later changed es lines left rest came 
 
 -- a line joins a group, or doesn't
 pub pushed_together : {E : Type 0} (capacity : ℕ) (s : Service) (limits : Option Limits) (book : MarkedBook) (changed now : Accounts) (works more : List (Entry × Task)) (text longer : List ℕ) (w : Entry × Task) (found : Reply) (stored : Option RecordValue) (name : List ℕ) (r : Result (Unit {0}) E)
-    → IsGroup capacity s limits book changed (entries_of works) text → is_clear limits name ≡ true → hashed_for w.0.ask ≡ Some w.1.0 → is_reset w.0.ask ≡ false → judgement book.accounts w.1 ≡ (found, stored, true)
+    → IsGroup capacity s limits book changed (entries_of works) text → is_clear limits name ≡ true → hashed_for w.0.operation ≡ Some w.1.0 → is_reset w.0.operation ≡ false → judgement book.accounts w.1 ≡ (found, stored, true)
     → name ≡ name_of w.1.0 → book.marks name ≡ unmarked → length works < most_together → IfSome s.input (λ bytes. IsLine s bytes w.0)
-    → OnOk r (more ≡ works ++ w ∷ []) → OnOk r (fin.get changed name ≡ None) → OnOk r (now ≡ fin.insert changed name stored) → OnOk r (longer ≡ (text ++ w.0.tag) ++ (32 ∷ reply_line (told_reply w.0.ask found)))
+    → OnOk r (more ≡ works ++ w ∷ []) → OnOk r (fin.get changed name ≡ None) → OnOk r (now ≡ fin.insert changed name stored) → OnOk r (longer ≡ (text ++ w.0.tag) ++ (32 ∷ reply_line (told_reply w.0.operation found)))
     → OnErr r (more ≡ works) → OnErr r (now ≡ changed) → OnErr r (longer ≡ text)
     → IsGroup capacity s limits book now (entries_of more) longer
 pushed_together capacity s limits book changed now works more text longer w found stored name (Ok x) g clear job kept is name_is plain short came more_is first now_is longer_is a b c =
     let few = length-map works (λ (v : Entry × Task). v.0) in
     let one = one_together capacity s limits book changed (entries_of works) text w.0 w.1 found stored g job kept is (rw name_is at first) (rw name_is at plain) (rw name_is at clear) (omega (arith, short, few)) came in
-    rw (now_is, more_is, longer_is, name_is, map-append (λ (v : Entry × Task). v.0) works (w ∷ []), append_assoc text w.0.tag (32 ∷ reply_line (told_reply w.0.ask found))) one
+    rw (now_is, more_is, longer_is, name_is, map-append (λ (v : Entry × Task). v.0) works (w ∷ []), append_assoc text w.0.tag (32 ∷ reply_line (told_reply w.0.operation found))) one
 pushed_together capacity s limits book changed now works more text longer w found stored name (Err e) g clear job kept is name_is plain short came h i j k more_is now_is longer_is = rw (now_is, more_is, longer_is) g

@@ -3,7 +3,7 @@ use Rattle.std.proofs.Common.{◌≡◌, ◌≢◌, ◌⊎◌, ℕ, zero, suc, t
 use mathlib.Core.Option.{some, some-ne-none, some-injective}
 use lib.ListN.{get_elem?}
 use Rattle.crossbeam_channel.specs.Fifo.{Pushes, Pops, Forks, Merges, Learns}
-use Rattle.cred_many.specs.{Asks.Entry, Scribe.IsOf, declared.inbox.Known.Known, declared.inbox.Progress.Progress, declared.scribe.job.Message.Message}
+use Rattle.cred_many.specs.{LineOperations.Entry, Scribe.IsOf, declared.inbox.Known.Known, declared.inbox.Progress.Progress, declared.scribe.job.Message.Message}
 use Rattle.cred_many.specs.declared.scribe.job.Message.TheVariants.{Came, Ended, Hashed, NoMemory}
 use Rattle.cred_many.specs.Inbox.{no_progress, after, MayFollow, Leads, known, no_part, sender_of, taker_of, IsReport, Fits, InOrder}
 

@@ -11,7 +11,7 @@ use Rattle.cred_tries.proofs.Answered.{after_forgiving, after_nothing, after_rig
 use Rattle.cred_many.specs.declared.tries.Effect.{Effect}
 use Rattle.cred_many.specs.declared.tries.Effect.TheVariants as effect
 use Rattle.cred_many.specs.Scribe.{AreIdle, HasEffect, HasPlace, IsOpenTo, IsSentAway, KeepsCount, is_clear, limits_with, passed_of}
-use Rattle.cred_many.specs.{Served.name_asked, Tries.event_of, Tries.is_try, Tries.reset_effect, declared.ask.Ask.Ask}
+use Rattle.cred_many.specs.{Served.name_asked, Tries.event_of, Tries.is_try, Tries.reset_effect, declared.line_operation.LineOperation.LineOperation}
 
 -- ---- what an answer leaves
 
@@ -95,20 +95,20 @@ read_by_sending now (Some l) new name seconds (sent, is) = subst (IsReadBy now (
 
 -- ---- what a call says that may send a try away
 
-module _ (now : ℕ) (l new : Limits) (name : List ℕ) (ask : Ask) (r : Option ℕ) (idle : IsIdle l) (named : name ≡ name_asked ask) (is : (r, new) ≡ sending l name now) where
+module _ (now : ℕ) (l new : Limits) (name : List ℕ) (operation : LineOperation) (r : Option ℕ) (idle : IsIdle l) (named : name ≡ name_asked operation) (is : (r, new) ≡ sending l name now) where
   told : (o : Option ℕ) → r ≡ o → (sending l name now).0 ≡ o
   told o result = ap (λ o. o.0) (sym is) ∙ result
 
   after_is : new ≡ (sending l name now).1
   after_is = ap (λ o. o.1) is
 
-  pub sends_early : (seconds : ℕ) → r ≡ Some seconds → IsSentAway now (Some l) (Some new) (name_asked ask) seconds
+  pub sends_early : (seconds : ℕ) → r ≡ Some seconds → IsSentAway now (Some l) (Some new) (name_asked operation) seconds
   sends_early seconds result = subst (λ n. IsSentAway now (Some l) (Some new) n seconds) named (told (Some seconds) result, ap Some (after_is ∙ sent_seen l name now seconds (told (Some seconds) result)))
 
   pub sends_none : r ≡ None → ◌≡◌ {A = Option Limits} (Some new) (Some l)
   sends_none result = ap Some (after_is ∙ sent_same l name now (told None result))
 
-  pub sends_open : r ≡ None → IsOpenTo (Some l) (name_asked ask) now
+  pub sends_open : r ≡ None → IsOpenTo (Some l) (name_asked operation) now
   sends_open result = subst (λ n. IsFree l n now) named (open_unless l name now idle (told None result))
 
 pub sends_idle : (now : ℕ) (l new : Limits) (name : List ℕ) (r : Option ℕ) → IsIdle l → (r, new) ≡ sending l name now → IsIdle new
@@ -143,15 +143,15 @@ pub nothing_held : (now : ℕ) (limits : Option Limits) (name : List ℕ) → Ha
 nothing_held now None name = refl
 nothing_held now (Some l) name = (tt, refl)
 
-pub asked_as : (now : ℕ) (old new : Option Limits) (a b : Ask) (seconds : ℕ) → a ≡ b → (is_try a ≡ true) × IsSentAway now old new (name_asked a) seconds → (is_try b ≡ true) × IsSentAway now old new (name_asked b) seconds
-asked_as now old new a b seconds same sent = subst (λ ask. (is_try ask ≡ true) × IsSentAway now old new (name_asked ask) seconds) same sent
+pub asked_as : (now : ℕ) (old new : Option Limits) (a b : LineOperation) (seconds : ℕ) → a ≡ b → (is_try a ≡ true) × IsSentAway now old new (name_asked a) seconds → (is_try b ≡ true) × IsSentAway now old new (name_asked b) seconds
+asked_as now old new a b seconds same sent = subst (λ operation. (is_try operation ≡ true) × IsSentAway now old new (name_asked operation) seconds) same sent
 
 pub counted_ok : {A E : Type 0} (r : Result A E) (P : Type 0) → OnOk r P → is_err r ≡ false → P
 counted_ok (Ok x) P has is = has
 counted_ok (Err e) P has is = absurd cc
 
-pub opens_as : (limits : Option Limits) (now : ℕ) (a b : Ask) → a ≡ b → (is_try a ≡ true → IsOpenTo limits (name_asked a) now) → is_try b ≡ true → IsOpenTo limits (name_asked b) now
-opens_as limits now a b same opens = subst (λ ask. is_try ask ≡ true → IsOpenTo limits (name_asked ask) now) same opens
+pub opens_as : (limits : Option Limits) (now : ℕ) (a b : LineOperation) → a ≡ b → (is_try a ≡ true → IsOpenTo limits (name_asked a) now) → is_try b ≡ true → IsOpenTo limits (name_asked b) now
+opens_as limits now a b same opens = subst (λ operation. is_try operation ≡ true → IsOpenTo limits (name_asked operation) now) same opens
 
 pub reset_none : (limits : Option Limits) (name : List ℕ) (reply : Reply) (b : Bool) → reset_effect reply ≡ (if b then effect.Forgiven else effect.Nothing) → b ≡ false → (now : ℕ) → HasEffect now limits limits name (reset_effect reply)
 reset_none limits name reply true told is now = absurd cc

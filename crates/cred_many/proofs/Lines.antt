@@ -6,7 +6,7 @@ use Rattle.cred_phc.specs.{Pieces.pieces, Values.SettingValue}
 use Rattle.cred_cli.specs.{Events.longest_line, Events.most_kept, Events.most_pieces, Feeding.unfinished_from, Script.line_ends, Script.lines_of, declared.costs.CostBounds.CostBounds}
 use Rattle.cred_cli.proofs.{Feeds.get_seam, Feeds.none_kept, Feeds.some_kept, Feeds.take-kept, Readings.if_known}
 use Rattle.cred_cli.proofs.Lines.{length-whole_from, line_ends-append, line_ends-end, line_ends-more, lines_of-ended, lines_of-line_end, lines_of-unfinished, longer, unfinished_from-end, unfinished_from-more, whole_from}
-use Rattle.cred_many.specs.{Asks.Tagged, Asks.entry_of, Asks.tag_of, Asks.tagged, Asks.tagged_by, Asks.tagged_of, Asks.untagged, Asks.within, Reading.ComesNext, Reading.IsCutLine, Reading.IsWholeLine, Reading.MovesOver, Reading.NothingIsLeft, Reading.Place, Reading.Splits}
+use Rattle.cred_many.specs.{LineOperations.Tagged, LineOperations.entry_of, LineOperations.tag_of, LineOperations.tagged, LineOperations.tagged_by, LineOperations.tagged_of, LineOperations.untagged, LineOperations.within, Reading.ComesNext, Reading.IsCutLine, Reading.IsWholeLine, Reading.MovesOver, Reading.NothingIsLeft, Reading.Place, Reading.Splits}
 use Rattle.cred_many.specs.Service.{IsLine, Service, asked_from, cut_line, drawn_setting}
 use Rattle.cred_many.proofs.Unended.{ends_sooner, unended_at, unended_last}
 use Rattle.cred_cli.specs.declared.refusal.Refusal.TheVariants as refusal
@@ -45,7 +45,7 @@ kept_came s (Some all) at most drawn same is (line, there, kept, ended) =
     ∙ sym (ap Some (ap (entry_of at.number most drawn) kept ∙ entry_kept ∙ ap (λ d. entry_of at.number most d line) is ∙ ap (λ m. entry_of at.number m (drawn_setting s at.number) line) same))
   where
     entry_kept : entry_of at.number most drawn (take most_kept line) ≡ entry_of at.number most drawn line
-    entry_kept = ap (λ t. record { number = at.number; tag = t.0; ask = within most t.1 }) (tagged_of-kept drawn line)
+    entry_kept = ap (λ t. record { number = at.number; tag = t.0; operation = within most t.1 }) (tagged_of-kept drawn line)
 
 -- and a line without its end comes as a refused one
 pub cut_came : (s : Service) (input : Option (List ℕ)) (number : ℕ) → IfSome input (λ all. IsCutLine all number) → IfSome input (λ all. IsLine s all (cut_line number))

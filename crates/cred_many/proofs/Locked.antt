@@ -7,13 +7,13 @@ use Rattle.cred_book.specs.{Works.name_of, Works.new_record, declared.request.Re
 use Rattle.cred_book.specs.declared.request.Request.TheVariants.{Enrol, Verify, Change as Changes, Upgrade, Remove}
 use Rattle.cred_cli.specs.Texts.{reply_line}
 use Rattle.cred_file.specs.{Cells.marked, Cells.renewed, declared.marks.Mark.Mark}
-use Rattle.cred_admin.specs.{Commands.reset_at, Edits.disabling_at, Edits.expiry_at, Edits.lacks_room, Edits.locking_at, Edits.renaming_at, Statuses.verdict_line}
+use Rattle.cred_admin.specs.{Commands.reset_at, AccountOperations.disabling_at, AccountOperations.expiry_at, AccountOperations.lacks_room, AccountOperations.locking_at, AccountOperations.renaming_at, Statuses.verdict_line}
 use Rattle.cred_admin.specs.Marked.{MarkedBook, expired, locked, shut, tried, tried_at, with_mark, with_record}
-use Rattle.cred_admin.specs.declared.edits.Edit.TheVariants.{Disable, Delete, Rename, Lock, Unlock, Expire}
+use Rattle.cred_admin.specs.declared.account_operation.AccountOperation.TheVariants.{Disable, Delete, Rename, Lock, Unlock, Expire}
 use Rattle.cred_admin.specs.declared.verdict.Verdict.TheVariants.{Told}
-use Rattle.cred_many.specs.{Asks.Entry, Locks.EndsLock, Locks.IsLocked, Locks.IsNo, Locks.IsTryAt, Locks.PutsRecord, Served.book_after, Served.done, Served.login_verdict, Served.record_at, Telling.AreAlikeAt, Telling.names_in, declared.ask.Ask.Ask}
-use Rattle.cred_many.specs.declared.ask.Ask.TheVariants.{Quick, Whole, Login, Reset, Forgive, Later}
-use Rattle.cred_many.specs.declared.ask.QuickAsk.TheVariants.{Account, Load, Show, DisableShown, Bad, Edit as Change, List as Names, ListMarks}
+use Rattle.cred_many.specs.{LineOperations.Entry, Locks.EndsLock, Locks.IsLocked, Locks.IsNo, Locks.IsTryAt, Locks.PutsRecord, Served.book_after, Served.done, Served.login_verdict, Served.record_at, Telling.AreAlikeAt, Telling.names_in, declared.line_operation.LineOperation.LineOperation}
+use Rattle.cred_many.specs.declared.line_operation.LineOperation.TheVariants.{Quick, Whole, Login, Reset, Forgive, Later}
+use Rattle.cred_many.specs.declared.line_operation.QuickOperation.TheVariants.{Account, Load, Show, DisableShown, Bad, OnAccount, List as Names, ListMarks}
 use Rattle.cred_many.proofs.Beside.{done_stays}
 use Rattle.std.specs.FinMap as map
 
@@ -61,7 +61,7 @@ module _ (book : MarkedBook) (r : Request) (is : IsLocked book (name_of r)) wher
   tried_locked = let (now, found) = some_of (map.get book.accounts (name_of r)) is.0 in (now, ap (tried_at book r) found ∙ tried_some now)
 
 module _ (capacity : ℕ) (book : MarkedBook) (name : List ℕ) where
-  pub refused_try : (ask : Ask) → IsLocked book name → IsTryAt name ask → IsNo (done capacity book ask).0 × ((done capacity book ask).1 ≡ book)
+  pub refused_try : (operation : LineOperation) → IsLocked book name → IsTryAt name operation → IsNo (done capacity book operation).0 × ((done capacity book operation).1 ≡ book)
   refused_try (Whole r) is at =
       let (now, told) = tried_locked book r (subst (IsLocked book) at is) in
       rw told (shut_is_no r now, refl)
@@ -72,7 +72,7 @@ module _ (capacity : ℕ) (book : MarkedBook) (name : List ℕ) where
 
   -- ---- other lines
 
-  pub lock_locks : map.contains_key book.accounts name ≡ true → IsLocked (done capacity book (Quick (Change (Lock name)))).1 name
+  pub lock_locks : map.contains_key book.accounts name ≡ true → IsLocked (done capacity book (Quick (OnAccount (Lock name)))).1 name
   lock_locks there =
       let (v, found) = some_of (map.get book.accounts name) there in
       rw found (there, ap (λ (m : Mark). m.locked) (mark_at_key book.marks name (locked (book.marks name))))
@@ -130,11 +130,11 @@ module _ (capacity : ℕ) (book : MarkedBook) (name : List ℕ) (is : IsLocked b
   change_holds P true line full after old new = old
   change_holds P false line full after old new = new
 
-  abbrev Kept : Ask → Type 0
-  Kept ask = IsLocked (done capacity book ask).1 name × ((PutsRecord name ask → ⊥) → record_at (done capacity book ask).1 name ≡ record_at book name)
+  abbrev Kept : LineOperation → Type 0
+  Kept operation = IsLocked (done capacity book operation).1 name × ((PutsRecord name operation → ⊥) → record_at (done capacity book operation).1 name ≡ record_at book name)
 
-  kept : (ask : Ask) → Holds (done capacity book ask).1 → Kept ask
-  kept ask h = (h.still, λ puts. h.same)
+  kept : (operation : LineOperation) → Holds (done capacity book operation).1 → Kept operation
+  kept operation h = (h.still, λ puts. h.same)
 
   -- of the lines that name the account
   at_account : Holds (done capacity book (Quick (Account name))).1
@@ -143,11 +143,11 @@ module _ (capacity : ℕ) (book : MarkedBook) (name : List ℕ) (is : IsLocked b
   at_load : (stored : RecordValue) → IsLocked (done capacity book (Quick (Load name stored))).1 name
   at_load stored = rw is.0 (record_locked (Some stored))
 
-  at_try : (ask : Ask) → IsTryAt name ask → Holds (done capacity book ask).1
-  at_try ask at = subst Holds (sym (refused_try capacity book name ask is at).1) holds
+  at_try : (operation : LineOperation) → IsTryAt name operation → Holds (done capacity book operation).1
+  at_try operation at = subst Holds (sym (refused_try capacity book name operation is at).1) holds
 
-  beside : (ask : Ask) → All (λ named. name ≢ named) (names_in ask) → Kept ask
-  beside ask ne = kept ask (by_alike (done capacity book ask).1 (done_stays capacity book name ask ne))
+  beside : (operation : LineOperation) → All (λ named. name ≢ named) (names_in operation) → Kept operation
+  beside operation ne = kept operation (by_alike (done capacity book operation).1 (done_stays capacity book name operation ne))
 
   -- a name stands alone in a list
   one_other : (key : List ℕ) → name ≢ key → All (λ named. name ≢ named) (key ∷ [])
@@ -163,41 +163,41 @@ module _ (capacity : ℕ) (book : MarkedBook) (name : List ℕ) (is : IsLocked b
   none_named i d low = absurd (omega (arith, low))
 
   -- the one name of a line is the account's, or another's
-  of_one : (ask : Ask) (key : List ℕ) → names_in ask ≡ key ∷ [] → (name ≡ key → Kept ask) → Kept ask
-  of_one ask key names here = elim (decide name key) [
+  of_one : (operation : LineOperation) (key : List ℕ) → names_in operation ≡ key ∷ [] → (name ≡ key → Kept operation) → Kept operation
+  of_one operation key names here = elim (decide name key) [
     | inl same ↦ here same
-    | inr ne ↦ beside ask (subst (All (λ named. name ≢ named)) (sym names) (one_other key ne))
+    | inr ne ↦ beside operation (subst (All (λ named. name ≢ named)) (sym names) (one_other key ne))
   ]
 
   -- a line of one name that puts a record there, or removes it
-  put_at : (ask : Ask) (key : List ℕ) → names_in ask ≡ key ∷ [] → (name ≡ key → PutsRecord name ask) → (name ≡ key → IsLocked (done capacity book ask).1 name) → Kept ask
-  put_at ask key names puts stays = of_one ask key names (λ same. (stays same, λ other. absurd (other (puts same))))
+  put_at : (operation : LineOperation) (key : List ℕ) → names_in operation ≡ key ∷ [] → (name ≡ key → PutsRecord name operation) → (name ≡ key → IsLocked (done capacity book operation).1 name) → Kept operation
+  put_at operation key names puts stays = of_one operation key names (λ same. (stays same, λ other. absurd (other (puts same))))
 
-  pub step : (ask : Ask) → (EndsLock name ask → ⊥) → Kept ask
+  pub step : (operation : LineOperation) → (EndsLock name operation → ⊥) → Kept operation
   step (Quick (Account key)) ends = of_one (Quick (Account key)) key refl (λ same. subst (λ k. Kept (Quick (Account k))) same (kept (Quick (Account name)) at_account))
   step (Quick (Load key stored)) ends =
       put_at (Quick (Load key stored)) key refl (λ same. same) (λ same. subst (λ k. IsLocked (done capacity book (Quick (Load k stored))).1 name) same (at_load stored))
   step (Quick (Show key)) ends = kept (Quick (Show key)) holds
   step (Quick (DisableShown key)) ends =
       put_at (Quick (DisableShown key)) key refl (λ same. same) (λ same. subst (λ k. IsLocked (done capacity book (Quick (DisableShown k))).1 name) same (disabling_locked (map.get book.accounts name)))
-  step (Quick (Change (Disable key))) ends =
-      put_at (Quick (Change (Disable key))) key refl (λ same. same) (λ same. subst (λ k. IsLocked (done capacity book (Quick (Change (Disable k)))).1 name) same
+  step (Quick (OnAccount (Disable key))) ends =
+      put_at (Quick (OnAccount (Disable key))) key refl (λ same. same) (λ same. subst (λ k. IsLocked (done capacity book (Quick (OnAccount (Disable k)))).1 name) same
       (change_holds (λ b. IsLocked b name) (lacks_room capacity book (Disable name)) _ _ (disabling_at book name (map.get book.accounts name)).1 is (disabling_locked (map.get book.accounts name))))
-  step (Quick (Change (Delete key))) ends = of_one (Quick (Change (Delete key))) key refl (λ same. absurd (ends same))
-  step (Quick (Change (Rename key new))) ends = elim (decide name new) [
-    | inl same ↦ kept (Quick (Change (Rename key new)))
+  step (Quick (OnAccount (Delete key))) ends = of_one (Quick (OnAccount (Delete key))) key refl (λ same. absurd (ends same))
+  step (Quick (OnAccount (Rename key new))) ends = elim (decide name new) [
+    | inl same ↦ kept (Quick (OnAccount (Rename key new)))
         (change_holds Holds (lacks_room capacity book (Rename key new)) _ _ (renaming_at book key new (map.get book.accounts key) (map.contains_key book.accounts new)).1 holds
         (subst (λ n. Holds (renaming_at book key n (map.get book.accounts key) (map.contains_key book.accounts n)).1) same
         (renaming_holds key (map.get book.accounts key) (map.contains_key book.accounts name) is.0)))
-    | inr other ↦ beside (Quick (Change (Rename key new))) (two_others key new (λ same. ends same) other)
+    | inr other ↦ beside (Quick (OnAccount (Rename key new))) (two_others key new (λ same. ends same) other)
   ]
-  step (Quick (Change (Lock key))) ends =
-      of_one (Quick (Change (Lock key))) key refl (λ same. subst (λ k. Kept (Quick (Change (Lock k)))) same
-      (kept (Quick (Change (Lock name))) (change_holds Holds (lacks_room capacity book (Lock name)) _ _ (locking_at book name (map.get book.accounts name)).1 holds (locking_holds (map.get book.accounts name)))))
-  step (Quick (Change (Unlock key))) ends = of_one (Quick (Change (Unlock key))) key refl (λ same. absurd (ends same))
-  step (Quick (Change (Expire key))) ends =
-      of_one (Quick (Change (Expire key))) key refl (λ same. subst (λ k. Kept (Quick (Change (Expire k)))) same
-      (kept (Quick (Change (Expire name))) (change_holds Holds (lacks_room capacity book (Expire name)) _ _ (expiry_at book name (map.get book.accounts name)).1 holds (expiry_holds (map.get book.accounts name)))))
+  step (Quick (OnAccount (Lock key))) ends =
+      of_one (Quick (OnAccount (Lock key))) key refl (λ same. subst (λ k. Kept (Quick (OnAccount (Lock k)))) same
+      (kept (Quick (OnAccount (Lock name))) (change_holds Holds (lacks_room capacity book (Lock name)) _ _ (locking_at book name (map.get book.accounts name)).1 holds (locking_holds (map.get book.accounts name)))))
+  step (Quick (OnAccount (Unlock key))) ends = of_one (Quick (OnAccount (Unlock key))) key refl (λ same. absurd (ends same))
+  step (Quick (OnAccount (Expire key))) ends =
+      of_one (Quick (OnAccount (Expire key))) key refl (λ same. subst (λ k. Kept (Quick (OnAccount (Expire k)))) same
+      (kept (Quick (OnAccount (Expire name))) (change_holds Holds (lacks_room capacity book (Expire name)) _ _ (expiry_at book name (map.get book.accounts name)).1 holds (expiry_holds (map.get book.accounts name)))))
   step (Quick (Names from most)) ends = kept (Quick (Names from most)) holds
   step (Quick (ListMarks from most)) ends = kept (Quick (ListMarks from most)) holds
   step (Quick (Bad why)) ends = kept (Quick (Bad why)) holds
@@ -209,8 +209,8 @@ module _ (capacity : ℕ) (book : MarkedBook) (name : List ℕ) (is : IsLocked b
   step (Later key seconds) ends = kept (Later key seconds) holds
 
 -- whatever lines come
-pub stays_locked : (capacity : ℕ) (book : MarkedBook) (name : List ℕ) (lines : List Entry) → IsLocked book name → All (λ e. EndsLock name e.ask → ⊥) lines → IsLocked (book_after capacity book lines) name
+pub stays_locked : (capacity : ℕ) (book : MarkedBook) (name : List ℕ) (lines : List Entry) → IsLocked book name → All (λ e. EndsLock name e.operation → ⊥) lines → IsLocked (book_after capacity book lines) name
 unfolding book_after
 stays_locked capacity book name [] is none = is
 stays_locked capacity book name (e ∷ es) is none =
-    stays_locked capacity (done capacity book e.ask).1 name es (step capacity book name is e.ask (none 0 e (omega arith))).0 (λ i d low. none (suc i) d (omega (arith, low)))
+    stays_locked capacity (done capacity book e.operation).1 name es (step capacity book name is e.operation (none 0 e (omega arith))).0 (λ i d low. none (suc i) d (omega (arith, low)))

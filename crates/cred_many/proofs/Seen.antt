@@ -7,7 +7,7 @@ use Rattle.cred_phc.specs.Values.{RecordValue}
 use Rattle.cred_book.specs.Works.{same}
 use Rattle.cred_admin.specs.Marked.{MarkedBook}
 use Rattle.cred_book.proofs.Equality.{same-Decides}
-use Rattle.cred_many.specs.{declared.ask.Ask.Ask, declared.open.Open.Open, declared.open.Sight.Sight, declared.fault.ServiceFault.ServiceFault, Asks.Entry, Served.answers, Served.book_after, Served.change_from, Served.changes, Served.done, Served.line_at, Served.name_asked, Served.record_at, Served.tries}
+use Rattle.cred_many.specs.{declared.line_operation.LineOperation.LineOperation, declared.open.Open.Open, declared.open.Sight.Sight, declared.fault.ServiceFault.ServiceFault, LineOperations.Entry, Served.answers, Served.book_after, Served.change_from, Served.changes, Served.done, Served.line_at, Served.name_asked, Served.record_at, Served.tries}
 use Rattle.cred_many.specs.Scribe.{AreClosed, IsBusy, IsReady, Notes, SightHolds, counted, numbers}
 
 -- ---- how often a record changed
@@ -27,14 +27,14 @@ module _ (capacity : ℕ) (name : List ℕ) where
   changes-append : (book : MarkedBook) (xs ys : List Entry) → changes capacity book name (xs ++ ys) ≡ changes capacity book name xs + changes capacity (book_after capacity book xs) name ys
   unfolding changes book_after
   changes-append book [] ys = omega arith
-  changes-append book (x ∷ xs) ys = let r = changes-append (done capacity book x.ask).1 xs ys in omega (arith, r)
+  changes-append book (x ∷ xs) ys = let r = changes-append (done capacity book x.operation).1 xs ys in omega (arith, r)
 
   -- a record that differs now has changed
   noticed : (book : MarkedBook) (xs : List Entry) → change_from (record_at book name) (record_at (book_after capacity book xs) name) ≤ changes capacity book name xs
   unfolding changes book_after
   noticed book [] = let none = alike (record_at book name) in omega (arith, none)
   noticed book (x ∷ xs) =
-      let later = (done capacity book x.ask).1 in
+      let later = (done capacity book x.operation).1 in
       let first = one_by_one (record_at book name) (record_at later name) (record_at (book_after capacity later xs) name) _ refl in
       let rest = noticed later xs in
       omega (arith, first, rest)
@@ -42,15 +42,15 @@ module _ (capacity : ℕ) (name : List ℕ) where
 pub book_after-append : (capacity : ℕ) (book : MarkedBook) (xs ys : List Entry) → book_after capacity book (xs ++ ys) ≡ book_after capacity (book_after capacity book xs) ys
 unfolding book_after
 book_after-append capacity book [] ys = refl
-book_after-append capacity book (x ∷ xs) ys = book_after-append capacity (done capacity book x.ask).1 xs ys
+book_after-append capacity book (x ∷ xs) ys = book_after-append capacity (done capacity book x.operation).1 xs ys
 
 pub answers-append : (capacity : ℕ) (book : MarkedBook) (xs ys : List Entry)
     → answers capacity book (xs ++ ys) ≡ answers capacity book xs ++ answers capacity (book_after capacity book xs) ys
 unfolding answers book_after
 answers-append capacity book [] ys = refl
 answers-append capacity book (x ∷ xs) ys =
-    ap (λ l. line_at capacity book x ++ l) (answers-append capacity (done capacity book x.ask).1 xs ys)
-    ∙ sym (append_assoc (line_at capacity book x) (answers capacity (done capacity book x.ask).1 xs) (answers capacity (book_after capacity (done capacity book x.ask).1 xs) ys))
+    ap (λ l. line_at capacity book x ++ l) (answers-append capacity (done capacity book x.operation).1 xs ys)
+    ∙ sym (append_assoc (line_at capacity book x) (answers capacity (done capacity book x.operation).1 xs) (answers capacity (book_after capacity (done capacity book x.operation).1 xs) ys))
 
 -- ---- what was seen
 
@@ -91,8 +91,8 @@ module _ (capacity : ℕ) (opening : MarkedBook) (list : List Entry) where
           (λ is. rw ((bytes_eq-Decides s.name name).0 is) at h) (λ other. omega arith)
 
   -- a line that has seen often enough that its record changed
-  pub worn : (left : List Open) (place : ℕ) (ask : Ask) → All Holds left → IsBusy left place ask → tries ≤ changes capacity opening (name_asked ask) list
-  worn left place ask all w =
+  pub worn : (left : List Open) (place : ℕ) (operation : LineOperation) → All Holds left → IsBusy left place operation → tries ≤ changes capacity opening (name_asked operation) list
+  worn left place operation all w =
       let few = rw w.seen at (at_place Holds left place w.line all w.there) in
       let name = ap (λ n. changes capacity opening n list) w.name_is in
       omega (arith, few, name, w.often)
@@ -121,9 +121,9 @@ set_here : {A : Type 0} (xs : List A) (i : ℕ) (x : A) → i < length xs → sl
 set_here xs i x within = slice_get-get_or (set xs i x) i x (rw length-set within) ∙ ap Some (get_or-set_same xs i x x within)
 
 -- the line may have seen enough changes
-pub looked_worn : (left rest : List Open) (place : ℕ) (name : List ℕ) (stored : Option RecordValue) (count : ℕ) (ask : Ask) → Notes left place name stored rest count
-    → name ≡ name_asked ask → tries ≤ count → IsBusy rest place ask
-looked_worn left rest place name stored count ask l is often = record {
+pub looked_worn : (left rest : List Open) (place : ℕ) (name : List ℕ) (stored : Option RecordValue) (count : ℕ) (operation : LineOperation) → Notes left place name stored rest count
+    → name ≡ name_asked operation → tries ≤ count → IsBusy rest place operation
+looked_worn left rest place name stored count operation l is often = record {
   line = record { number = l.line.number; sight = Some (record { name = name; stored = stored; changes = count }) };
   sight = record { name = name; stored = stored; changes = count };
   there = ap (λ r. slice_get r place) l.new_is ∙ set_here left place _ (slice_get_within left place l.line l.there);

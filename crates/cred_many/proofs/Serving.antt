@@ -9,12 +9,12 @@ use Rattle.cred_phc.specs.Values.{RecordValue}
 use Rattle.cred_admin.specs.Marked.{MarkedBook}
 use Rattle.cred_cli.specs.{History.Refused, Script.lines_of, Texts.line_of}
 use Rattle.cred_cli.proofs.Readings.{if_known}
-use Rattle.cred_many.specs.{Asks.Entry, Asks.entry, Asks.refused, Served.AreFor, Served.HasCause, Served.IsFor, Served.IsGivenUp, Served.IsWritten, Served.Moment, Served.NeedsMemory, Served.Stands, Served.StandsAtEnd, Served.answers, Served.book_after, Served.done, Served.entry_numbers, Served.line_at, Served.most_together, Served.record_at}
-use Rattle.cred_many.specs.{declared.ask.Ask.Ask, declared.fault.ServiceFault.ServiceFault, declared.open.Open.Open, Scribe.AddsNone, Scribe.AddsOne, Scribe.AreClosed, Scribe.HasAnswered, Scribe.History, Scribe.IsAnswered, Scribe.IsBusy, Scribe.IsConcluded, Scribe.IsReady, Scribe.Notes, Scribe.SightHolds, Scribe.numbers, Scribe.unseen, Transcript.TakesMore, Transcript.Written}
+use Rattle.cred_many.specs.{LineOperations.Entry, LineOperations.entry, LineOperations.refused, Served.AreFor, Served.HasCause, Served.IsFor, Served.IsGivenUp, Served.IsWritten, Served.Moment, Served.NeedsMemory, Served.Stands, Served.StandsAtEnd, Served.answers, Served.book_after, Served.done, Served.entry_numbers, Served.line_at, Served.most_together, Served.record_at}
+use Rattle.cred_many.specs.{declared.line_operation.LineOperation.LineOperation, declared.fault.ServiceFault.ServiceFault, declared.open.Open.Open, Scribe.AddsNone, Scribe.AddsOne, Scribe.AreClosed, Scribe.HasAnswered, Scribe.History, Scribe.IsAnswered, Scribe.IsBusy, Scribe.IsConcluded, Scribe.IsReady, Scribe.Notes, Scribe.SightHolds, Scribe.numbers, Scribe.unseen, Transcript.TakesMore, Transcript.Written}
 use Rattle.cred_many.specs.Service.{IsLine, Service, asked, asked_from, cut_line}
 use Rattle.cred_many.proofs.{Unended.length-unended, Seen.answers-append, Seen.book_after-append, Seen.looked_numbers, Seen.watched_looked, Seen.watched_on, Seen.watched_rest, Seen.worn, Transcripts.takes_both, Transcripts.takes_none}
 use Rattle.cred_tries.specs.Limits.{Limits}
-use Rattle.cred_many.specs.{Scribe.IsCounted, Scribe.IsCountedAt, Scribe.IsQuick, Scribe.IsSentAway, Scribe.KeepsCount, Scribe.passed_of, Served.later_line, Served.name_asked, Served.told_at, Tries.is_try, declared.ask.Ask.TheVariants.Later}
+use Rattle.cred_many.specs.{Scribe.IsCounted, Scribe.IsCountedAt, Scribe.IsQuick, Scribe.IsSentAway, Scribe.KeepsCount, Scribe.passed_of, Served.later_line, Served.name_asked, Served.told_at, Tries.is_try, declared.line_operation.LineOperation.TheVariants.Later}
 use Rattle.cred_many.specs.Answered.{KeepsLimit, State, answered_in}
 use Rattle.cred_many.proofs.{Adding.goes_on, Adding.stays_so}
 use Rattle.cred_many.proofs.{Limiting.limit_kept, Telling.counts_one, Telling.has_limit, Telling.nothing_counted, Telling.told_more}
@@ -160,68 +160,68 @@ module _ (capacity : ℕ) (s : Service) (old now : Written) (book later : Marked
   not_counted why idle = subst (λ l. IsCounted limits l book (refused why)) (sym idle) (nothing_counted limits [])
 
   -- the line is answered as what it asks for, or as it is given up
-  goes_as : (ask : Ask) → later ≡ (done capacity book ask).1 → answer ≡ (done capacity book ask).0
-      → ((list : List Entry) (times : List ℕ) → HasAnswered capacity s old book None left came limits list times → (ask ≡ line.ask) ⊎ IsGivenUp capacity s list line.ask ask)
-      → IsCounted limits later_limits book ask
-      → (list : List Entry) (times : List ℕ) → Before list times → After (list ++ entry line.number line.tag ask ∷ []) (times ++ passed_of later_limits ∷ [])
+  goes_as : (operation : LineOperation) → later ≡ (done capacity book operation).1 → answer ≡ (done capacity book operation).0
+      → ((list : List Entry) (times : List ℕ) → HasAnswered capacity s old book None left came limits list times → (operation ≡ line.operation) ⊎ IsGivenUp capacity s list line.operation operation)
+      → IsCounted limits later_limits book operation
+      → (list : List Entry) (times : List ℕ) → Before list times → After (list ++ entry line.number line.tag operation ∷ []) (times ++ passed_of later_limits ∷ [])
   unfolding answers book_after
-  goes_as ask later_is answer_is owed counts list times before = on (rw ready.going at before)
+  goes_as operation later_is answer_is owed counts list times before = on (rw ready.going at before)
     where
-      on : HasAnswered capacity s old book None left came limits list times → After (list ++ entry line.number line.tag ask ∷ []) (times ++ passed_of later_limits ∷ [])
+      on : HasAnswered capacity s old book None left came limits list times → After (list ++ entry line.number line.tag operation ∷ []) (times ++ passed_of later_limits ∷ [])
       on h =
-          let text : line.tag ++ 32 ∷ answer ≡ answers capacity book (entry line.number line.tag ask ∷ []) = ap (λ text. line.tag ++ 32 ∷ text) answer_is ∙ sym (append-nil (line_at capacity book (entry line.number line.tag ask))) in
-          served_on capacity s old now book later (entry line.number line.tag ask ∷ []) (passed_of later_limits ∷ []) left rest came limits later_limits failed f list times h
+          let text : line.tag ++ 32 ∷ answer ≡ answers capacity book (entry line.number line.tag operation ∷ []) = ap (λ text. line.tag ++ 32 ∷ text) answer_is ∙ sym (append-nil (line_at capacity book (entry line.number line.tag operation))) in
+          served_on capacity s old now book later (entry line.number line.tag operation ∷ []) (passed_of later_limits ∷ []) left rest came limits later_limits failed f list times h
           (IfSome_then s.input came_is (λ bytes is i d within. one bytes is i (omega (arith, within)) d)) (omega arith) (place, ready.there, closed) later_is (rw text at told)
           refl counted_one
         where
-          counted_one : KeepsCount s.tries later_limits (times ++ passed_of later_limits ∷ []) (told_at capacity s.opening (list ++ entry line.number line.tag ask ∷ []) (times ++ passed_of later_limits ∷ []))
+          counted_one : KeepsCount s.tries later_limits (times ++ passed_of later_limits ∷ []) (told_at capacity s.opening (list ++ entry line.number line.tag operation ∷ []) (times ++ passed_of later_limits ∷ []))
           counted_one =
-              subst (KeepsCount s.tries later_limits (times ++ passed_of later_limits ∷ [])) (sym (told_more capacity s.opening list times (entry line.number line.tag ask) (passed_of later_limits) h.timed))
-              (counts_one s.tries times (told_at capacity s.opening list times) limits later_limits (book_after capacity s.opening list) ask h.counted (subst (λ b. IsCounted limits later_limits b ask) h.book_is counts))
+              subst (KeepsCount s.tries later_limits (times ++ passed_of later_limits ∷ [])) (sym (told_more capacity s.opening list times (entry line.number line.tag operation) (passed_of later_limits) h.timed))
+              (counts_one s.tries times (told_at capacity s.opening list times) limits later_limits (book_after capacity s.opening list) operation h.counted (subst (λ b. IsCounted limits later_limits b operation) h.book_is counts))
 
           one : (bytes : List ℕ) → IsLine s bytes line → (i : ℕ) → i ≡ 0 → (d : Entry)
-              → IsFor capacity s bytes (list ++ take i (entry line.number line.tag ask ∷ [])) (get_or (entry line.number line.tag ask ∷ []) i d)
-          one bytes here i first d = rw (first, append-nil list) (record { line = line; came = here; tag = refl; ask = owed list times h })
+              → IsFor capacity s bytes (list ++ take i (entry line.number line.tag operation ∷ [])) (get_or (entry line.number line.tag operation ∷ []) i d)
+          one bytes here i first d = rw (first, append-nil list) (record { line = line; came = here; tag = refl; operation = owed list times h })
 
-  adds_as : (IsSo : Ask → Type 0) (ask : Ask) → IsSo ask → later ≡ (done capacity book ask).1 → answer ≡ (done capacity book ask).0
-      → ((list : List Entry) (times : List ℕ) → HasAnswered capacity s old book None left came limits list times → (ask ≡ line.ask) ⊎ IsGivenUp capacity s list line.ask ask)
-      → IsCounted limits later_limits book ask → AddsOne IsSo (passed_of later_limits) Before After
-  adds_as IsSo ask so later_is answer_is owed counts list times before =
-      ∣ inr (entry line.number line.tag ask, so, goes_as ask later_is answer_is owed counts list times before) ∣₁
+  adds_as : (IsSo : LineOperation → Type 0) (operation : LineOperation) → IsSo operation → later ≡ (done capacity book operation).1 → answer ≡ (done capacity book operation).0
+      → ((list : List Entry) (times : List ℕ) → HasAnswered capacity s old book None left came limits list times → (operation ≡ line.operation) ⊎ IsGivenUp capacity s list line.operation operation)
+      → IsCounted limits later_limits book operation → AddsOne IsSo (passed_of later_limits) Before After
+  adds_as IsSo operation so later_is answer_is owed counts list times before =
+      ∣ inr (entry line.number line.tag operation, so, goes_as operation later_is answer_is owed counts list times before) ∣₁
 
   -- the line is answered
-  pub adds_answer : (IsSo : Ask → Type 0) → IsSo line.ask → later ≡ (done capacity book line.ask).1 → answer ≡ (done capacity book line.ask).0 → IsCounted limits later_limits book line.ask → AddsOne IsSo (passed_of later_limits) Before After
-  adds_answer IsSo so later_is answer_is counts = adds_as IsSo line.ask so later_is answer_is (λ list times h. inl refl) counts
+  pub adds_answer : (IsSo : LineOperation → Type 0) → IsSo line.operation → later ≡ (done capacity book line.operation).1 → answer ≡ (done capacity book line.operation).0 → IsCounted limits later_limits book line.operation → AddsOne IsSo (passed_of later_limits) Before After
+  adds_answer IsSo so later_is answer_is counts = adds_as IsSo line.operation so later_is answer_is (λ list times h. inl refl) counts
 
   -- the line is given up for want of memory
-  pub adds_starved : later ≡ book → answer ≡ line_of (Refused (refusal.Book error.Memory)) → NeedsMemory capacity book line.ask → later_limits ≡ limits → AddsOne IsQuick (passed_of later_limits) Before After
+  pub adds_starved : later ≡ book → answer ≡ line_of (Refused (refusal.Book error.Memory)) → NeedsMemory capacity book line.operation → later_limits ≡ limits → AddsOne IsQuick (passed_of later_limits) Before After
   adds_starved same is needs idle = adds_as IsQuick (refused (refusal.Book error.Memory)) tt same is
-      (λ list times h. inr (inl (refl, subst (λ b. NeedsMemory capacity b line.ask) h.book_is needs))) (not_counted (refusal.Book error.Memory) idle)
+      (λ list times h. inr (inl (refl, subst (λ b. NeedsMemory capacity b line.operation) h.book_is needs))) (not_counted (refusal.Book error.Memory) idle)
 
   -- or because other lines were always faster
-  pub adds_busy : later ≡ book → answer ≡ line_of (Refused refusal.Busy) → IsBusy left place line.ask → later_limits ≡ limits → AddsOne IsQuick (passed_of later_limits) Before After
+  pub adds_busy : later ≡ book → answer ≡ line_of (Refused refusal.Busy) → IsBusy left place line.operation → later_limits ≡ limits → AddsOne IsQuick (passed_of later_limits) Before After
   adds_busy same is busy idle = adds_as IsQuick (refused refusal.Busy) tt same is
-      (λ list times h. inr (inr (inl (refl, worn capacity s.opening list left place line.ask h.seen busy)))) (not_counted refusal.Busy idle)
+      (λ list times h. inr (inr (inl (refl, worn capacity s.opening list left place line.operation h.seen busy)))) (not_counted refusal.Busy idle)
 
   -- or because its try is too early
-  pub adds_sent : (clock seconds : ℕ) → later ≡ book → answer ≡ later_line seconds → is_try line.ask ≡ true → IsSentAway clock limits later_limits (name_asked line.ask) seconds
+  pub adds_sent : (clock seconds : ℕ) → later ≡ book → answer ≡ later_line seconds → is_try line.operation ≡ true → IsSentAway clock limits later_limits (name_asked line.operation) seconds
       → AddsOne (IsCountedAt clock limits later_limits book) (passed_of later_limits) Before After
-  adds_sent clock seconds same is tries early = adds_as (IsCountedAt clock limits later_limits book) (Later (name_asked line.ask) seconds) early same is
-      (λ list times h. inr (inr (inr ((seconds, refl), tries, has_limit s.tries limits later_limits times (told_at capacity s.opening list times) (name_asked line.ask) clock seconds h.counted early)))) (clock, early)
+  adds_sent clock seconds same is tries early = adds_as (IsCountedAt clock limits later_limits book) (Later (name_asked line.operation) seconds) early same is
+      (λ list times h. inr (inr (inr ((seconds, refl), tries, has_limit s.tries limits later_limits times (told_at capacity s.opening list times) (name_asked line.operation) clock seconds h.counted early)))) (clock, early)
 
   -- ---- so a history goes on
 
   module _ (served : ∥ History capacity s old book was left came limits ∥₁) where
-    pub answered : later ≡ (done capacity book line.ask).1 → answer ≡ (done capacity book line.ask).0 → IsCounted limits later_limits book line.ask → ∥ History capacity s now later f rest came later_limits ∥₁
-    answered later_is answer_is counts = goes_on Before After (λ ask. Unit {0}) (passed_of later_limits) (adds_answer (λ ask. Unit {0}) tt later_is answer_is counts) served
+    pub answered : later ≡ (done capacity book line.operation).1 → answer ≡ (done capacity book line.operation).0 → IsCounted limits later_limits book line.operation → ∥ History capacity s now later f rest came later_limits ∥₁
+    answered later_is answer_is counts = goes_on Before After (λ operation. Unit {0}) (passed_of later_limits) (adds_answer (λ operation. Unit {0}) tt later_is answer_is counts) served
 
-    pub starved : later ≡ book → answer ≡ line_of (Refused (refusal.Book error.Memory)) → NeedsMemory capacity book line.ask → later_limits ≡ limits → ∥ History capacity s now later f rest came later_limits ∥₁
+    pub starved : later ≡ book → answer ≡ line_of (Refused (refusal.Book error.Memory)) → NeedsMemory capacity book line.operation → later_limits ≡ limits → ∥ History capacity s now later f rest came later_limits ∥₁
     starved same is needs idle = goes_on Before After IsQuick (passed_of later_limits) (adds_starved same is needs idle) served
 
-    pub given_up : later ≡ book → answer ≡ line_of (Refused refusal.Busy) → IsBusy left place line.ask → later_limits ≡ limits → ∥ History capacity s now later f rest came later_limits ∥₁
+    pub given_up : later ≡ book → answer ≡ line_of (Refused refusal.Busy) → IsBusy left place line.operation → later_limits ≡ limits → ∥ History capacity s now later f rest came later_limits ∥₁
     given_up same is busy idle = goes_on Before After IsQuick (passed_of later_limits) (adds_busy same is busy idle) served
 
-    pub sent_away : (clock seconds : ℕ) → later ≡ book → answer ≡ later_line seconds → is_try line.ask ≡ true → IsSentAway clock limits later_limits (name_asked line.ask) seconds → ∥ History capacity s now later f rest came later_limits ∥₁
+    pub sent_away : (clock seconds : ℕ) → later ≡ book → answer ≡ later_line seconds → is_try line.operation ≡ true → IsSentAway clock limits later_limits (name_asked line.operation) seconds → ∥ History capacity s now later f rest came later_limits ∥₁
     sent_away clock seconds same is tries early = goes_on Before After (IsCountedAt clock limits later_limits book) (passed_of later_limits) (adds_sent clock seconds same is tries early) served
 
 module _ (capacity : ℕ) (s : Service) (now : Written) (book : MarkedBook) (left : List Open) (came : ℕ) (limits : Option Limits) (was : Option ServiceFault) where

@@ -3,7 +3,7 @@ use Rattle.std.proofs.Common.{◌≡◌, ◌⊎◌, inl, inr, ◌-◌, ◌≤◌
 use Rattle.std.proofs.lemmas.List.Elements.{All-cons, All-contains, All-contains_itself, All-head, All-nil, All-push, All-tail, All-weaker, Contains-append_left, Contains-push}
 use Rattle.std.specs.List.{All, Contains, remove}
 use Rattle.cred_book.specs.Works.{Task}
-use Rattle.cred_many.specs.{Asks.Entry, Scribe.AreClosed, Scribe.entries_of, declared.open.Open.Open}
+use Rattle.cred_many.specs.{LineOperations.Entry, Scribe.AreClosed, Scribe.entries_of, declared.open.Open.Open}
 use Rattle.cred_many.specs.Turns.{HaveTurns, KeepsTurns, UseTurns, UsesTurn, turns_left}
 use Rattle.cred_many.proofs.Turns.{closed_turn, keeps_same}
 

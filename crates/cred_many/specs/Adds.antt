@@ -3,7 +3,7 @@
 use Rattle.std.specs.Prelude.{ℕ, List}
 use Rattle.std.specs.declared.io.traits.Write.{Ghosts as OfWriter}
 use Rattle.cred_admin.specs.declared.host.Host.{Ghosts as OfKeeper}
-use Rattle.cred_many.specs.{Asks.Entry, declared.scribe.Scribe.Scribe}
+use Rattle.cred_many.specs.{LineOperations.Entry, declared.scribe.Scribe.Scribe}
 use Rattle.cred_many.specs.declared.service_id.ServiceId.{Ghosts as OfService}
 use Rattle.cred_many.specs.Scribe.{AddsNone, AddsOne, AddsSome, IsCountedAt, IsNotSentAway, IsQuick, answered_by, passed_of}
 

@@ -1,7 +1,7 @@
 -- What a scribe has answered, from call to call.
 use Rattle.std.specs.Prelude.{◌≡◌, ◌⊎◌, ℕ, suc, List, ◌++◌, IfSome, Option, length}
 use Rattle.cred_admin.specs.Marked.{MarkedBook}
-use Rattle.cred_many.specs.{Asks.Entry, Service.Service, Transcript.Written, declared.fault.ServiceFault.ServiceFault, declared.open.Open.Open}
+use Rattle.cred_many.specs.{LineOperations.Entry, Service.Service, Transcript.Written, declared.fault.ServiceFault.ServiceFault, declared.open.Open.Open}
 use Rattle.cred_many.specs.Scribe.{AddsOne, AddsSome, HasAnswered, IsCountedAt, IsNotSentAway, passed_of}
 use Rattle.cred_many.specs.Served.{told_at}
 use Rattle.cred_tries.specs.{Answers.KeepLimit, Limits.Limits}

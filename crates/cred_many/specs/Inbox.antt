@@ -3,7 +3,7 @@
 use Rattle.std.specs.Prelude.{◌≡◌, ℕ, Bool, true, false, List, [], ◌∷◌, ◌++◌, Option, None, length}
 use mathlib.Core.Option.{some}
 use lib.ListN.{get_elem?}
-use Rattle.cred_many.specs.{Asks.Entry, declared.inbox.Known.Known, declared.fault.ServiceFault.ServiceFault, declared.inbox.Progress.Progress, declared.scribe.job.Message.Message}
+use Rattle.cred_many.specs.{LineOperations.Entry, declared.inbox.Known.Known, declared.fault.ServiceFault.ServiceFault, declared.inbox.Progress.Progress, declared.scribe.job.Message.Message}
 use Rattle.cred_many.specs.declared.scribe.job.Message.TheVariants.{Came, Ended}
 
 abbrev pub progress : {J : Type 0} → List Entry → Bool → Progress J

@@ -1,7 +1,7 @@
 -- The definitions that the contracts of a service cite.
 pub mod Adds
 pub mod Answered
-pub mod Asks
+pub mod LineOperations
 pub mod Costs
 pub mod Inbox
 pub mod Locks

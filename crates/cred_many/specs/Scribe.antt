@@ -9,12 +9,12 @@ use Rattle.cred_book.specs.{Accounts.Accounts, Works.Task, Works.same}
 use Rattle.cred_file.specs.Cells.{unmarked}
 use Rattle.cred_admin.specs.Marked.{MarkedBook}
 use Rattle.cred_cli.specs.Watched.{failed_of}
-use Rattle.cred_many.specs.{Asks.Entry, Service.IsLine, Service.Service, declared.ask.Ask.Ask, declared.fault.ServiceFault.ServiceFault}
+use Rattle.cred_many.specs.{LineOperations.Entry, Service.IsLine, Service.Service, declared.line_operation.LineOperation.LineOperation, declared.fault.ServiceFault.ServiceFault}
 use Rattle.cred_many.specs.Served.{AreFor, IsWritten, Moment, answers, book_after, done, change_from, changes, entry_numbers, most_together, name_asked, record_at, tries}
 use Rattle.cred_many.specs.Transcript.{TakesFront, TakesMore, Written, written_of}
 use Rattle.cred_many.specs.{declared.fault.ServiceFault.TheVariants.Write, declared.scribe.job.Message.Message, declared.scribe.job.Message.TheVariants.Hashed, declared.scribe.job.Message.TheVariants.NoMemory, declared.open.Open.Open, declared.open.Sight.Sight, declared.output.Output.Output}
 use Rattle.cred_many.specs.Served.{effect_of, told_at}
-use Rattle.cred_many.specs.declared.ask.Ask.TheVariants.{Quick, Forgive, Later}
+use Rattle.cred_many.specs.declared.line_operation.LineOperation.TheVariants.{Quick, Forgive, Later}
 use Rattle.cred_many.specs.declared.tries.Effect.{Effect}
 use Rattle.cred_many.specs.declared.tries.Effect.TheVariants as effect
 use Rattle.cred_tries.specs.{Answers.HasCounted, Answers.IsIdle, Answers.IsSettled, Histories.Event, Limits.IsFree, Limits.Limits, Limits.after_try, Limits.forgive_outcome, Limits.sending, Limits.seen}
@@ -69,12 +69,12 @@ pub record HasSeen (left : List Open) (place : ℕ) (name : List ℕ) (stored : 
   pub is_seen : is ≡ is_sight line.sight name stored
 
 -- the open line at this place has seen often enough that the record of what it asks about changed
-pub record IsBusy (left : List Open) (place : ℕ) (ask : Ask) : Type 0 where
+pub record IsBusy (left : List Open) (place : ℕ) (operation : LineOperation) : Type 0 where
   pub line : Open
   pub sight : Sight
   pub there : slice_get left place ≡ Some line
   pub seen : line.sight ≡ Some sight
-  pub name_is : sight.name ≡ name_asked ask
+  pub name_is : sight.name ≡ name_asked operation
   pub often : tries ≤ sight.changes
 
 abbrev pub numbers : List Open → List ℕ
@@ -159,21 +159,22 @@ is_clear None name = true
 is_clear (Some l) name = is_none (fin.get l.counts name)
 
 -- the answer to this line at this book is counted at this reading of the clock
-abbrev pub IsCountedAt : ℕ → Option Limits → Option Limits → MarkedBook → Ask → Type 0
+abbrev pub IsCountedAt : ℕ → Option Limits → Option Limits → MarkedBook → LineOperation → Type 0
 IsCountedAt now old new book (Later name seconds) = IsSentAway now old new name seconds
 IsCountedAt now old new book (Forgive name) =
     HasEffect now old new name (effect_of book (Forgive name))
-IsCountedAt now old new book ask = HasEffect now old new (name_asked ask) (effect_of book ask)
+IsCountedAt now old new book operation =
+    HasEffect now old new (name_asked operation) (effect_of book operation)
 
 -- the answer is counted at some reading of the clock
-abbrev pub IsCounted : Option Limits → Option Limits → MarkedBook → Ask → Type 0
-IsCounted old new book ask = (now : ℕ) × IsCountedAt now old new book ask
+abbrev pub IsCounted : Option Limits → Option Limits → MarkedBook → LineOperation → Type 0
+IsCounted old new book operation = (now : ℕ) × IsCountedAt now old new book operation
 
 -- the answers to these lines are counted at this reading, which changes nothing
 abbrev pub AreCounted : ℕ → Option Limits → MarkedBook → List Entry → Type 0
 AreCounted capacity limits book [] = Unit {0}
-AreCounted capacity limits book (e ∷ es) = IsCounted limits limits book e.ask
-    × AreCounted capacity limits (done capacity book e.ask).1 es
+AreCounted capacity limits book (e ∷ es) = IsCounted limits limits book e.operation
+    × AreCounted capacity limits (done capacity book e.operation).1 es
 
 abbrev pub passed_of : Option Limits → ℕ
 passed_of None = 0
@@ -186,12 +187,12 @@ KeepsCount (Some limit) (Some l) times told = HasCounted limit l times told
 KeepsCount _ _ times told = ⊥
 
 -- the answered line needs no hash, and tells of no try
-abbrev pub IsQuick : Ask → Type 0
-IsQuick (Quick ask) = Unit {0}
+abbrev pub IsQuick : LineOperation → Type 0
+IsQuick (Quick operation) = Unit {0}
 IsQuick _ = ⊥
 
 -- no try is sent away
-abbrev pub IsNotSentAway : Ask → Type 0
+abbrev pub IsNotSentAway : LineOperation → Type 0
 IsNotSentAway (Later name seconds) = ⊥
 IsNotSentAway _ = Unit {0}
 
@@ -218,7 +219,7 @@ pub record IsGroup (capacity : ℕ) (s : Service) (limits : Option Limits) (book
       → book.marks name ≡ unmarked
   pub text_is : text ≡ answers capacity book list
   pub counted : IfSome limits IsSettled → AreCounted capacity limits book list
-  pub judged : All (λ e. IsNotSentAway e.ask) list
+  pub judged : All (λ e. IsNotSentAway e.operation) list
 
 -- ---- the whole
 
@@ -272,16 +273,16 @@ AddsNone old new = (list : List Entry) (times : List ℕ) → old list times →
 
 -- Answered lines keep their moments, and the call answers at most one line more. This line has the
 -- property, and its answer this moment.
-abbrev pub AddsOne : (Ask → Type 0) → ℕ → (List Entry → List ℕ → Type 0)
+abbrev pub AddsOne : (LineOperation → Type 0) → ℕ → (List Entry → List ℕ → Type 0)
     → (List Entry → List ℕ → Type 0) → Type 0
 AddsOne IsSo t old new = (list : List Entry) (times : List ℕ) → old list times
     → ∥ new list times
-    ⊎ ((e : Entry) × IsSo e.ask × new (list ++ e ∷ []) (times ++ t ∷ [])) ∥₁
+    ⊎ ((e : Entry) × IsSo e.operation × new (list ++ e ∷ []) (times ++ t ∷ [])) ∥₁
 
 -- Answered lines keep their moments, and each further answered line has the property, and its
 -- answer this moment.
-abbrev pub AddsSome : (Ask → Type 0) → ℕ → (List Entry → List ℕ → Type 0)
+abbrev pub AddsSome : (LineOperation → Type 0) → ℕ → (List Entry → List ℕ → Type 0)
     → (List Entry → List ℕ → Type 0) → Type 0
 AddsSome IsSo t old new = (list : List Entry) (times : List ℕ) → old list times
-    → ∥ ((more : List Entry) × All (λ e. IsSo e.ask) more
+    → ∥ ((more : List Entry) × All (λ e. IsSo e.operation) more
     × new (list ++ more) (times ++ map (λ _. t) more)) ∥₁

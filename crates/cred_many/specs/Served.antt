@@ -6,23 +6,23 @@ use Rattle.cred_file.specs.{Cells.cell, Cells.is_blank, Cells.is_marked, Cells.m
 use Rattle.cred_book.specs.{Works.name_of, Works.new_record, Works.same, declared.request.Reply.Reply}
 use Rattle.cred_cli.specs.{History.Done, History.Refused, History.Shown, Script.lines_of, Texts.line_of, Texts.reply_line}
 use Rattle.cred_cli.specs.Watched.{failed_of}
-use Rattle.cred_admin.specs.{Commands.reset_step, Edits.disabling, Edits.edit_line, Edits.edit_status, Edits.edited, Edits.lacks_room, Listing.passwd_line}
+use Rattle.cred_admin.specs.{Commands.reset_step, AccountOperations.disabling, AccountOperations.account_reply_line, AccountOperations.account_reply_status, AccountOperations.operated, AccountOperations.lacks_room, Listing.passwd_line}
 use Rattle.cred_admin.specs.{Marked.MarkedBook, Marked.mark_in, Marked.tried, Marked.with_account, Marked.with_record, Statuses.verdict_line, declared.verdict.Verdict.Verdict, declared.verdict.Verdict.TheVariants.Told}
-use Rattle.cred_many.specs.{Asks.Entry, Asks.hashed_for, Asks.refused, Names.marked_page, Names.marks_line, Names.names_line, Names.page, Service.Service, Service.asked, declared.ask.Ask.Ask}
+use Rattle.cred_many.specs.{LineOperations.Entry, LineOperations.hashed_for, LineOperations.refused, Names.marked_page, Names.marks_line, Names.names_line, Names.page, Service.Service, Service.asked, declared.line_operation.LineOperation.LineOperation}
 use Rattle.cred_many.specs.Transcript.{TakesMore, Written, written_of}
 use Rattle.cred_many.specs.Tries.{effect_by, event_of, forgiving_effect, is_try, is_try_request, reset_effect}
 use Rattle.cred_many.specs.declared.tries.Effect.{Effect}
 use Rattle.cred_many.specs.declared.tries.Effect.TheVariants as effect
 use Rattle.cred_tries.specs.{Answers.KeepLimit, Answers.with_told, Histories.Event, Histories.Sent, Steps.is_name_of}
-use Rattle.cred_many.specs.declared.ask.Ask.TheVariants.{Quick, Whole, Login, Reset, Forgive, Later}
-use Rattle.cred_many.specs.declared.ask.QuickAsk.TheVariants.{Account, Load, Show, DisableShown, Bad, Edit as Change, List as Names, ListMarks}
+use Rattle.cred_many.specs.declared.line_operation.LineOperation.TheVariants.{Quick, Whole, Login, Reset, Forgive, Later}
+use Rattle.cred_many.specs.declared.line_operation.QuickOperation.TheVariants.{Account, Load, Show, DisableShown, Bad, OnAccount, List as Names, ListMarks}
 use Rattle.cred_many.specs.{declared.ending.Served.Served, declared.fault.ServiceFault.ServiceFault}
 use Rattle.std.specs.FinMap as fin
 use Rattle.cred_book.specs.declared.error.BookError.TheVariants as error
 use Rattle.cred_book.specs.declared.request.Reply.TheVariants as reply
 use Rattle.cred_book.specs.declared.request.Request.TheVariants as request
 use Rattle.cred_cli.specs.declared.refusal.Refusal.TheVariants as refusal
-use Rattle.cred_admin.specs.declared.edit_reply.EditReply.TheVariants as edit
+use Rattle.cred_admin.specs.declared.account_reply.AccountReply.TheVariants as reply
 use Rattle.cred_admin.specs.declared.status.Status.TheVariants as status
 use Rattle.cred_many.specs.declared.fault.ServiceFault.TheVariants as fault
 
@@ -36,7 +36,7 @@ login_reply reply.Upgraded = reply.Yes
 login_reply r = r
 
 -- the reply under which an operation on a record is answered
-abbrev pub told_reply : Ask → Reply → Reply
+abbrev pub told_reply : LineOperation → Reply → Reply
 told_reply (Login name pw setting) r = login_reply r
 told_reply _ r = r
 
@@ -45,14 +45,14 @@ login_verdict (Told r) = Told (login_reply r)
 login_verdict verdict = verdict
 
 -- the verdict under which such an operation is answered
-abbrev pub told_verdict : Ask → Verdict → Verdict
-told_verdict ask (Told r) = Told (told_reply ask r)
-told_verdict ask verdict = verdict
+abbrev pub told_verdict : LineOperation → Verdict → Verdict
+told_verdict operation (Told r) = Told (told_reply operation r)
+told_verdict operation verdict = verdict
 
 -- the line of an account whose record is removed, with its mark, or the answer that it has none
 abbrev pub disabled_line : List ℕ → Mark → Option (Option RecordValue) → List ℕ
-disabled_line name m None = edit_line edit.NoAccount
-disabled_line name m (Some None) = edit_line edit.Absent
+disabled_line name m None = account_reply_line reply.NoAccount
+disabled_line name m (Some None) = account_reply_line reply.Absent
 disabled_line name m (Some (Some stored)) = passwd_line m (name, Some stored)
 
 -- the marks of an account and then its record, as the book's row has them; a row without either is
@@ -66,14 +66,14 @@ shown_line m (Some (Some stored)) = mark_text m ++ record_text stored ++ 10 ∷ 
 -- the failed tries at an account are forgiven, if the book has it
 abbrev pub forgiven_line : Bool → List ℕ
 forgiven_line true = codes "forgiven\n"
-forgiven_line false = edit_line edit.NoAccount
+forgiven_line false = account_reply_line reply.NoAccount
 
 -- a try is too early by so many seconds
 abbrev pub later_line : ℕ → List ℕ
 later_line seconds = codes "later " ++ decimal seconds ++ 10 ∷ []
 
 -- the answer to the whole operation on the book, with its line end, and the book after it
-abbrev pub done : ℕ → MarkedBook → Ask → List ℕ × MarkedBook
+abbrev pub done : ℕ → MarkedBook → LineOperation → List ℕ × MarkedBook
 done capacity book (Quick (Account name)) =
     if fin.contains_key book.accounts name
     then (line_of (Refused (refusal.Book error.Exists)), book)
@@ -92,9 +92,9 @@ done capacity book (Quick (ListMarks from most)) = (
   marks_line book.marks (marked_page book.marks from most (fin.keys book.accounts)),
   book,
 )
-done capacity book (Quick (Change change)) =
+done capacity book (Quick (OnAccount operation)) =
     if lacks_room capacity book change then (line_of (Refused (refusal.Book error.Full)), book)
-    else (edit_line (edited book change).0, (edited book change).1)
+    else (account_reply_line (operated book change).0, (operated book change).1)
 done capacity book (Quick (DisableShown name)) =
     (disabled_line name (book.marks name) (fin.get book.accounts name), (disabling book name).1)
 done capacity book (Quick (Bad why)) = (line_of (Refused why), book)
@@ -112,18 +112,18 @@ done capacity book (Later name seconds) = (later_line seconds, book)
 
 -- the answer to a line at this book, as it is written: `TAG ANSWER`
 abbrev pub line_at : ℕ → MarkedBook → Entry → List ℕ
-line_at capacity book e = e.tag ++ 32 ∷ (done capacity book e.ask).0
+line_at capacity book e = e.tag ++ 32 ∷ (done capacity book e.operation).0
 
 -- the book after the lines
 unfoldable pub book_after : ℕ → MarkedBook → List Entry → MarkedBook
 book_after capacity book [] = book
-book_after capacity book (e ∷ es) = book_after capacity (done capacity book e.ask).1 es
+book_after capacity book (e ∷ es) = book_after capacity (done capacity book e.operation).1 es
 
 -- the answers to these lines
 unfoldable pub answers : ℕ → MarkedBook → List Entry → List ℕ
 answers capacity book [] = []
 answers capacity book (e ∷ es) =
-    line_at capacity book e ++ answers capacity (done capacity book e.ask).1 es
+    line_at capacity book e ++ answers capacity (done capacity book e.operation).1 es
 
 -- ---- how often a record changed
 
@@ -138,34 +138,34 @@ change_from old new = if same old new then 0 else 1
 unfoldable pub changes : ℕ → MarkedBook → List ℕ → List Entry → ℕ
 changes capacity book name [] = 0
 changes capacity book name (e ∷ es) =
-    change_from (record_at book name) (record_at (done capacity book e.ask).1 name)
-    + changes capacity (done capacity book e.ask).1 name es
+    change_from (record_at book name) (record_at (done capacity book e.operation).1 name)
+    + changes capacity (done capacity book e.operation).1 name es
 
 -- whose record is hashed for a line
-abbrev pub name_asked : Ask → List ℕ
-name_asked ask = unwrap_or (option_map name_of (hashed_for ask)) []
+abbrev pub name_asked : LineOperation → List ℕ
+name_asked operation = unwrap_or (option_map name_of (hashed_for operation)) []
 
 -- ---- what the answers tell of tries
 
 -- what the answer to this line at this book tells of the password of the account that it asks about
-abbrev pub effect_of : MarkedBook → Ask → Effect
+abbrev pub effect_of : MarkedBook → LineOperation → Effect
 effect_of book (Whole r) = effect_by (is_try_request r) (tried book r).0
 effect_of book (Login name pw setting) =
     effect_by true (tried book (request.Upgrade name pw setting)).0
 effect_of book (Reset name pw setting) =
     reset_effect (reset_step book name (new_record setting pw)).0
-effect_of book (Quick ask) = effect.Nothing
+effect_of book (Quick operation) = effect.Nothing
 effect_of book (Forgive name) = forgiving_effect (fin.contains_key book.accounts name)
 effect_of book (Later name seconds) = effect.Nothing
 
 -- what such an answer at this moment tells of the tries at a name
-abbrev pub told_by : MarkedBook → List ℕ → Ask → ℕ → Option Event
+abbrev pub told_by : MarkedBook → List ℕ → LineOperation → ℕ → Option Event
 told_by book name (Forgive other) t =
     if is_name_of name other then event_of (effect_of book (Forgive other)) t else None
 told_by book name (Later other seconds) t =
     if is_name_of name other then Some (Sent t seconds) else None
-told_by book name ask t =
-    if is_name_of name (name_asked ask) then event_of (effect_of book ask) t else None
+told_by book name operation t =
+    if is_name_of name (name_asked operation) then event_of (effect_of book operation) t else None
 
 -- what the answers to these lines at these moments tell, added to what was told before; the latest
 -- comes first
@@ -173,8 +173,8 @@ unfoldable pub told_on : ℕ → MarkedBook → List ℕ → List Entry → List
 told_on capacity book name [] times before = before
 told_on capacity book name (e ∷ es) [] before = before
 told_on capacity book name (e ∷ es) (t ∷ times) before =
-    told_on capacity (done capacity book e.ask).1 name es times
-    (with_told (told_by book name e.ask t) before)
+    told_on capacity (done capacity book e.operation).1 name es times
+    (with_told (told_by book name e.operation t) before)
 
 abbrev pub told_at : ℕ → MarkedBook → List Entry → List ℕ → List ℕ → List Event
 told_at capacity book list times name = told_on capacity book name list times []
@@ -183,15 +183,16 @@ told_at capacity book list times name = told_on capacity book name list times []
 
 -- The line needs memory at this book: for a hash, a list, the text of a record or a change. A line
 -- that would be refused anyway is never given up for want of memory.
-abbrev pub NeedsMemory : ℕ → MarkedBook → Ask → Type 0
+abbrev pub NeedsMemory : ℕ → MarkedBook → LineOperation → Type 0
 NeedsMemory capacity book (Quick (Account name)) =
     (fin.contains_key book.accounts name ≡ false) × (fin.len book.accounts < capacity)
 NeedsMemory capacity book (Quick (Load name stored)) =
     fin.contains_key book.accounts name ≡ true
 NeedsMemory capacity book (Quick (Show name)) =
     is_blank (cell (record_at book name) (mark_in book name)) ≡ false
-NeedsMemory capacity book (Quick (Change change)) =
-    (edit_status (edited book change).0 ≡ status.Done) × (lacks_room capacity book change ≡ false)
+NeedsMemory capacity book (Quick (OnAccount operation)) =
+    (account_reply_status (operated book change).0 ≡ status.Done)
+    × (lacks_room capacity book change ≡ false)
 NeedsMemory capacity book (Quick (DisableShown name)) = is_some (record_at book name) ≡ true
 NeedsMemory capacity book (Quick (Bad why)) = ⊥
 NeedsMemory capacity book (Forgive name) = ⊥
@@ -204,7 +205,7 @@ tries = 8
 
 -- A line that asks for this gets the second answer behind these lines: for want of memory, because
 -- these lines changed the record so often, or because its try is too early.
-abbrev pub IsGivenUp : ℕ → Service → List Entry → Ask → Ask → Type 0
+abbrev pub IsGivenUp : ℕ → Service → List Entry → LineOperation → LineOperation → Type 0
 IsGivenUp capacity s before line told =
     ((told ≡ refused (refusal.Book error.Memory))
     × NeedsMemory capacity (book_after capacity s.opening before) line)
@@ -222,7 +223,8 @@ pub record IsFor (capacity : ℕ) (s : Service) (bytes : List ℕ) (before : Lis
   pub line : Entry
   pub came : slice_get (asked s bytes) e.number ≡ Some line
   pub tag : e.tag ≡ line.tag
-  pub ask : (e.ask ≡ line.ask) ⊎ IsGivenUp capacity s before line.ask e.ask
+  pub operation : (e.operation ≡ line.operation)
+      ⊎ IsGivenUp capacity s before line.operation e.operation
 
 -- each entry is one of these, behind the entries before it
 abbrev pub AreFor : ℕ → Service → List ℕ → List Entry → Type 0

@@ -5,7 +5,7 @@ use Rattle.cred_phc.specs.{Values.SettingValue, Values.setting_of, declared.sett
 use Rattle.cred_admin.specs.Marked.{MarkedBook, marked_book}
 use Rattle.cred_file.specs.Cells.{unmarked}
 use Rattle.cred_cli.specs.{Costs.no_bounds, Script.line_ends, Script.lines_of, declared.costs.CostBounds.CostBounds}
-use Rattle.cred_many.specs.{Asks.Entry, Asks.entry, Asks.entry_of, Asks.refused, Transcript.Written, Transcript.nothing_written, declared.service.ServiceConfig.ServiceConfig}
+use Rattle.cred_many.specs.{LineOperations.Entry, LineOperations.entry, LineOperations.entry_of, LineOperations.refused, Transcript.Written, Transcript.nothing_written, declared.service.ServiceConfig.ServiceConfig}
 use Rattle.std.specs.FinMap as map
 use Rattle.cred_cli.specs.declared.refusal.Refusal.TheVariants as refusal
 

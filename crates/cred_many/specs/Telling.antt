@@ -1,28 +1,28 @@
 -- The accounts of which the answer to a line tells, and what counts of the line's passwords.
 use Rattle.std.specs.Prelude.{◌≡◌, ℕ, List, [], ◌∷◌, All, nat_lt, IfSome, length, true}
 use Rattle.cred_book.specs.{Passwords.KeepsTags, Passwords.made_setting, Works.name_of}
-use Rattle.cred_admin.specs.declared.edits.Edit.TheVariants.{Disable, Delete, Rename, Lock, Unlock, Expire}
+use Rattle.cred_admin.specs.declared.account_operation.AccountOperation.TheVariants.{Disable, Delete, Rename, Lock, Unlock, Expire}
 use Rattle.cred_admin.specs.Marked.{MarkedBook, keeps_password}
-use Rattle.cred_many.specs.{Asks.hashed_for, Served.name_asked, Served.record_at, declared.ask.Ask.Ask}
-use Rattle.cred_many.specs.declared.ask.Ask.TheVariants.{Quick, Whole, Login, Reset, Forgive, Later}
-use Rattle.cred_many.specs.declared.ask.QuickAsk.TheVariants.{Account, Load, Show, DisableShown, Bad, Edit as Change, List as Names, ListMarks}
+use Rattle.cred_many.specs.{LineOperations.hashed_for, Served.name_asked, Served.record_at, declared.line_operation.LineOperation.LineOperation}
+use Rattle.cred_many.specs.declared.line_operation.LineOperation.TheVariants.{Quick, Whole, Login, Reset, Forgive, Later}
+use Rattle.cred_many.specs.declared.line_operation.QuickOperation.TheVariants.{Account, Load, Show, DisableShown, Bad, OnAccount, List as Names, ListMarks}
 use Rattle.cred_book.specs.Passwords as book
 use Rattle.std.specs.FinMap as fin
 
 -- ---- accounts
 
 -- the accounts that a line names
-abbrev pub names_in : Ask → List (List ℕ)
+abbrev pub names_in : LineOperation → List (List ℕ)
 names_in (Quick (Account name)) = name ∷ []
 names_in (Quick (Load name stored)) = name ∷ []
 names_in (Quick (Show name)) = name ∷ []
 names_in (Quick (DisableShown name)) = name ∷ []
-names_in (Quick (Change (Disable name))) = name ∷ []
-names_in (Quick (Change (Delete name))) = name ∷ []
-names_in (Quick (Change (Rename name other))) = name ∷ other ∷ []
-names_in (Quick (Change (Lock name))) = name ∷ []
-names_in (Quick (Change (Unlock name))) = name ∷ []
-names_in (Quick (Change (Expire name))) = name ∷ []
+names_in (Quick (OnAccount (Disable name))) = name ∷ []
+names_in (Quick (OnAccount (Delete name))) = name ∷ []
+names_in (Quick (OnAccount (Rename name other))) = name ∷ other ∷ []
+names_in (Quick (OnAccount (Lock name))) = name ∷ []
+names_in (Quick (OnAccount (Unlock name))) = name ∷ []
+names_in (Quick (OnAccount (Expire name))) = name ∷ []
 names_in (Quick (Names from most)) = []
 names_in (Quick (ListMarks from most)) = []
 names_in (Quick (Bad why)) = []
@@ -44,9 +44,9 @@ HaveRoomAlike capacity one other =
 
 -- the books are alike in what else the answer tells: for a new name the room, for a list the names,
 -- and for a list of marks also their marks
-abbrev pub AreAlikeBeside : ℕ → Ask → MarkedBook → MarkedBook → Type 0
+abbrev pub AreAlikeBeside : ℕ → LineOperation → MarkedBook → MarkedBook → Type 0
 AreAlikeBeside capacity (Quick (Account name)) one other = HaveRoomAlike capacity one other
-AreAlikeBeside capacity (Quick (Change (Rename name new))) one other =
+AreAlikeBeside capacity (Quick (OnAccount (Rename name new))) one other =
     HaveRoomAlike capacity one other
 AreAlikeBeside capacity (Quick (Names from most)) one other =
     fin.keys one.accounts ≡ fin.keys other.accounts
@@ -56,16 +56,16 @@ AreAlikeBeside capacity (Quick (ListMarks from most)) one other =
 AreAlikeBeside capacity _ one other = Unit {0}
 
 -- the books are alike in all that the answer tells of
-abbrev pub AreAlikeFor : ℕ → Ask → MarkedBook → MarkedBook → Type 0
-AreAlikeFor capacity ask one other =
-    All (λ name. AreAlikeAt name one other) (names_in ask)
-    × AreAlikeBeside capacity ask one other
+abbrev pub AreAlikeFor : ℕ → LineOperation → MarkedBook → MarkedBook → Type 0
+AreAlikeFor capacity operation one other =
+    All (λ name. AreAlikeAt name one other) (names_in operation)
+    × AreAlikeBeside capacity operation one other
 
 -- ---- passwords
 
 -- the line with another password in the place of each
-abbrev pub with_passwords : (List ℕ → List ℕ) → Ask → Ask
-with_passwords other (Quick ask) = Quick ask
+abbrev pub with_passwords : (List ℕ → List ℕ) → LineOperation → LineOperation
+with_passwords other (Quick operation) = Quick operation
 with_passwords other (Whole r) = Whole (book.with_passwords other r)
 with_passwords other (Login name pw setting) = Login name (other pw) setting
 with_passwords other (Reset name pw setting) = Reset name (other pw) setting
@@ -73,16 +73,17 @@ with_passwords other (Forgive name) = Forgive name
 with_passwords other (Later name seconds) = Later name seconds
 
 -- a change to the same password stays one, and another stays another
-abbrev pub KeepsSame : (List ℕ → List ℕ) → Ask → Type 0
-KeepsSame other ask = IfSome (hashed_for ask)
+abbrev pub KeepsSame : (List ℕ → List ℕ) → LineOperation → Type 0
+KeepsSame other operation = IfSome (hashed_for operation)
     (λ r. keeps_password (book.with_passwords other r) ≡ keeps_password r)
 
 -- Each replacing password has the tag of the password that it replaces, under the setting of the
 -- account's record and under that of the record that the line may make. If the password must be
 -- changed, it also counts whether the new one is the old one.
-abbrev pub KeepsTagsFor : (List ℕ → List ℕ) → MarkedBook → Ask → Type 0
-KeepsTagsFor other marked ask =
-    IfSome (record_at marked (name_asked ask))
+abbrev pub KeepsTagsFor : (List ℕ → List ℕ) → MarkedBook → LineOperation → Type 0
+KeepsTagsFor other marked operation =
+    IfSome (record_at marked (name_asked operation))
     (λ stored. KeepsTags other stored.setting (length stored.tag))
-    × IfSome (hashed_for ask) (λ r. IfSome (made_setting r) (λ setting. KeepsTags other setting 32))
-    × ((marked.marks (name_asked ask)).must_change ≡ true → KeepsSame other ask)
+    × IfSome (hashed_for operation)
+    (λ r. IfSome (made_setting r) (λ setting. KeepsTags other setting 32))
+    × ((marked.marks (name_asked operation)).must_change ≡ true → KeepsSame other operation)

@@ -6,8 +6,8 @@ use Rattle.cred_book.specs.declared.request.Reply.TheVariants as reply
 use Rattle.cred_admin.specs.declared.verdict.Verdict.{Verdict}
 use Rattle.cred_admin.specs.declared.verdict.Verdict.TheVariants.{Told, Expired, Same}
 use Rattle.cred_tries.specs.Histories.{Event, Right, Wrong, Forgiven}
-use Rattle.cred_many.specs.{declared.ask.Ask.Ask, declared.tries.Effect.Effect}
-use Rattle.cred_many.specs.declared.ask.Ask.TheVariants.{Whole, Login}
+use Rattle.cred_many.specs.{declared.line_operation.LineOperation.LineOperation, declared.tries.Effect.Effect}
+use Rattle.cred_many.specs.declared.line_operation.LineOperation.TheVariants.{Whole, Login}
 use Rattle.cred_many.specs.declared.tries.Effect.TheVariants as effect
 
 -- ---- which lines are tries
@@ -17,7 +17,7 @@ is_try_request (Enrol name pw setting) = false
 is_try_request _ = true
 
 -- a password is tried
-abbrev pub is_try : Ask → Bool
+abbrev pub is_try : LineOperation → Bool
 is_try (Whole r) = is_try_request r
 is_try (Login name pw setting) = true
 is_try _ = false

@@ -3,7 +3,7 @@ use Rattle.std.specs.List.{Contains, sum_by}
 use Rattle.std.specs.Prelude.{◌≡◌, ◌≢◌, ◌⊎◌, ℕ, suc, ◌+◌, ◌-◌, ◌≤◌, ◌==◌, ◌||◌, List, [], ◌∷◌, ◌++◌, All, Bool, true, false, if◌then◌else◌, Option, Some, None}
 use Rattle.cred_book.specs.{Works.Task, Works.name_of, Works.same}
 use Rattle.cred_admin.specs.Marked.{MarkedBook}
-use Rattle.cred_many.specs.{Asks.Entry, Scribe.unseen, Served.record_at, Served.tries, declared.open.Open.Open, declared.open.Sight.Sight, declared.scribe.job.Message.Message, declared.scribe.job.Message.TheVariants.Hashed, declared.scribe.job.Message.TheVariants.NoMemory}
+use Rattle.cred_many.specs.{LineOperations.Entry, Scribe.unseen, Served.record_at, Served.tries, declared.open.Open.Open, declared.open.Sight.Sight, declared.scribe.job.Message.Message, declared.scribe.job.Message.TheVariants.Hashed, declared.scribe.job.Message.TheVariants.NoMemory}
 
 -- ---- the turns of a line
 

@@ -1,15 +1,17 @@
 //! Operations without hashing, each done in one call.
 
 ghost use Rattle.std.specs.Prelude.{◌≡◌, ◌++◌, ◌∷◌, IfOk, is_some, OnErr, OnOk, [], false, true};
-ghost use Rattle.cred_admin.specs.{Edits.disabling, Marked.mark_in};
+ghost use Rattle.cred_admin.specs.{AccountOperations.disabling, Marked.mark_in};
 ghost use Rattle.cred_cli.specs.Answers.{line_bytes};
-ghost use Rattle.cred_many.specs.{Served.NeedsMemory, Served.disabled_line, Served.done, Served.record_at, Served.shown_line, declared.ask.Ask.TheVariants.Quick};
+ghost use Rattle.cred_many.specs.{Served.NeedsMemory, Served.disabled_line, Served.done, Served.record_at, Served.shown_line, declared.line_operation.LineOperation.TheVariants.Quick};
 ghost use Rattle.cred_file.specs.Cells.{cell, is_blank, mark_text};
 ghost use Rattle.std.specs.FinMap as map;
 
-use crate::ask::QuickAsk;
+use crate::line_operation::QuickOperation;
 use crate::listing::{marks_line, names_line, push_mark_text};
-use cred_admin::{Detail, Edit, EditReply, Host, LineForm, edit_line, line_of};
+use cred_admin::{
+    AccountOperation, AccountReply, Detail, Host, LineForm, account_reply_line, line_of,
+};
 use cred_book::{BookError, Name};
 use cred_cli::{AnswerLine, Refusal};
 use cred_file::Mark;
@@ -17,45 +19,45 @@ use cred_phc::write_record;
 use std::alloc::{AllocError, Global};
 
 /// Does an operation that needs no hash. If memory runs out, the book stays as it was.
-pub(crate) fn do_ask<K: Host>(
+pub(crate) fn do_operation<K: Host>(
     alloc: Global,
     keeper: &mut K,
-    ask: QuickAsk,
+    operation: QuickOperation,
 ) -> Result<AnswerLine, AllocError>
     ensures answer { IfOk result
-        (λ line. line_bytes line ≡ (done K.capacity (K.book keeper.old) (Quick ask)).0) }
+        (λ line. line_bytes line ≡ (done K.capacity (K.book keeper.old) (Quick operation)).0) }
     ensures book { OnOk result
-        (K.book keeper.new ≡ (done K.capacity (K.book keeper.old) (Quick ask)).1) }
+        (K.book keeper.new ≡ (done K.capacity (K.book keeper.old) (Quick operation)).1) }
     ensures refused { OnErr result (K.book keeper.new ≡ K.book keeper.old) }
-    ensures needs { OnErr result (NeedsMemory K.capacity (K.book keeper.old) (Quick ask)) }
+    ensures needs { OnErr result (NeedsMemory K.capacity (K.book keeper.old) (Quick operation)) }
 {
-    match ask {
-        QuickAsk::Account(name) => match keeper.admit(name) {
+    match operation {
+        QuickOperation::Account(name) => match keeper.admit(name) {
             Ok(()) => Ok(AnswerLine::Fixed(b"ok\n")),
             Err(BookError::Memory) => Err(AllocError),
             Err(refusal) => Ok(AnswerLine::bad(Refusal::Book(refusal))),
         },
-        QuickAsk::Load(name, stored) => match keeper.load(&name, stored) {
+        QuickOperation::Load(name, stored) => match keeper.load(&name, stored) {
             Ok(()) => Ok(AnswerLine::Fixed(b"ok\n")),
             Err(BookError::Memory) => Err(AllocError),
             Err(refusal) => Ok(AnswerLine::bad(Refusal::Book(refusal))),
         },
-        QuickAsk::Show(name) => show(alloc, keeper, &name),
-        QuickAsk::List(from, most) => {
+        QuickOperation::Show(name) => show(alloc, keeper, &name),
+        QuickOperation::List(from, most) => {
             let line = names_line(alloc, keeper.accounts(), &from, most)?;
             Ok(AnswerLine::Made(line))
         }
-        QuickAsk::ListMarks(from, most) => {
+        QuickOperation::ListMarks(from, most) => {
             let line = marks_line(alloc, keeper, &from, most)?;
             Ok(AnswerLine::Made(line))
         }
-        QuickAsk::Edit(edit) => match keeper.edit(&edit) {
-            Ok(reply) => Ok(AnswerLine::Fixed(edit_line(reply))),
+        QuickOperation::OnAccount(operation) => match keeper.operate(&operation) {
+            Ok(reply) => Ok(AnswerLine::Fixed(account_reply_line(reply))),
             Err(BookError::Memory) => Err(AllocError),
             Err(refusal) => Ok(AnswerLine::bad(Refusal::Book(refusal))),
         },
-        QuickAsk::DisableShown(name) => disable_with_line(alloc, keeper, name),
-        QuickAsk::Bad(why) => Ok(AnswerLine::bad(why)),
+        QuickOperation::DisableShown(name) => disable_with_line(alloc, keeper, name),
+        QuickOperation::Bad(why) => Ok(AnswerLine::bad(why)),
     }
 }
 
@@ -108,8 +110,8 @@ fn disable_with_line<K: Host>(
 {
     let stored = match keeper.accounts().show(&name) {
         Ok(Some(stored)) => stored,
-        Ok(None) => return Ok(AnswerLine::Fixed(edit_line(EditReply::Absent))),
-        Err(_) => return Ok(AnswerLine::Fixed(edit_line(EditReply::NoAccount))),
+        Ok(None) => return Ok(AnswerLine::Fixed(account_reply_line(AccountReply::Absent))),
+        Err(_) => return Ok(AnswerLine::Fixed(account_reply_line(AccountReply::NoAccount))),
     };
     let mark = keeper.mark_of(&name);
     let line = line_of(
@@ -119,7 +121,7 @@ fn disable_with_line<K: Host>(
         mark,
         Some(stored),
     )?;
-    match keeper.edit(&Edit::Disable(name)) {
+    match keeper.operate(&AccountOperation::Disable(name)) {
         Ok(_) => Ok(AnswerLine::Made(line)),
         Err(_) => Err(AllocError),
     }

@@ -4,9 +4,9 @@ ghost use Rattle.std.specs.Prelude.{◌≡◌, ◌≢◌, ◌∷◌, ◌≤◌, 
 ghost use Rattle.std.specs.FinMap as map;
 ghost use Rattle.cred_file.specs.declared.marks.Mark.{Mark};
 ghost use Rattle.cred_admin.specs.Marked.{MarkedBook, with_mark};
-ghost use Rattle.cred_admin.specs.declared.edits.Edit.TheVariants.{Lock};
-ghost use Rattle.cred_many.specs.{Asks.Entry, Locks.EndsLock, Locks.IsApart, Locks.IsLocked, Locks.IsNo, Locks.IsTryAt, Locks.PutsRecord, Served.answers, Served.book_after, Served.record_at, declared.ask.Ask.TheVariants.Quick, declared.ask.QuickAsk.TheVariants.Edit as Change};
-ghost use Rattle.cred_many.specs.{Served.done, Telling.AreAlikeAt, Telling.AreAlikeFor, Telling.KeepsTagsFor, Telling.names_in, Telling.with_passwords, declared.ask.Ask.Ask, declared.open.Open.Open};
+ghost use Rattle.cred_admin.specs.declared.account_operation.AccountOperation.TheVariants.{Lock};
+ghost use Rattle.cred_many.specs.{LineOperations.Entry, Locks.EndsLock, Locks.IsApart, Locks.IsLocked, Locks.IsNo, Locks.IsTryAt, Locks.PutsRecord, Served.answers, Served.book_after, Served.record_at, declared.line_operation.LineOperation.TheVariants.Quick, declared.line_operation.QuickOperation.TheVariants.OnAccount};
+ghost use Rattle.cred_many.specs.{Served.done, Telling.AreAlikeAt, Telling.AreAlikeFor, Telling.KeepsTagsFor, Telling.names_in, Telling.with_passwords, declared.line_operation.LineOperation.LineOperation, declared.open.Open.Open};
 ghost use Rattle.cred_many.specs.{Answered.AreCalls, Answered.KeepsLimit, Answered.StandsBehind, Answered.State, Answered.answered_in, Service.Service};
 ghost use Rattle.cred_many.specs.{Scribe.IsPending, Scribe.numbers, Turns.Call, Turns.Follow, Turns.OpenOthers, Turns.open_after, Turns.works_of};
 
@@ -14,12 +14,12 @@ ghost use Rattle.cred_many.specs.{Scribe.IsPending, Scribe.numbers, Turns.Call, 
 /// account as it is, with its mark. The answer about a new name also tells whether there is room. A
 /// list tells only the names, and a list of marks also tells the marks.
 pub fn an_answer_tells_of_its_accounts()
-    ensures tells { (capacity : ℕ) (one other : MarkedBook) (ask : Ask)
-        → AreAlikeFor capacity ask one other
-        → (done capacity one ask).0 ≡ (done capacity other ask).0 }
-    ensures keeps { (capacity : ℕ) (book : MarkedBook) (ask : Ask) (name : List ℕ)
-        → All (λ named. name ≢ named) (names_in ask)
-        → AreAlikeAt name (done capacity book ask).1 book }
+    ensures tells { (capacity : ℕ) (one other : MarkedBook) (operation : LineOperation)
+        → AreAlikeFor capacity operation one other
+        → (done capacity one operation).0 ≡ (done capacity other operation).0 }
+    ensures keeps { (capacity : ℕ) (book : MarkedBook) (operation : LineOperation) (name : List ℕ)
+        → All (λ named. name ≢ named) (names_in operation)
+        → AreAlikeAt name (done capacity book operation).1 book }
 {}
 
 /// A password counts by its tags alone. If another password has the same tag under the setting of
@@ -27,9 +27,9 @@ pub fn an_answer_tells_of_its_accounts()
 /// same answer and leave the same book. If the password must be changed, it also counts whether the
 /// new one is the old one.
 pub fn a_password_counts_by_its_tags()
-    ensures { (other : List ℕ → List ℕ) (capacity : ℕ) (book : MarkedBook) (ask : Ask)
-        → KeepsTagsFor other book ask
-        → done capacity book (with_passwords other ask) ≡ done capacity book ask }
+    ensures { (other : List ℕ → List ℕ) (capacity : ℕ) (book : MarkedBook)
+        (operation : LineOperation) → KeepsTagsFor other book operation
+        → done capacity book (with_passwords other operation) ≡ done capacity book operation }
 {}
 
 /// A lock holds until a line unlocks, deletes or renames the account, whatever other lines come.
@@ -38,26 +38,26 @@ pub fn a_password_counts_by_its_tags()
 pub fn a_lock_holds()
     ensures locks { (capacity : ℕ) (book : MarkedBook) (name : List ℕ)
         → map.contains_key book.accounts name ≡ true
-        → IsLocked (done capacity book (Quick (Change (Lock name)))).1 name }
+        → IsLocked (done capacity book (Quick (OnAccount (Lock name)))).1 name }
     ensures stays { (capacity : ℕ) (book : MarkedBook) (name : List ℕ) (lines : List Entry)
-        → IsLocked book name → All (λ e. EndsLock name e.ask → ⊥) lines
+        → IsLocked book name → All (λ e. EndsLock name e.operation → ⊥) lines
         → IsLocked (book_after capacity book lines) name }
-    ensures refuses { (capacity : ℕ) (book : MarkedBook) (name : List ℕ) (ask : Ask)
-        → IsLocked book name → IsTryAt name ask
-        → IsNo (done capacity book ask).0 × ((done capacity book ask).1 ≡ book) }
-    ensures keeps { (capacity : ℕ) (book : MarkedBook) (name : List ℕ) (ask : Ask)
-        → IsLocked book name → (EndsLock name ask → ⊥) → (PutsRecord name ask → ⊥)
-        → record_at (done capacity book ask).1 name ≡ record_at book name }
+    ensures refuses { (capacity : ℕ) (book : MarkedBook) (name : List ℕ) (operation : LineOperation)
+        → IsLocked book name → IsTryAt name operation
+        → IsNo (done capacity book operation).0 × ((done capacity book operation).1 ≡ book) }
+    ensures keeps { (capacity : ℕ) (book : MarkedBook) (name : List ℕ) (operation : LineOperation)
+        → IsLocked book name → (EndsLock name operation → ⊥) → (PutsRecord name operation → ⊥)
+        → record_at (done capacity book operation).1 name ≡ record_at book name }
 {}
 
 /// A mark concerns its account alone: lines that don't name the account and list no marks get the
 /// same answers as without the mark, and leave the same book, but for the mark.
 pub fn a_mark_concerns_its_account_alone()
     ensures answers { (capacity : ℕ) (book : MarkedBook) (name : List ℕ) (mark : Mark)
-        (lines : List Entry) → All (λ e. IsApart name e.ask) lines
+        (lines : List Entry) → All (λ e. IsApart name e.operation) lines
         → answers capacity (with_mark book name mark) lines ≡ answers capacity book lines }
     ensures book { (capacity : ℕ) (book : MarkedBook) (name : List ℕ) (mark : Mark)
-        (lines : List Entry) → All (λ e. IsApart name e.ask) lines
+        (lines : List Entry) → All (λ e. IsApart name e.operation) lines
         → book_after capacity (with_mark book name mark) lines
         ≡ with_mark (book_after capacity book lines) name mark }
 {}

@@ -5,7 +5,6 @@
 #![tactic(auto)]
 
 mod answer;
-mod ask;
 mod budget;
 mod costs;
 mod ending;
@@ -15,6 +14,7 @@ mod hashing;
 mod inbox;
 mod laws;
 mod line;
+mod line_operation;
 mod listing;
 mod message_loop;
 mod open;

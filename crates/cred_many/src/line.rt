@@ -4,12 +4,12 @@ ghost use Rattle.std.specs.Prelude.{◌≡◌, [], ◌∷◌, ◌+◌, ◌^◌, 
 ghost use Rattle.std.specs.List.{list_all};
 ghost use Rattle.cred_phc.specs.Ranges.{is_current};
 ghost use Rattle.cred_cli.specs.Script.{line_ends, lines_of};
-ghost use Rattle.cred_many.specs.Asks.{IsSound, entry_of, is_tag_byte, tag_of, tagged, tagged_of, untagged};
+ghost use Rattle.cred_many.specs.LineOperations.{IsSound, entry_of, is_tag_byte, tag_of, tagged, tagged_of, untagged};
 ghost use Rattle.cred_many.specs.Reading.{MovesOver, IsWholeLine, NothingIsLeft, ComesNext, how_many, place};
 ghost use Rattle.cred_many.specs.Service.{IsLine, cut_line, salts_after};
 
-use crate::ask::{Ask, ask_of};
 use crate::costs::Costs;
+use crate::line_operation::{LineOperation, operation_of};
 use crate::service::ServiceConfig;
 use crate::service_id::ServiceId;
 use cred_cli::{CostBounds, LineStart, Refusal, first_pieces, is_too_long};
@@ -27,22 +27,22 @@ type Tag = ShortBytes<LONGEST_TAG>;
 pub struct Line<J: ServiceId> {
     number: u64,
     tag: Tag,
-    ask: Ask,
+    operation: LineOperation,
     of: PhantomData<J>,
 }
 
 impl<J: ServiceId> Model for Line<J> {
     ghost use Rattle.std.specs.Prelude.{IfSome};
-    ghost use Rattle.cred_many.specs.{Asks.Entry, Asks.IsSound, Asks.entry, Service.IsLine};
+    ghost use Rattle.cred_many.specs.{LineOperations.Entry, LineOperations.IsSound, LineOperations.entry, Service.IsLine};
 
     ghost Value = { Entry };
 
-    ghost view = { λ l. entry l.number l.tag l.ask };
+    ghost view = { λ l. entry l.number l.tag l.operation };
 
     ghost invariant = { λ l. record {
-      sound : IsSound l.ask;
+      sound : IsSound l.operation;
       came : IfSome J.service.input
-          (λ bytes. IsLine J.service bytes (entry l.number l.tag l.ask));
+          (λ bytes. IsLine J.service bytes (entry l.number l.tag l.operation));
     } };
 }
 
@@ -55,11 +55,11 @@ impl<J: ServiceId> Line<J> {
             (λ bytes. IsLine J.service bytes (entry_of number most.now drawn line.now)) }
         ensures { result ≡ entry_of number most.now drawn line.now }
     {
-        let (tag, ask) = parts(drawn, line);
+        let (tag, operation) = parts(drawn, line);
         Line {
             number,
             tag,
-            ask: ask.within(most),
+            operation: operation.within(most),
             of: PhantomData,
         }
     }
@@ -70,11 +70,11 @@ impl<J: ServiceId> Line<J> {
         requires { IfSome J.service.input (λ bytes. IsLine J.service bytes (cut_line number)) }
         ensures { result ≡ cut_line number }
     {
-        let (tag, ask) = untagged(Refusal::Line);
+        let (tag, operation) = untagged(Refusal::Line);
         Line {
             number,
             tag,
-            ask,
+            operation,
             of: PhantomData,
         }
     }
@@ -96,17 +96,17 @@ impl<J: ServiceId> Line<J> {
     }
 
     /// Returns the operation.
-    pub(crate) fn ask(&self) -> Ask
-        ensures ask { result ≡ self.now.ask }
+    pub(crate) fn operation(&self) -> LineOperation
+        ensures operation { result ≡ self.now.operation }
         ensures sound { IsSound result }
         ensures came { IfSome J.service.input (λ bytes. IsLine J.service bytes self.now) }
     {
-        self.ask
+        self.operation
     }
 }
 
 /// Reads the tag of a line and its operation. The answer to a line without a tag has a star.
-fn parts(drawn: Setting, line: &[u8]) -> (Tag, Ask)
+fn parts(drawn: Setting, line: &[u8]) -> (Tag, LineOperation)
     requires { is_current drawn.scheme ≡ true }
     ensures tagged { result ≡ tagged_of drawn line.now }
     ensures sound { IsSound result.1 }
@@ -117,7 +117,7 @@ fn parts(drawn: Setting, line: &[u8]) -> (Tag, Ask)
     tagged(drawn, &first_pieces(line))
 }
 
-fn tagged(drawn: Setting, pieces: &[&[u8]]) -> (Tag, Ask)
+fn tagged(drawn: Setting, pieces: &[&[u8]]) -> (Tag, LineOperation)
     requires { is_current drawn.scheme ≡ true }
     ensures tagged { result ≡ tagged drawn (map (λ s. s.now) pieces.now) }
     ensures sound { IsSound result.1 }
@@ -126,20 +126,20 @@ fn tagged(drawn: Setting, pieces: &[&[u8]]) -> (Tag, Ask)
         return untagged(Refusal::Line);
     };
     match tag_of(first) {
-        Some(tag) => match ask_of(drawn, words) {
-            Ok(ask) => (tag, ask),
-            Err(why) => (tag, Ask::refused(why)),
+        Some(tag) => match operation_of(drawn, words) {
+            Ok(operation) => (tag, operation),
+            Err(why) => (tag, LineOperation::refused(why)),
         },
         None => untagged(Refusal::Line),
     }
 }
 
 /// Refuses a line without a tag: its answer has a star.
-fn untagged(why: Refusal) -> (Tag, Ask)
+fn untagged(why: Refusal) -> (Tag, LineOperation)
     ensures { result ≡ untagged why }
 {
     match ShortBytes::new(b"*", 1) {
-        Some(star) => (star, Ask::refused(why)),
+        Some(star) => (star, LineOperation::refused(why)),
         None => unreachable!(),
     }
 }

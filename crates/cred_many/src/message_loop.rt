@@ -117,7 +117,7 @@ impl<J: ServiceId> MessageLoop<J> {
         ensures same_came { scribe.new.came ≡ scribe.old.came }
     {
         let is_behind = match message {
-            Message::Came(line) => line.ask().needs_no_hash(),
+            Message::Came(line) => line.operation().needs_no_hash(),
             Message::Hashed(hashed) => self.has_change_of(&hashed.worked().request().name()),
             Message::NoMemory(_) => true,
             Message::Ended => false,

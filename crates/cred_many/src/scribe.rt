@@ -4,7 +4,7 @@ ghost use Rattle.std.specs.{FinMap.contains_key, List.remove};
 ghost use Rattle.std.specs.Prelude.{◌≡◌, ◌↔◌, ℕ, ◌+◌, ◌++◌, [], ◌∷◌, Bool, false, IfSome, IsTrue, is_some, length, None, option_map, Some, true, unwrap_or};
 ghost use Rattle.cred_cli.specs.Script.{lines_of};
 ghost use Rattle.cred_book.specs.Works.{is_for_current, name_of};
-ghost use Rattle.cred_many.specs.{Asks.hashed_for, Asks.is_reset, Scribe.History, Scribe.IsAnswered, Scribe.IsLooked, Scribe.IsReady, Scribe.moment, Scribe.numbers, Scribe.passed_of, Scribe.unseen, declared.ask.Ask.TheVariants.Forgive, declared.ask.Ask.TheVariants.Quick};
+ghost use Rattle.cred_many.specs.{LineOperations.hashed_for, LineOperations.is_reset, Scribe.History, Scribe.IsAnswered, Scribe.IsLooked, Scribe.IsReady, Scribe.moment, Scribe.numbers, Scribe.passed_of, Scribe.unseen, declared.line_operation.LineOperation.TheVariants.Forgive, declared.line_operation.LineOperation.TheVariants.Quick};
 ghost use Rattle.cred_tries.specs.Answers.{IsReadBy};
 ghost use Rattle.cred_many.specs.{Served.HasCause, Served.Stands, Served.StandsAtEnd, Served.left_of, Served.record_at, Transcript.written_of, Turns.KeepsTurns};
 
@@ -14,17 +14,17 @@ mod job;
 mod reading;
 mod refusals;
 
-use crate::answer::do_ask;
-use crate::ask::{Ask, QuickAsk};
+use crate::answer::do_operation;
 use crate::ending::{End, MOST_LINES, Served};
 use crate::fault::ServiceFault;
 use crate::line::Line;
+use crate::line_operation::{LineOperation, QuickOperation};
 use crate::open::OpenLines;
 use crate::output::Output;
 use crate::service_id::ServiceId;
 use crate::source::Source;
 use crate::tries::Tries;
-use cred_admin::{EditReply, Host, edit_line};
+use cred_admin::{AccountReply, Host, account_reply_line};
 use cred_book::{Name, Request, Ticket};
 use cred_cli::Watched;
 use cred_tries::TryLimit;
@@ -216,28 +216,28 @@ impl<J: ServiceId, K: Host, W: Write> Scribe<J, K, W> {
             return None;
         }
         let place = self.admit(&line)?;
-        if let Some(seconds) = self.tries.send_away(&line.ask(), now) {
+        if let Some(seconds) = self.tries.send_away(&line.operation(), now) {
             self.output.answer_later(place, &line, seconds);
             return None;
         }
-        match line.ask() {
-            Ask::Whole(request) => self.job(place, line, request),
-            Ask::Login(name, pw, setting) => {
+        match line.operation() {
+            LineOperation::Whole(request) => self.job(place, line, request),
+            LineOperation::Login(name, pw, setting) => {
                 self.job(place, line, Request::Upgrade { name, pw, setting })
             }
-            Ask::Reset(name, pw, setting) => {
+            LineOperation::Reset(name, pw, setting) => {
                 let ticket = Ticket::new(Request::Enrol { name, pw, setting }, None);
                 Some(Job::new(line, ticket))
             }
-            Ask::Quick(ask) => {
-                self.answer_at_once(alloc, place, line, ask);
+            LineOperation::Quick(operation) => {
+                self.answer_at_once(alloc, place, line, operation);
                 None
             }
-            Ask::Forgive(name) => {
+            LineOperation::Forgive(name) => {
                 self.forgive(place, &line, &name);
                 None
             }
-            Ask::Later(..) => unreachable!(),
+            LineOperation::Later(..) => unreachable!(),
         }
     }
 
@@ -278,8 +278,8 @@ impl<J: ServiceId, K: Host, W: Write> Scribe<J, K, W> {
     fn job(&mut self, place: usize, line: Line<J>, request: Request) -> Option<Job<J>>
         requires ready { IsReady self.old.output.fault self.old.output.pending place line.number }
         requires current { is_for_current request ≡ true }
-        requires asked { hashed_for line.ask ≡ Some request }
-        requires kept { is_reset line.ask ≡ false }
+        requires asked { hashed_for line.operation ≡ Some request }
+        requires kept { is_reset line.operation ≡ false }
         ensures closed { result ≡ None
             → self.new.output.pending ≡ remove self.old.output.pending place }
         ensures looked { IfSome result (λ _. IsLooked self.old.output.pending place
@@ -303,16 +303,22 @@ impl<J: ServiceId, K: Host, W: Write> Scribe<J, K, W> {
     }
 
     /// Does an operation that needs no hash.
-    fn answer_at_once(&mut self, alloc: Global, place: usize, line: Line<J>, ask: QuickAsk)
+    fn answer_at_once(
+        &mut self,
+        alloc: Global,
+        place: usize,
+        line: Line<J>,
+        operation: QuickOperation,
+    )
         requires ready { IsReady self.old.output.fault self.old.output.pending place line.number }
-        requires asked { Quick ask ≡ line.ask }
+        requires asked { Quick operation ≡ line.operation }
         ensures closed { self.new.output.fault ≡ None
             → self.new.output.pending ≡ remove self.old.output.pending place }
         ensures same_came { self.new.came ≡ self.old.came }
         ensures same_tries { self.new.tries ≡ self.old.tries }
         ensures adds { AddsQuick self.old self.new }
     {
-        match do_ask(alloc, &mut self.keeper, ask) {
+        match do_operation(alloc, &mut self.keeper, operation) {
             Ok(text) => self.output.answer(place, &line, text.bytes()),
             Err(_) => self.refuse(place, line),
         }
@@ -322,7 +328,7 @@ impl<J: ServiceId, K: Host, W: Write> Scribe<J, K, W> {
     fn forgive(&mut self, place: usize, line: &Line<J>, name: &Name)
         requires ready { IsReady self.old.output.fault self.old.output.pending place
             line.now.number }
-        requires asked { Forgive name.now ≡ line.now.ask }
+        requires asked { Forgive name.now ≡ line.now.operation }
         ensures closed { self.new.output.pending ≡ remove self.old.output.pending place }
         ensures same_came { self.new.came ≡ self.old.came }
         ensures clock { (now : ℕ) → IsReadBy now self.old.tries self.new.tries }
@@ -333,7 +339,7 @@ impl<J: ServiceId, K: Host, W: Write> Scribe<J, K, W> {
             self.output.answer(place, line, b"forgiven\n");
             return;
         }
-        let answer = edit_line(EditReply::NoAccount);
+        let answer = account_reply_line(AccountReply::NoAccount);
         self.output.answer(place, line, answer);
     }
 

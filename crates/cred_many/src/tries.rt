@@ -5,7 +5,7 @@ ghost use Rattle.cred_many.specs.Scribe.{HasEffect, HasPlace, IsOpenTo, IsSentAw
 ghost use Rattle.cred_many.specs.{Served.name_asked, Tries.is_try, Tries.reset_effect};
 ghost use Rattle.cred_tries.specs.{Answers.IsReadBy, Limits.IsLimit, Limits.new_limits};
 
-use crate::ask::Ask;
+use crate::line_operation::LineOperation;
 use cred_book::{Name, Reply};
 use cred_tries::{Limiter, TryLimit};
 use std::alloc::{AllocError, Global};
@@ -62,15 +62,15 @@ impl Tries {
 
     /// Returns by how many seconds a line tries a password too early, at a reading of the clock in
     /// seconds. If the line isn't too early, its password may be judged at this reading.
-    pub(crate) fn send_away(&mut self, ask: &Ask, now: u64) -> Option<u64>
-        ensures sent { IfSome result (λ seconds. (is_try ask.now ≡ true)
-            × IsSentAway now self.old self.new (name_asked ask.now) seconds) }
+    pub(crate) fn send_away(&mut self, operation: &LineOperation, now: u64) -> Option<u64>
+        ensures sent { IfSome result (λ seconds. (is_try operation.now ≡ true)
+            × IsSentAway now self.old self.new (name_asked operation.now) seconds) }
         ensures same { result ≡ None → self.new ≡ self.old }
-        ensures open { result ≡ None → is_try ask.now ≡ true
-            → IsOpenTo self.old (name_asked ask.now) now }
+        ensures open { result ≡ None → is_try operation.now ≡ true
+            → IsOpenTo self.old (name_asked operation.now) now }
         ensures clock { IsReadBy now self.old self.new }
     {
-        let name = ask.tried()?;
+        let name = operation.tried()?;
         match &mut self.limiter {
             Some(limiter) => limiter.sends_away(&name, now),
             None => None,

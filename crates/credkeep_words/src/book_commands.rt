@@ -8,7 +8,8 @@ use crate::options::{
 use crate::refusal::WordsRefusal;
 use clap::ArgMatches;
 use cred_admin::{
-    Detail, Edit, EmptyPassword, LineForm, NewPassword, NewSetting, Operation, setting_of,
+    AccountOperation, Detail, EmptyPassword, LineForm, NewPassword, NewSetting, PasswordOperation,
+    setting_of,
 };
 use cred_book::Name;
 use cred_cli::{exceeds, memory_alone};
@@ -48,17 +49,26 @@ pub(crate) fn read_command<'a, R: RandomSource + AllocGlobal>(
         }
         CommandName::Show => show(values, name_in(values, "name")?),
         CommandName::Disable => disable(values, name_in(values, "name")?),
-        CommandName::Delete => edit(values, Edit::Delete(name_in(values, "name")?)),
+        CommandName::Delete => account(values, AccountOperation::Delete(name_in(values, "name")?)),
         CommandName::Rename => rename(values, name_in(values, "name")?),
-        CommandName::Lock => edit(values, Edit::Lock(name_in(values, "name")?)),
-        CommandName::Unlock => edit(values, Edit::Unlock(name_in(values, "name")?)),
-        CommandName::Expire => edit(values, Edit::Expire(name_in(values, "name")?)),
-        CommandName::Check => account(values, Operation::Check),
-        CommandName::Remove => account(values, Operation::Remove),
-        CommandName::Add => account(values, Operation::Add(new_password_in(rt, values)?)),
-        CommandName::Change => account(values, Operation::Change(new_password_in(rt, values)?)),
-        CommandName::Reset => account(values, Operation::Reset(new_password_in(rt, values)?)),
-        CommandName::Upgrade => account(values, Operation::Upgrade(setting_in(rt, values)?)),
+        CommandName::Lock => account(values, AccountOperation::Lock(name_in(values, "name")?)),
+        CommandName::Unlock => account(values, AccountOperation::Unlock(name_in(values, "name")?)),
+        CommandName::Expire => account(values, AccountOperation::Expire(name_in(values, "name")?)),
+        CommandName::Check => password(values, PasswordOperation::Check),
+        CommandName::Remove => password(values, PasswordOperation::Remove),
+        CommandName::Add => password(values, PasswordOperation::Add(new_password_in(rt, values)?)),
+        CommandName::Change => password(
+            values,
+            PasswordOperation::Change(new_password_in(rt, values)?),
+        ),
+        CommandName::Reset => password(
+            values,
+            PasswordOperation::Reset(new_password_in(rt, values)?),
+        ),
+        CommandName::Upgrade => password(
+            values,
+            PasswordOperation::Upgrade(setting_in(rt, values)?),
+        ),
     }
 }
 
@@ -76,16 +86,19 @@ fn list<'a>(values: &ArgMatches<'a>, line: LineForm) -> Result<Command<'a>, Word
     on_book(values, BookCommand::List { line })
 }
 
-fn edit<'a>(values: &ArgMatches<'a>, edit: Edit) -> Result<Command<'a>, WordsRefusal<'a>> {
-    on_book(values, BookCommand::Edit { edit })
-}
-
 fn account<'a>(
     values: &ArgMatches<'a>,
-    operation: Operation,
+    operation: AccountOperation,
+) -> Result<Command<'a>, WordsRefusal<'a>> {
+    on_book(values, BookCommand::Account { operation })
+}
+
+fn password<'a>(
+    values: &ArgMatches<'a>,
+    operation: PasswordOperation,
 ) -> Result<Command<'a>, WordsRefusal<'a>> {
     let name = name_in(values, "name")?;
-    on_book(values, BookCommand::Account { name, operation })
+    on_book(values, BookCommand::Password { name, operation })
 }
 
 fn show<'a>(values: &ArgMatches<'a>, name: Name) -> Result<Command<'a>, WordsRefusal<'a>> {
@@ -101,12 +114,15 @@ fn disable<'a>(values: &ArgMatches<'a>, name: Name) -> Result<Command<'a>, Words
     if values.get_flag("show") {
         on_book(values, BookCommand::DisableShown { name })
     } else {
-        edit(values, Edit::Disable(name))
+        account(values, AccountOperation::Disable(name))
     }
 }
 
 fn rename<'a>(values: &ArgMatches<'a>, name: Name) -> Result<Command<'a>, WordsRefusal<'a>> {
-    edit(values, Edit::Rename(name, name_in(values, "new")?))
+    account(
+        values,
+        AccountOperation::Rename(name, name_in(values, "new")?),
+    )
 }
 
 /// Reads the service of tagged lines, and checks that new records are within the bounds and have

@@ -22,7 +22,7 @@ pub fn read_passwords(
     command: &BookCommand,
     echo: Echo,
 ) -> Result<Option<Vec<u8>>, Status> {
-    let BookCommand::Account { operation, .. } = command else {
+    let BookCommand::Password { operation, .. } = command else {
         return Ok(None);
     };
     let passwords = operation.passwords();
@@ -37,7 +37,7 @@ pub fn read_passwords(
 
 /// Warns if the new password of a command ends in a carriage return.
 pub fn advise(host: &HostRuntime, command: &BookCommand, lines: &[u8]) {
-    let BookCommand::Account { operation, .. } = command else {
+    let BookCommand::Password { operation, .. } = command else {
         return;
     };
     let is_new = match operation.passwords() {

@@ -3,7 +3,7 @@
 ghost use Rattle.std.specs.Prelude.{◌+◌, ◌≤◌, ◌<◌, MatchBool, OnErr, OnOk, ⊤, ◌≡◌};
 ghost use Rattle.std.specs.FinMap as fin;
 ghost use Rattle.cred_book.specs.Accounts.{register_capacity};
-ghost use Rattle.cred_file.specs.{Edits.AreApart, Edits.AreThere, Edits.Meet, Edits.Misses, Edits.TakesIn, Failures.LosesForMemory, Failures.Remembers, Failures.WasClean};
+ghost use Rattle.cred_file.specs.{Changes.AreApart, Changes.AreThere, Changes.Meet, Changes.Misses, Changes.TakesIn, Failures.LosesForMemory, Failures.Remembers, Failures.WasClean};
 ghost use Rattle.cred_file.specs.{Cells.mark_at, Cells.renewed, Transactions.changed_marks, Transactions.taken_marks};
 ghost use Rattle.cred_file.specs.declared.fault.Attempt.TheVariants as Attempt;
 

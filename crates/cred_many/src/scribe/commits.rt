@@ -3,14 +3,14 @@
 ghost use Rattle.std.specs.List.{remove};
 ghost use Rattle.std.specs.Prelude.{◌≡◌, ℕ, IfSome, None, true, false};
 ghost use Rattle.cred_book.specs.Works.{name_of};
-ghost use Rattle.cred_many.specs.{Adds.AddsCounted, Asks.IsJobOf, Asks.hashed_for, Asks.is_reset, Scribe.HasSeen, Scribe.HasTurn, Scribe.IsReady, Served.told_reply, Served.told_verdict, Turns.HasMoved, Turns.UsesTurn};
+ghost use Rattle.cred_many.specs.{Adds.AddsCounted, LineOperations.IsJobOf, LineOperations.hashed_for, LineOperations.is_reset, Scribe.HasSeen, Scribe.HasTurn, Scribe.IsReady, Served.told_reply, Served.told_verdict, Turns.HasMoved, Turns.UsesTurn};
 ghost use Rattle.cred_tries.specs.Answers.{IsReadBy};
 ghost use Rattle.cred_many.specs.Tries.{effect_by, is_try, reply_effect};
 
 use super::{Hashed, Job, Scribe};
-use crate::ask::Ask;
 use crate::fault::ServiceFault;
 use crate::line::Line;
+use crate::line_operation::LineOperation;
 use crate::service_id::ServiceId;
 use crate::tries::{Effect, forgives};
 use cred_admin::{Host, Verdict, commit_try, put_in_place, verdict_line};
@@ -39,7 +39,7 @@ impl<J: ServiceId, K: Host, W: Write> Scribe<J, K, W> {
         }
         let (line, worked) = hashed.into_parts();
         let place = self.output.pending.place_of(line.number())?;
-        if line.ask().is_reset() {
+        if line.operation().is_reset() {
             self.reset(place, line, &worked);
             return None;
         }
@@ -59,8 +59,8 @@ impl<J: ServiceId, K: Host, W: Write> Scribe<J, K, W> {
         now: u64,
     ) -> Option<Job<J>>
         requires ready { IsReady self.old.output.fault self.old.output.pending place line.number }
-        requires asked { hashed_for line.ask ≡ Some worked.0 }
-        requires kept { is_reset line.ask ≡ false }
+        requires asked { hashed_for line.operation ≡ Some worked.0 }
+        requires kept { is_reset line.operation ≡ false }
         requires seen { HasSeen self.old.output.pending place (name_of worked.0) worked.1 true }
         ensures closed { result ≡ None → self.new.output.fault ≡ None
             → self.new.output.pending ≡ remove self.old.output.pending place }
@@ -72,8 +72,8 @@ impl<J: ServiceId, K: Host, W: Write> Scribe<J, K, W> {
         ensures same_came { self.new.came ≡ self.old.came }
         ensures adds { AddsCounted now self.old self.new }
     {
-        let ask = line.ask();
-        if let Some(seconds) = self.tries.send_away(&ask, now) {
+        let operation = line.operation();
+        if let Some(seconds) = self.tries.send_away(&operation, now) {
             self.output.answer_later(place, &line, seconds);
             return None;
         }
@@ -88,12 +88,12 @@ impl<J: ServiceId, K: Host, W: Write> Scribe<J, K, W> {
         if verdict.is_outdated() {
             return self.job(place, line, request);
         }
-        let effect = effect_of(&ask, &verdict);
+        let effect = effect_of(&operation, &verdict);
         if self.tries.count(&request.name(), now, effect).is_err() {
             self.refuse(place, line);
             return None;
         }
-        let answer = verdict_line(&told_verdict(ask, verdict));
+        let answer = verdict_line(&told_verdict(operation, verdict));
         self.output.answer(place, &line, answer);
         None
     }
@@ -101,8 +101,8 @@ impl<J: ServiceId, K: Host, W: Write> Scribe<J, K, W> {
     /// Stores the new record in place of any other.
     fn reset(&mut self, place: usize, line: Line<J>, worked: &Worked)
         requires ready { IsReady self.old.output.fault self.old.output.pending place line.number }
-        requires asked { IsJobOf line.ask worked.now }
-        requires reset { is_reset line.ask ≡ true }
+        requires asked { IsJobOf line.operation worked.now }
+        requires reset { is_reset line.operation ≡ true }
         ensures closed { self.new.output.fault ≡ None
             → self.new.output.pending ≡ remove self.old.output.pending place }
         ensures same_came { self.new.came ≡ self.old.came }
@@ -124,21 +124,21 @@ impl<J: ServiceId, K: Host, W: Write> Scribe<J, K, W> {
 }
 
 /// Returns the verdict that answers an operation.
-fn told_verdict(ask: Ask, verdict: Verdict) -> Verdict
-    ensures { result ≡ told_verdict ask verdict }
+fn told_verdict(operation: LineOperation, verdict: Verdict) -> Verdict
+    ensures { result ≡ told_verdict operation verdict }
 {
     match verdict {
-        Verdict::Told(reply) => Verdict::Told(told_reply(ask, reply)),
+        Verdict::Told(reply) => Verdict::Told(told_reply(operation, reply)),
         Verdict::Expired => Verdict::Expired,
         Verdict::Same => Verdict::Same,
     }
 }
 
 /// Returns the effect of an operation's answer on its account's failed tries.
-fn effect_of(ask: &Ask, verdict: &Verdict) -> Effect
-    ensures { result ≡ effect_by (is_try ask.now) verdict.now }
+fn effect_of(operation: &LineOperation, verdict: &Verdict) -> Effect
+    ensures { result ≡ effect_by (is_try operation.now) verdict.now }
 {
-    match (ask.tried(), verdict) {
+    match (operation.tried(), verdict) {
         (Some(_), Verdict::Told(reply)) => reply_effect(reply),
         (Some(_), Verdict::Expired | Verdict::Same) => Effect::Right,
         (None, Verdict::Told(reply)) if forgives(reply) => Effect::Forgiven,
@@ -164,12 +164,12 @@ fn reply_effect(reply: &Reply) -> Effect
 }
 
 /// Returns the reply to an operation: that of a login is the reply of a verify.
-pub(super) fn told_reply(ask: Ask, reply: Reply) -> Reply
-    ensures { result ≡ told_reply ask reply }
+pub(super) fn told_reply(operation: LineOperation, reply: Reply) -> Reply
+    ensures { result ≡ told_reply operation reply }
 {
-    match (ask, reply) {
-        (Ask::Login(..), Reply::Wrong) => Reply::No,
-        (Ask::Login(..), Reply::Kept | Reply::Upgraded) => Reply::Yes,
+    match (operation, reply) {
+        (LineOperation::Login(..), Reply::Wrong) => Reply::No,
+        (LineOperation::Login(..), Reply::Kept | Reply::Upgraded) => Reply::Yes,
         (_, reply) => reply,
     }
 }

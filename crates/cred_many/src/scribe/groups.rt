@@ -64,7 +64,7 @@ impl<J: ServiceId, K: Host, W: Write> Scribe<J, K, W> {
         ensures same { OnErr result (group.new.works.items ≡ group.old.works.items) }
         ensures back { IfErr result (λ back. back ≡ hashed) }
     {
-        if hashed.line().ask().is_reset() {
+        if hashed.line().operation().is_reset() {
             return Err(hashed);
         }
         let name = hashed.worked().request().name();
@@ -81,7 +81,7 @@ impl<J: ServiceId, K: Host, W: Write> Scribe<J, K, W> {
         let change = Change {
             name,
             after: stored,
-            reply: told_reply(hashed.line().ask(), reply),
+            reply: told_reply(hashed.line().operation(), reply),
         };
         group.push(hashed, &change)
     }

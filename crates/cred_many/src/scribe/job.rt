@@ -2,7 +2,7 @@
 
 ghost use Rattle.std.specs.Prelude.{◌≡◌, ◌<◌, ◌≤◌};
 ghost use Rattle.cred_cli.specs.Costs.{memory_alone};
-ghost use Rattle.cred_many.specs.{Asks.IsJobOf, Costs.Covers, Costs.job_memory, Costs.made_memory, Scribe.IsOf};
+ghost use Rattle.cred_many.specs.{LineOperations.IsJobOf, Costs.Covers, Costs.job_memory, Costs.made_memory, Scribe.IsOf};
 
 use crate::budget::{Budget, Limit, Taken};
 use crate::costs::{Costs, NO_SALT};
@@ -26,13 +26,13 @@ pub struct Job<J: ServiceId> {
 
 impl<J: ServiceId> Model for Job<J> {
     ghost use Rattle.cred_book.specs.Works.{Task};
-    ghost use Rattle.cred_many.specs.Asks.{Entry, IsJobOf};
+    ghost use Rattle.cred_many.specs.LineOperations.{Entry, IsJobOf};
 
     ghost Value = { Entry × Task };
 
     ghost view = { λ j. (j.line, j.ticket) };
 
-    ghost invariant = { λ j. IsJobOf j.line.ask j.ticket };
+    ghost invariant = { λ j. IsJobOf j.line.operation j.ticket };
 }
 
 /// A line whose hashing is done. Only [`Job::work`] builds such a value, so each of its hashes had
@@ -45,13 +45,13 @@ pub struct Hashed<J: ServiceId> {
 
 impl<J: ServiceId> Model for Hashed<J> {
     ghost use Rattle.cred_book.specs.Works.{Task};
-    ghost use Rattle.cred_many.specs.Asks.{Entry, IsJobOf};
+    ghost use Rattle.cred_many.specs.LineOperations.{Entry, IsJobOf};
 
     ghost Value = { Entry × Task };
 
     ghost view = { λ h. (h.line, h.worked) };
 
-    ghost invariant = { λ h. IsJobOf h.line.ask h.worked };
+    ghost invariant = { λ h. IsJobOf h.line.operation h.worked };
 }
 
 /// A line without memory for its hash. A job ends as this value if the allocator refuses memory to
@@ -63,7 +63,7 @@ pub struct Starved<J: ServiceId> {
 
 impl<J: ServiceId> Model for Starved<J> {
     ghost use Rattle.cred_book.specs.Works.{Task};
-    ghost use Rattle.cred_many.specs.Asks.{Entry};
+    ghost use Rattle.cred_many.specs.LineOperations.{Entry};
 
     ghost Value = { Entry × Task };
 
@@ -86,7 +86,7 @@ pub(crate) enum Message<J: ServiceId> {
 impl<J: ServiceId> Job<J> {
     /// Joins a line with the ticket that is to be hashed for it.
     pub(super) fn new(line: Line<J>, ticket: Ticket) -> Job<J>
-        requires { IsJobOf line.ask ticket }
+        requires { IsJobOf line.operation ticket }
         ensures line { result.0 ≡ line }
         ensures ticket { result.1 ≡ ticket }
     {
@@ -201,7 +201,7 @@ fn made(request: &Request, costs: &Scheme) -> Option<(Setting, Password)> {
 
 impl<J: ServiceId> Hashed<J> {
     fn new(line: Line<J>, worked: Worked) -> Hashed<J>
-        requires { IsJobOf line.ask worked }
+        requires { IsJobOf line.operation worked }
         ensures { result.0 ≡ line }
     {
         Hashed { line, worked }
@@ -210,7 +210,7 @@ impl<J: ServiceId> Hashed<J> {
     /// Returns the line.
     pub(crate) fn line(&self) -> &Line<J>
         ensures line { result.now ≡ self.now.0 }
-        ensures asked { IsJobOf self.now.0.ask self.now.1 }
+        ensures asked { IsJobOf self.now.0.operation self.now.1 }
     {
         &self.line
     }
@@ -226,7 +226,7 @@ impl<J: ServiceId> Hashed<J> {
     pub(super) fn into_parts(self) -> (Line<J>, Worked)
         ensures line { result.0 ≡ self.0 }
         ensures worked { result.1 ≡ self.1 }
-        ensures asked { IsJobOf result.0.ask result.1 }
+        ensures asked { IsJobOf result.0.operation result.1 }
     {
         let Hashed { line, worked } = self;
         (line, worked)

@@ -29,7 +29,7 @@ impl<J: ServiceId, K: Host, W: Write> Scribe<J, K, W> {
 
     /// Refuses a line for want of memory, unless the scribe answers no more lines.
     pub(super) fn starve(&mut self, line: Line<J>)
-        requires { NeedsMemory K.capacity (K.book self.old.keeper) line.ask }
+        requires { NeedsMemory K.capacity (K.book self.old.keeper) line.operation }
         ensures book { K.book self.new.keeper ≡ K.book self.old.keeper }
         ensures same_came { self.new.came ≡ self.old.came }
         ensures same_tries { self.new.tries ≡ self.old.tries }
@@ -50,7 +50,7 @@ impl<J: ServiceId, K: Host, W: Write> Scribe<J, K, W> {
     /// Refuses a line for want of memory, or ends the service if the keeper has failed.
     pub(super) fn refuse(&mut self, place: usize, line: Line<J>)
         requires ready { IsReady self.old.output.fault self.old.output.pending place line.number }
-        requires needs { NeedsMemory K.capacity (K.book self.old.keeper) line.ask }
+        requires needs { NeedsMemory K.capacity (K.book self.old.keeper) line.operation }
         ensures book { K.book self.new.keeper ≡ K.book self.old.keeper }
         ensures same_tries { self.new.tries ≡ self.old.tries }
         ensures closed { self.new.output.fault ≡ None
@@ -69,7 +69,7 @@ impl<J: ServiceId, K: Host, W: Write> Scribe<J, K, W> {
     /// Answers a line with `busy`, since other lines have changed its account's record too often.
     pub(super) fn give_up_as_busy(&mut self, place: usize, line: Line<J>)
         requires ready { IsReady self.old.output.fault self.old.output.pending place line.number }
-        requires busy { IsBusy self.old.output.pending place line.ask }
+        requires busy { IsBusy self.old.output.pending place line.operation }
         ensures closed { self.new.output.pending ≡ remove self.old.output.pending place }
         ensures same_came { self.new.came ≡ self.old.came }
         ensures same_tries { self.new.tries ≡ self.old.tries }

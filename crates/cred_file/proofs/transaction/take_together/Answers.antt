@@ -1,7 +1,7 @@
 use Rattle.std.proofs.Common.{◌≡◌, ◌⊎◌, inl, ap, sym, subst, arith, rules, ◌∙◌}
 use Rattle.sqlite.specs.{Held.state, State.HasCleanDisk}
 use Rattle.cred_file.specs.Cells.{cells_of, mark_at}
-use Rattle.cred_file.specs.{Keeps.IsTableOf, Keeps.LeavesOnly, Transactions.KeepsOthers, Transactions.changed_mark, Transactions.marks_with, Transactions.taken_marks, Edits.AreThere, Edits.taken_cells}
+use Rattle.cred_file.specs.{Keeps.IsTableOf, Keeps.LeavesOnly, Transactions.KeepsOthers, Transactions.changed_mark, Transactions.marks_with, Transactions.taken_marks, Changes.AreThere, Changes.taken_cells}
 use Rattle.cred_file.proofs.Joined.{joined_keeps, there_still}
 use Rattle.cred_file.proofs.JoinedCells.{written}
 use Rattle.cred_file.proofs.Within.{begun, committed, commit_left, on_any, uncommitted}

@@ -6,5 +6,5 @@ returns c = record {
   locks = lock_locks;
   stays = stays_locked;
   refuses = refused_try;
-  keeps = λ capacity book name ask is ends puts. (step capacity book name is ask ends).1 puts;
+  keeps = λ capacity book name operation is ends puts. (step capacity book name is operation ends).1 puts;
 }

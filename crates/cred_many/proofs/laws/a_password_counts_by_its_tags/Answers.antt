@@ -7,8 +7,8 @@ use Rattle.cred_file.specs.declared.marks.Mark.{Mark}
 use Rattle.cred_admin.specs.{Commands.reset_step, Marked.MarkedBook, Marked.barred, Marked.due, Marked.keeps_password, Marked.shut, Marked.tried, Marked.tried_at, Marked.tried_if, Statuses.verdict_line}
 use Rattle.cred_admin.specs.declared.verdict.Verdict.{Verdict}
 use Rattle.cred_admin.specs.declared.verdict.Verdict.TheVariants.{Same, Told}
-use Rattle.cred_many.specs.{Served.done, Served.login_verdict, Telling.KeepsTagsFor, Telling.with_passwords, declared.ask.Ask.Ask}
-use Rattle.cred_many.specs.declared.ask.Ask.TheVariants.{Quick, Whole, Login, Reset, Forgive, Later}
+use Rattle.cred_many.specs.{Served.done, Served.login_verdict, Telling.KeepsTagsFor, Telling.with_passwords, declared.line_operation.LineOperation.LineOperation}
+use Rattle.cred_many.specs.declared.line_operation.LineOperation.TheVariants.{Quick, Whole, Login, Reset, Forgive, Later}
 use Rattle.cred_book.specs.declared.request.Request.TheVariants.{Enrol, Verify, Change, Upgrade, Remove}
 use Rattle.cred_book.specs.Passwords as book_passwords
 use Rattle.cred_book.specs.declared.request.Reply.TheVariants as reply
@@ -69,8 +69,8 @@ module _ (other : List ℕ → List ℕ) where
   as_tried book (Upgrade name pw setting) = as_tried_at book (Upgrade name pw setting) (map.get book.accounts name) refl
   as_tried book (Remove name pw) = as_tried_at book (Remove name pw) (map.get book.accounts name) refl
 
-as_done : (other : List ℕ → List ℕ) (capacity : ℕ) (book : MarkedBook) (ask : Ask) → KeepsTagsFor other book ask → done capacity book (with_passwords other ask) ≡ done capacity book ask
-as_done other capacity book (Quick ask) keeps = refl
+as_done : (other : List ℕ → List ℕ) (capacity : ℕ) (book : MarkedBook) (operation : LineOperation) → KeepsTagsFor other book operation → done capacity book (with_passwords other operation) ≡ done capacity book operation
+as_done other capacity book (Quick operation) keeps = refl
 as_done other capacity book (Whole r) (standing, made, same) = ap (λ o. (verdict_line o.0, o.1)) (as_tried other book r standing made same)
 as_done other capacity book (Login name pw setting) (standing, made, same) = ap (λ o. (verdict_line (login_verdict o.0), o.1)) (as_tried other book (Upgrade name pw setting) standing made same)
 as_done other capacity book (Reset name pw setting) (standing, made, same) = ap (λ stored. (reply_line (reset_step book name stored).0, (reset_step book name stored).1)) (as_new other setting pw made)

@@ -4,11 +4,11 @@ use Rattle.cred_book.specs.{Works.name_of, Works.new_record, declared.request.Re
 use Rattle.cred_cli.specs.Texts.{reply_line}
 use Rattle.cred_file.specs.declared.marks.Mark.{Mark}
 use Rattle.cred_admin.specs.{Commands.reset_step, Marked.MarkedBook, Marked.barred, Marked.tried, Marked.tried_at, Marked.tried_if, Statuses.verdict_line, declared.verdict.Verdict.Verdict}
-use Rattle.cred_admin.specs.declared.edits.Edit.TheVariants.{Disable, Delete, Rename, Lock, Unlock, Expire}
-use Rattle.cred_many.specs.{Names.marked_page, Names.marks_line, Names.names_line, Names.page, Served.disabled_line, Served.done, Served.login_verdict, Served.forgiven_line, Served.shown_line, declared.ask.Ask.Ask}
+use Rattle.cred_admin.specs.declared.account_operation.AccountOperation.TheVariants.{Disable, Delete, Rename, Lock, Unlock, Expire}
+use Rattle.cred_many.specs.{Names.marked_page, Names.marks_line, Names.names_line, Names.page, Served.disabled_line, Served.done, Served.login_verdict, Served.forgiven_line, Served.shown_line, declared.line_operation.LineOperation.LineOperation}
 use Rattle.cred_many.specs.Telling.{AreAlikeAt, AreAlikeFor}
-use Rattle.cred_many.specs.declared.ask.Ask.TheVariants.{Quick, Whole, Login, Reset, Forgive, Later}
-use Rattle.cred_many.specs.declared.ask.QuickAsk.TheVariants.{Account, Load, Show, DisableShown, Bad, Edit as Change, List as Names, ListMarks}
+use Rattle.cred_many.specs.declared.line_operation.LineOperation.TheVariants.{Quick, Whole, Login, Reset, Forgive, Later}
+use Rattle.cred_many.specs.declared.line_operation.QuickOperation.TheVariants.{Account, Load, Show, DisableShown, Bad, OnAccount, List as Names, ListMarks}
 use Rattle.cred_many.proofs.{Beside.done_stays, Listed.marks_told}
 use Rattle.std.specs.FinMap as map
 use Rattle.cred_book.specs.declared.request.Request.TheVariants as request
@@ -32,36 +32,36 @@ module _ (capacity : ℕ) (one other : MarkedBook) where
   load_told name stored None here there = rw (here, there) refl
 
   disable_told : (name : List ℕ) (a : Found) → map.get one.accounts name ≡ a → map.get other.accounts name ≡ a
-      → (done capacity one (Quick (Change (Disable name)))).0 ≡ (done capacity other (Quick (Change (Disable name)))).0
+      → (done capacity one (Quick (OnAccount (Disable name)))).0 ≡ (done capacity other (Quick (OnAccount (Disable name)))).0
   disable_told name (Some None) here there = rw (here, there) refl
   disable_told name _ here there = rw (here, there) refl
 
   delete_told : (name : List ℕ) (a : Found) → map.get one.accounts name ≡ a → map.get other.accounts name ≡ a
-      → (done capacity one (Quick (Change (Delete name)))).0 ≡ (done capacity other (Quick (Change (Delete name)))).0
+      → (done capacity one (Quick (OnAccount (Delete name)))).0 ≡ (done capacity other (Quick (OnAccount (Delete name)))).0
   delete_told name None here there = rw (here, there) refl
   delete_told name (Some stored) here there = rw (here, there) refl
 
   rename_told : (name new : List ℕ) (a b : Found) (room : Bool) → map.get one.accounts name ≡ a → map.get other.accounts name ≡ a → map.get one.accounts new ≡ b → map.get other.accounts new ≡ b
       → nat_lt (map.len one.accounts) capacity ≡ room → nat_lt (map.len other.accounts) capacity ≡ room
-      → (done capacity one (Quick (Change (Rename name new)))).0 ≡ (done capacity other (Quick (Change (Rename name new)))).0
+      → (done capacity one (Quick (OnAccount (Rename name new)))).0 ≡ (done capacity other (Quick (OnAccount (Rename name new)))).0
   rename_told name new None b room here there new_here new_there x y = rw (here, there) refl
   rename_told name new (Some stored) (Some b) room here there new_here new_there x y = rw (here, there, new_here, new_there) refl
   rename_told name new (Some stored) None true here there new_here new_there x y = rw (here, there, new_here, new_there, x, y) refl
   rename_told name new (Some stored) None false here there new_here new_there x y = rw (here, there, new_here, new_there, x, y) refl
 
   lock_told : (name : List ℕ) (a : Found) → map.get one.accounts name ≡ a → map.get other.accounts name ≡ a
-      → (done capacity one (Quick (Change (Lock name)))).0 ≡ (done capacity other (Quick (Change (Lock name)))).0
+      → (done capacity one (Quick (OnAccount (Lock name)))).0 ≡ (done capacity other (Quick (OnAccount (Lock name)))).0
   lock_told name None here there = rw (here, there) refl
   lock_told name (Some stored) here there = rw (here, there) refl
 
   unlock_told : (name : List ℕ) (a : Found) (b : Bool) → map.get one.accounts name ≡ a → map.get other.accounts name ≡ a → (one.marks name).locked ≡ b → (other.marks name).locked ≡ b
-      → (done capacity one (Quick (Change (Unlock name)))).0 ≡ (done capacity other (Quick (Change (Unlock name)))).0
+      → (done capacity one (Quick (OnAccount (Unlock name)))).0 ≡ (done capacity other (Quick (OnAccount (Unlock name)))).0
   unlock_told name None b here there x y = rw (here, there) refl
   unlock_told name (Some stored) true here there x y = rw (here, there, x, y) refl
   unlock_told name (Some stored) false here there x y = rw (here, there, x, y) refl
 
   expire_told : (name : List ℕ) (a : Found) → map.get one.accounts name ≡ a → map.get other.accounts name ≡ a
-      → (done capacity one (Quick (Change (Expire name)))).0 ≡ (done capacity other (Quick (Change (Expire name)))).0
+      → (done capacity one (Quick (OnAccount (Expire name)))).0 ≡ (done capacity other (Quick (OnAccount (Expire name)))).0
   expire_told name None here there = rw (here, there) refl
   expire_told name (Some None) here there = rw (here, there) refl
   expire_told name (Some (Some stored)) here there = rw (here, there) refl
@@ -83,21 +83,21 @@ module _ (capacity : ℕ) (one other : MarkedBook) where
   reset_told name made (Some None) here there = rw (here, there) refl
   reset_told name made _ here there = rw (here, there) refl
 
-  done_told : (ask : Ask) → AreAlikeFor capacity ask one other → (done capacity one ask).0 ≡ (done capacity other ask).0
+  done_told : (operation : LineOperation) → AreAlikeFor capacity operation one other → (done capacity one operation).0 ≡ (done capacity other operation).0
   done_told (Quick (Account name)) (same, room) = account_told name (map.get other.accounts name) (nat_lt (map.len other.accounts) capacity) (same 0 [] (omega arith)).0 refl room refl
   done_told (Quick (Load name stored)) (same, beside) = load_told name stored (map.get other.accounts name) (same 0 [] (omega arith)).0 refl
   done_told (Quick (Show name)) (same, beside) =
       ap (λ m. shown_line m (map.get one.accounts name)) (same 0 [] (omega arith)).1 ∙ ap (shown_line (other.marks name)) (same 0 [] (omega arith)).0
   done_told (Quick (DisableShown name)) (same, beside) =
       ap (λ m. disabled_line name m (map.get one.accounts name)) (same 0 [] (omega arith)).1 ∙ ap (disabled_line name (other.marks name)) (same 0 [] (omega arith)).0
-  done_told (Quick (Change (Disable name))) (same, beside) = disable_told name (map.get other.accounts name) (same 0 [] (omega arith)).0 refl
-  done_told (Quick (Change (Delete name))) (same, beside) = delete_told name (map.get other.accounts name) (same 0 [] (omega arith)).0 refl
-  done_told (Quick (Change (Rename name new))) (same, room) =
+  done_told (Quick (OnAccount (Disable name))) (same, beside) = disable_told name (map.get other.accounts name) (same 0 [] (omega arith)).0 refl
+  done_told (Quick (OnAccount (Delete name))) (same, beside) = delete_told name (map.get other.accounts name) (same 0 [] (omega arith)).0 refl
+  done_told (Quick (OnAccount (Rename name new))) (same, room) =
       rename_told name new (map.get other.accounts name) (map.get other.accounts new) (nat_lt (map.len other.accounts) capacity) (same 0 [] (omega arith)).0 refl (same 1 [] (omega arith)).0 refl room refl
-  done_told (Quick (Change (Lock name))) (same, beside) = lock_told name (map.get other.accounts name) (same 0 [] (omega arith)).0 refl
-  done_told (Quick (Change (Unlock name))) (same, beside) =
+  done_told (Quick (OnAccount (Lock name))) (same, beside) = lock_told name (map.get other.accounts name) (same 0 [] (omega arith)).0 refl
+  done_told (Quick (OnAccount (Unlock name))) (same, beside) =
       unlock_told name (map.get other.accounts name) (other.marks name).locked (same 0 [] (omega arith)).0 refl (ap (λ (m : Mark). m.locked) (same 0 [] (omega arith)).1) refl
-  done_told (Quick (Change (Expire name))) (same, beside) = expire_told name (map.get other.accounts name) (same 0 [] (omega arith)).0 refl
+  done_told (Quick (OnAccount (Expire name))) (same, beside) = expire_told name (map.get other.accounts name) (same 0 [] (omega arith)).0 refl
   done_told (Quick (Names from most)) (same, names) = ap (λ keys. names_line (page from most keys)) names
   done_told (Quick (ListMarks from most)) (same, (names, marks)) =
       ap (λ keys. marks_line one.marks (marked_page one.marks from most keys)) names
@@ -110,4 +110,4 @@ module _ (capacity : ℕ) (one other : MarkedBook) where
   done_told (Later name seconds) (same, beside) = refl
 
 pub returns : goal.returns
-returns c = record { tells = done_told; keeps = λ capacity book ask name. done_stays capacity book name ask }
+returns c = record { tells = done_told; keeps = λ capacity book operation name. done_stays capacity book name operation }

@@ -2,7 +2,7 @@ use Rattle.std.proofs.Common.{refl, sym, ap, rules, ◌∙◌}
 use Rattle.std.specs.FinMap as fin
 use Rattle.cred_file.specs.declared.fault.Attempt.TheVariants.{Delete}
 use Rattle.cred_file.specs.Cells.{cells_of, mark_at, unmarked}
-use Rattle.cred_file.specs.{Edits.after_attempt}
+use Rattle.cred_file.specs.{Changes.after_attempt}
 use Rattle.cred_file.proofs.CellLaws.{cells_less, has_cell}
 use Rattle.cred_file.specs.Kept.{cells}
 use Rattle.cred_file.proofs.Keeping.{keeps_done, keeps_lost, fits}

@@ -5,7 +5,7 @@ use Rattle.cred_book.specs.Accounts.{register_capacity}
 use Rattle.cred_book.proofs.Rows.{remove_again}
 use Rattle.cred_file.specs.declared.fault.Attempt.TheVariants.{Put}
 use Rattle.cred_file.specs.Cells.{cell, cells_of, mark_at, unmarked}
-use Rattle.cred_file.specs.{Edits.after_attempt, Keeps.LeavesOnly}
+use Rattle.cred_file.specs.{Changes.after_attempt, Keeps.LeavesOnly}
 use Rattle.cred_file.proofs.CellLaws.{cells_put, has_cell, len_cells, renewal_absent}
 use Rattle.cred_file.specs.Kept.{cells}
 use Rattle.cred_file.proofs.Keeping.{keeps_done, keeps_lost, len_new}

@@ -5,7 +5,7 @@ use Rattle.cred_book.specs.Accounts.{Accounts, register_capacity}
 use Rattle.cred_book.proofs.Rows.{remove_again}
 use Rattle.cred_file.specs.declared.fault.Attempt.TheVariants.{Rename}
 use Rattle.cred_file.specs.Cells.{Cells, Marks, blank, cell, cells_of, mark_at, marked, unmarked}
-use Rattle.cred_file.specs.{Edits.MayRename, Edits.after_attempt, Edits.moved, Edits.renamed}
+use Rattle.cred_file.specs.{Changes.MayRename, Changes.after_attempt, Changes.moved, Changes.renamed}
 use Rattle.cred_file.proofs.CellLaws.{cells_less, cells_put, get_cells, has_cell}
 use Rattle.cred_file.specs.Kept.{cells as cells_in}
 use Rattle.cred_file.proofs.Keeping.{keeps_done, keeps_lost, fits}

@@ -3,7 +3,7 @@ use Rattle.std.specs.FinMap as fin
 use Rattle.sqlite.specs.Held.{state}
 use Rattle.cred_file.specs.declared.fault.Attempt.TheVariants.{Put}
 use Rattle.cred_file.specs.Cells.{Marks, cell, cells_of, mark_at, marked, renewed}
-use Rattle.cred_file.specs.{Edits.after_attempt, Keeps.LeavesOnly}
+use Rattle.cred_file.specs.{Changes.after_attempt, Keeps.LeavesOnly}
 use Rattle.cred_file.proofs.CellLaws.{cells_put, has_cell, renewal_here}
 use Rattle.cred_file.specs.Kept.{cells}
 use Rattle.cred_file.proofs.Keeping.{keeps_done, keeps_lost, fits, len_old}

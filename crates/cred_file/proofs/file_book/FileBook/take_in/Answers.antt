@@ -3,7 +3,7 @@ use Rattle.std.specs.FinMap as fin
 use Rattle.cred_book.specs.Accounts.{Accounts, register_capacity}
 use Rattle.cred_file.specs.Cells.{cells_of, mark_at}
 use Rattle.cred_file.specs.Kept.{cells}
-use Rattle.cred_file.specs.{declared.fault.Attempt.TheVariants.TakeIn, Edits.MayTakeIn, Edits.after_attempt, Edits.taken_cells}
+use Rattle.cred_file.specs.{declared.fault.Attempt.TheVariants.TakeIn, Changes.MayTakeIn, Changes.after_attempt, Changes.taken_cells}
 use Rattle.cred_file.proofs.{Keeping.keeps_done, Keeping.keeps_lost, Joined.len_taken, Joined.undone, JoinedCells.cells_taken, JoinedCells.len_taken_cells}
 use Rattle.cred_file.proofs.file_book.FileBook.take_in.Goals as goal
 

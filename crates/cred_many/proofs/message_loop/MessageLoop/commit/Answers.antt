@@ -3,7 +3,7 @@ use Rattle.std.proofs.lemmas.Iterator.Adapters.{YieldsList-from_vec}
 use Rattle.std.proofs.lemmas.Iterator.Consumers.{YieldsList-end}
 use Rattle.std.proofs.lemmas.List.{map-append}
 use Rattle.cred_book.specs.Works.{Task}
-use Rattle.cred_many.specs.{Asks.Entry, Scribe.entries_of, Turns.UseTurns}
+use Rattle.cred_many.specs.{LineOperations.Entry, Scribe.entries_of, Turns.UseTurns}
 use Rattle.cred_many.proofs.Uses.{all_used, none_used, use_more}
 use Rattle.cred_many.proofs.message_loop.MessageLoop.commit.Goals.{then-lines-lt2, else-lines-lt2}
 use Rattle.cred_many.proofs.message_loop.MessageLoop.commit.Goals as goal

@@ -11,7 +11,7 @@ returns-clause-group g c =
     let clear : is_marked c.mark_of.result ≡ false = search rules in
     let plain : (g.K.Host.book c.args.self.now.keeper).marks c.name-name.result ≡ unmarked = sym mark ∙ not_marked c.mark_of.result clear in
     pushed_together _ _ _ _ _ _ _ _ _ _ c.args.hashed c.judge-reply.result.0 c.judge-reply.result.1 c.name-name.result c.push.result c.requires (search rules) c.line.ensures.asked.0 (search (rules, arith)) (search rules) (search rules) plain (omega (arith, c.if-len-ge-MOST_TOGETHER.false, c.len.ensures))
-    (subst (λ e. IfSome g.J.ServiceId.service.input (λ bytes. IsLine g.J.ServiceId.service bytes e)) c.line.ensures.line c.ask.ensures.came)
+    (subst (λ e. IfSome g.J.ServiceId.service.input (λ bytes. IsLine g.J.ServiceId.service bytes e)) c.line.ensures.line c.operation.ensures.came)
     c.push.ensures.works c.push.ensures.first c.push.ensures.changed (search rules) c.push.ensures.same_works c.push.ensures.same_changed c.push.ensures.same_text
 
 pub returns-clause-added : goal.returns-clause-added

@@ -13,7 +13,7 @@ give_up_as_busy-requires-clause-ready g c = looked_ready _ _ _ _ _ _ _ _ c.look-
 
 pub give_up_as_busy-requires-clause-busy : goal.give_up_as_busy-requires-clause-busy
 give_up_as_busy-requires-clause-busy g c =
-    looked_worn _ _ _ _ _ _ c.args.line.ask c.look-changes.ensures (c.name.ensures ∙ sym (ap (λ r. unwrap_or (option_map name_of r) []) c.requires.asked)) (omega (arith, c.if-changes-ge-TRIES.true))
+    looked_worn _ _ _ _ _ _ c.args.line.operation c.look-changes.ensures (c.name.ensures ∙ sym (ap (λ r. unwrap_or (option_map name_of r) []) c.requires.asked)) (omega (arith, c.if-changes-ge-TRIES.true))
 
 pub returns-then-changes-ge-TRIES-clause-closed : goal.returns-then-changes-ge-TRIES-clause-closed
 returns-then-changes-ge-TRIES-clause-closed g c = λ none. closed_looked _ _ _ _ _ _ _ c.look-changes.ensures c.give_up_as_busy.ensures.closed

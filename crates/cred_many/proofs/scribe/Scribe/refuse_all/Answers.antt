@@ -1,7 +1,7 @@
 use Rattle.std.proofs.Common.{[], ◌∷◌, ap, refl, rules, sym, ◌∙◌}
 use Rattle.std.proofs.lemmas.List.{map-append}
 use Rattle.cred_book.specs.Works.{Task}
-use Rattle.cred_many.specs.Asks.{Entry}
+use Rattle.cred_many.specs.LineOperations.{Entry}
 use Rattle.cred_many.proofs.Uses.{use_more}
 use Rattle.cred_many.proofs.Adding.{quick_some, same_some, some_at, some_some}
 use Rattle.cred_many.specs.Scribe.{IsNotSentAway, answered_by, passed_of}

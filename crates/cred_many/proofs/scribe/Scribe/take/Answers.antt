@@ -6,7 +6,7 @@ use Rattle.cred_many.proofs.scribe.Scribe.take.Goals as goal
 
 pub invariant_of-self-clause-history : goal.invariant_of-self-clause-history
 invariant_of-self-clause-history g c =
-    let sent = asked_as _ _ _ _ _ _ c.ask.ensures.ask c.in-Some.ensures.sent in
+    let sent = asked_as _ _ _ _ _ _ c.operation.ensures.operation c.in-Some.ensures.sent in
     sent_away _ g.J.ServiceId.service _ _ (g.K.Host.book c.admit.new.self.keeper) _ c.args.line _ _ c.in_ok-place.place _ _ _ _ _ _ _ c.in_ok-place.ensures.ready c.answer_later.ensures.came c.answer_later.ensures.closed c.answer_later.ensures.told c.admit.new.self.history c.args.now c.in-Some.seconds refl refl sent.0 sent.1
 
 pub returns-in-Some-clause-turns : goal.returns-in-Some-clause-turns
@@ -41,7 +41,7 @@ returns-in_err-place-clause-adds g c = none_one _ _ _ _ c.admit.ensures.adds
 
 pub returns-in-Some-clause-adds : goal.returns-in-Some-clause-adds
 returns-in-Some-clause-adds g c =
-    let sent = asked_as _ _ _ _ _ _ c.ask.ensures.ask c.in-Some.ensures.sent in
+    let sent = asked_as _ _ _ _ _ _ c.operation.ensures.operation c.in-Some.ensures.sent in
     none_then_one _ _ _ _ _ c.admit.ensures.adds
     (counted_from _ _ _ c.args.now _ _ _ _ _ c.admit.ensures.same_tries c.admit.ensures.book
     (adds_sent _ g.J.ServiceId.service _ _ (g.K.Host.book c.admit.new.self.keeper) _ c.args.line _ _ c.in_ok-place.place _ _ _ _ _ _ _ c.in_ok-place.ensures.ready c.answer_later.ensures.came c.answer_later.ensures.closed c.answer_later.ensures.told c.args.now c.in-Some.seconds refl refl sent.0 sent.1))

@@ -1,7 +1,7 @@
 use Rattle.std.proofs.Common.{rules, ◌≡◌, Some}
 use Rattle.std.specs.FinMap as map
 use Rattle.cred_admin.proofs.Renaming.{disabled}
-use Rattle.cred_admin.proofs.edits.disable.Goals as goal
+use Rattle.cred_admin.proofs.account_operation.disable.Goals as goal
 
 pub returns-in-Ok : goal.returns-in-Ok
 returns-in-Ok g c =

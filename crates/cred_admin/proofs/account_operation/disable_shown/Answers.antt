@@ -1,6 +1,6 @@
 use Rattle.std.proofs.Common.{rules}
 use Rattle.cred_book.proofs.Commitments.{not_shown}
-use Rattle.cred_admin.proofs.edits.disable_shown.Goals as goal
+use Rattle.cred_admin.proofs.account_operation.disable_shown.Goals as goal
 
 pub returns-in-Ok-None : goal.returns-in-Ok-None
 returns-in-Ok-None g c = λ basis. search (rules, c.tell.ensures.told basis)

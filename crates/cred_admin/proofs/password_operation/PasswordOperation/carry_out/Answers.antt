@@ -1,5 +1,5 @@
 use Rattle.std.proofs.{Common.Err, Common.Ok, Common.inl, Common.inr, Common.refl, KnownBytes.Keeps-refl, lemmas.Result.err_from_is_err_and}
-use Rattle.cred_admin.proofs.operation.Operation.carry_out.Goals as goal
+use Rattle.cred_admin.proofs.password_operation.PasswordOperation.carry_out.Goals as goal
 
 pub returns-in_err-typed-clause-done : goal.returns-in_err-typed-clause-done
 returns-in_err-typed-clause-done g c = λ basis fits.

@@ -2,19 +2,19 @@
 
 ghost use Rattle.std.specs.Prelude.{◌≡◌, IfOk, IfSome, is_some, map, true};
 ghost use Rattle.cred_phc.specs.Ranges.{is_current};
-ghost use Rattle.cred_many.specs.Asks.{IsSound, ask_of, count_field, disable_ask, hashed_ask, list_ask, marks_ask, rename_ask};
-ghost use Rattle.cred_many.specs.{Asks.is_costly, Asks.is_reset, Asks.refused, Asks.within, Served.name_asked, Tries.is_try};
+ghost use Rattle.cred_many.specs.LineOperations.{IsSound, operation_of, count_field, disable_operation, hashed_operation, list_operation, marks_operation, rename_operation};
+ghost use Rattle.cred_many.specs.{LineOperations.is_costly, LineOperations.is_reset, LineOperations.refused, LineOperations.within, Served.name_asked, Tries.is_try};
 
-use cred_admin::Edit;
+use cred_admin::AccountOperation;
 use cred_book::{Name, Request};
 use cred_cli::{CostBounds, Refusal, exceeds, fields, request_exceeds};
 use cred_phc::{Password, PhcError, Record, Setting, decimal};
 
 /// A whole operation with its fields, or the fault of the line.
 #[derive(Clone, Copy)]
-pub(crate) enum Ask {
+pub(crate) enum LineOperation {
     /// An operation that needs no hash.
-    Quick(QuickAsk),
+    Quick(QuickOperation),
     /// An operation on an account's record, whose answer is its reply.
     Whole(Request),
     /// Verifies the password, and rehashes a record of other costs if the password is right.
@@ -30,41 +30,41 @@ pub(crate) enum Ask {
 
 /// An operation that needs no hash, or the fault of the line.
 #[derive(Clone, Copy)]
-pub(crate) enum QuickAsk {
+pub(crate) enum QuickOperation {
     /// Adds a name without a record.
     Account(Name),
     /// Stores this record at an account.
     Load(Name, Record),
-    /// Asks for an account's marks and its record.
+    /// LineOperations for an account's marks and its record.
     Show(Name),
-    /// Asks for the names from this one on, in their order, at most so many.
+    /// LineOperations for the names from this one on, in their order, at most so many.
     List(Name, u16),
-    /// Asks for the marked accounts from this name on, with their marks, at most so many.
+    /// LineOperations for the marked accounts from this name on, with their marks, at most so many.
     ListMarks(Name, u16),
     /// Changes an account without asking for its password.
-    Edit(Edit),
+    OnAccount(AccountOperation),
     /// Removes an account's record, and asks for its line.
     DisableShown(Name),
     /// A line that is refused.
     Bad(Refusal),
 }
 
-impl Ask {
+impl LineOperation {
     /// Returns the operation of a refused line.
-    pub(crate) fn refused(why: Refusal) -> Ask
+    pub(crate) fn refused(why: Refusal) -> LineOperation
         ensures { result ≡ refused why }
     {
-        Ask::Quick(QuickAsk::Bad(why))
+        LineOperation::Quick(QuickOperation::Bad(why))
     }
 
     /// Returns the operation, or a refusal if its setting or record needs more than these bounds.
-    pub(crate) fn within(self, most: &CostBounds) -> Ask
+    pub(crate) fn within(self, most: &CostBounds) -> LineOperation
         requires { IsSound self }
-        ensures ask { result ≡ within most.now self }
+        ensures operation { result ≡ within most.now self }
         ensures sound { IsSound result }
     {
         if self.is_costly(most) {
-            return Ask::refused(Refusal::Costly);
+            return LineOperation::refused(Refusal::Costly);
         }
         self
     }
@@ -73,12 +73,12 @@ impl Ask {
     pub(crate) fn is_reset(&self) -> bool
         ensures { result ≡ is_reset self.now }
     {
-        matches!(self, Ask::Reset(..))
+        matches!(self, LineOperation::Reset(..))
     }
 
     /// Whether the scribe does the operation when its line comes, without a hash.
     pub(crate) fn needs_no_hash(&self) -> bool {
-        matches!(self, Ask::Quick(_) | Ask::Forgive(_))
+        matches!(self, LineOperation::Quick(_) | LineOperation::Forgive(_))
     }
 
     /// Returns the account whose password the operation tries.
@@ -87,10 +87,13 @@ impl Ask {
         ensures tried { is_some result ≡ is_try self.now }
     {
         match self {
-            Ask::Whole(Request::Enrol { .. }) => None,
-            Ask::Whole(request) => Some(request.name()),
-            Ask::Login(name, ..) => Some(*name),
-            Ask::Quick(_) | Ask::Reset(..) | Ask::Forgive(_) | Ask::Later(..) => None,
+            LineOperation::Whole(Request::Enrol { .. }) => None,
+            LineOperation::Whole(request) => Some(request.name()),
+            LineOperation::Login(name, ..) => Some(*name),
+            LineOperation::Quick(_)
+            | LineOperation::Reset(..)
+            | LineOperation::Forgive(_)
+            | LineOperation::Later(..) => None,
         }
     }
 
@@ -98,10 +101,16 @@ impl Ask {
         ensures { result ≡ is_costly most.now self.now }
     {
         match self {
-            Ask::Quick(QuickAsk::Load(_, stored)) => exceeds(most, &stored.setting()),
-            Ask::Whole(request) => request_exceeds(most, request),
-            Ask::Reset(_, _, setting) => exceeds(most, setting),
-            Ask::Quick(_) | Ask::Login(..) | Ask::Forgive(_) | Ask::Later(..) => false,
+            LineOperation::Quick(QuickOperation::Load(_, stored)) => exceeds(
+                most,
+                &stored.setting(),
+            ),
+            LineOperation::Whole(request) => request_exceeds(most, request),
+            LineOperation::Reset(_, _, setting) => exceeds(most, setting),
+            LineOperation::Quick(_)
+            | LineOperation::Login(..)
+            | LineOperation::Forgive(_)
+            | LineOperation::Later(..) => false,
         }
     }
 }
@@ -110,62 +119,62 @@ impl Ask {
 const MOST_NAMES: u64 = 1000;
 
 /// Reads the operation of the words after the tag, with the drawn setting if the words give none.
-pub(crate) fn ask_of(drawn: Setting, words: &[&[u8]]) -> Result<Ask, Refusal>
+pub(crate) fn operation_of(drawn: Setting, words: &[&[u8]]) -> Result<LineOperation, Refusal>
     requires { is_current drawn.scheme ≡ true }
-    ensures ask { result ≡ ask_of drawn (map (λ s. s.now) words.now) }
+    ensures operation { result ≡ operation_of drawn (map (λ s. s.now) words.now) }
     ensures sound { IfOk result IsSound }
 {
     let [word, fields @ ..] = words else {
         return Err(Refusal::Line);
     };
     if *word == b"account".as_slice() {
-        Ok(Ask::Quick(QuickAsk::Account(fields::only_name(fields)?)))
+        Ok(LineOperation::Quick(QuickOperation::Account(fields::only_name(fields)?)))
     } else if *word == b"load".as_slice() {
         let (name, stored) = fields::name_and_record(fields)?;
-        Ok(Ask::Quick(QuickAsk::Load(name, stored)))
+        Ok(LineOperation::Quick(QuickOperation::Load(name, stored)))
     } else if *word == b"show".as_slice() {
-        Ok(Ask::Quick(QuickAsk::Show(fields::only_name(fields)?)))
+        Ok(LineOperation::Quick(QuickOperation::Show(fields::only_name(fields)?)))
     } else if *word == b"list".as_slice() {
-        Ok(Ask::Quick(list_ask(fields)?))
+        Ok(LineOperation::Quick(list_operation(fields)?))
     } else if *word == b"marks".as_slice() {
-        Ok(Ask::Quick(marks_ask(fields)?))
+        Ok(LineOperation::Quick(marks_operation(fields)?))
     } else if *word == b"disable".as_slice() {
-        Ok(Ask::Quick(disable_ask(fields)?))
+        Ok(LineOperation::Quick(disable_operation(fields)?))
     } else if *word == b"delete".as_slice() {
         let name = fields::only_name(fields)?;
-        Ok(Ask::Quick(QuickAsk::Edit(Edit::Delete(name))))
+        Ok(LineOperation::Quick(QuickOperation::OnAccount(AccountOperation::Delete(name))))
     } else if *word == b"rename".as_slice() {
-        Ok(Ask::Quick(rename_ask(fields)?))
+        Ok(LineOperation::Quick(rename_operation(fields)?))
     } else if *word == b"lock".as_slice() {
         let name = fields::only_name(fields)?;
-        Ok(Ask::Quick(QuickAsk::Edit(Edit::Lock(name))))
+        Ok(LineOperation::Quick(QuickOperation::OnAccount(AccountOperation::Lock(name))))
     } else if *word == b"unlock".as_slice() {
         let name = fields::only_name(fields)?;
-        Ok(Ask::Quick(QuickAsk::Edit(Edit::Unlock(name))))
+        Ok(LineOperation::Quick(QuickOperation::OnAccount(AccountOperation::Unlock(name))))
     } else if *word == b"expire".as_slice() {
         let name = fields::only_name(fields)?;
-        Ok(Ask::Quick(QuickAsk::Edit(Edit::Expire(name))))
+        Ok(LineOperation::Quick(QuickOperation::OnAccount(AccountOperation::Expire(name))))
     } else if *word == b"forgive".as_slice() {
-        Ok(Ask::Forgive(fields::only_name(fields)?))
+        Ok(LineOperation::Forgive(fields::only_name(fields)?))
     } else {
-        hashed_ask(drawn, word, fields)
+        hashed_operation(drawn, word, fields)
     }
 }
 
-fn list_ask(fields: &[&[u8]]) -> Result<QuickAsk, Refusal>
-    ensures { result ≡ list_ask (map (λ s. s.now) fields.now) }
+fn list_operation(fields: &[&[u8]]) -> Result<QuickOperation, Refusal>
+    ensures { result ≡ list_operation (map (λ s. s.now) fields.now) }
 {
     match fields {
-        [from, most] => Ok(QuickAsk::List(fields::name(from)?, count(most)?)),
+        [from, most] => Ok(QuickOperation::List(fields::name(from)?, count(most)?)),
         _ => Err(Refusal::Line),
     }
 }
 
-fn marks_ask(fields: &[&[u8]]) -> Result<QuickAsk, Refusal>
-    ensures { result ≡ marks_ask (map (λ s. s.now) fields.now) }
+fn marks_operation(fields: &[&[u8]]) -> Result<QuickOperation, Refusal>
+    ensures { result ≡ marks_operation (map (λ s. s.now) fields.now) }
 {
     match fields {
-        [from, most] => Ok(QuickAsk::ListMarks(fields::name(from)?, count(most)?)),
+        [from, most] => Ok(QuickOperation::ListMarks(fields::name(from)?, count(most)?)),
         _ => Err(Refusal::Line),
     }
 }
@@ -179,40 +188,43 @@ fn count(text: &[u8]) -> Result<u16, Refusal>
     }
 }
 
-fn disable_ask(fields: &[&[u8]]) -> Result<QuickAsk, Refusal>
-    ensures { result ≡ disable_ask (map (λ s. s.now) fields.now) }
+fn disable_operation(fields: &[&[u8]]) -> Result<QuickOperation, Refusal>
+    ensures { result ≡ disable_operation (map (λ s. s.now) fields.now) }
 {
     match fields {
-        [name] => Ok(QuickAsk::Edit(Edit::Disable(fields::name(name)?))),
+        [name] => Ok(QuickOperation::OnAccount(AccountOperation::Disable(fields::name(name)?))),
         [name, word] if *word == b"show".as_slice() => {
-            Ok(QuickAsk::DisableShown(fields::name(name)?))
+            Ok(QuickOperation::DisableShown(fields::name(name)?))
         }
         _ => Err(Refusal::Line),
     }
 }
 
-fn rename_ask(fields: &[&[u8]]) -> Result<QuickAsk, Refusal>
-    ensures { result ≡ rename_ask (map (λ s. s.now) fields.now) }
+fn rename_operation(fields: &[&[u8]]) -> Result<QuickOperation, Refusal>
+    ensures { result ≡ rename_operation (map (λ s. s.now) fields.now) }
 {
     match fields {
-        [name, new] => Ok(QuickAsk::Edit(Edit::Rename(fields::name(name)?, fields::name(new)?))),
+        [name, new] => Ok(QuickOperation::OnAccount(AccountOperation::Rename(
+            fields::name(name)?,
+            fields::name(new)?,
+        ))),
         _ => Err(Refusal::Line),
     }
 }
 
 /// Reads an operation that needs a hash.
-fn hashed_ask(drawn: Setting, word: &[u8], fields: &[&[u8]]) -> Result<Ask, Refusal>
+fn hashed_operation(drawn: Setting, word: &[u8], fields: &[&[u8]]) -> Result<LineOperation, Refusal>
     requires { is_current drawn.scheme ≡ true }
-    ensures ask { result ≡ hashed_ask drawn word.now (map (λ s. s.now) fields.now) }
+    ensures operation { result ≡ hashed_operation drawn word.now (map (λ s. s.now) fields.now) }
     ensures sound { IfOk result IsSound }
 {
     if word == b"login".as_slice() {
         let (name, pw) = fields::name_and_password(fields)?;
-        Ok(Ask::Login(name, pw, drawn))
+        Ok(LineOperation::Login(name, pw, drawn))
     } else if word == b"reset".as_slice() {
         let (name, pw, setting) = fields::name_password_setting(Some(drawn), fields)?;
-        Ok(Ask::Reset(name, pw, setting))
+        Ok(LineOperation::Reset(name, pw, setting))
     } else {
-        Ok(Ask::Whole(fields::request(Some(drawn), word, fields)?))
+        Ok(LineOperation::Whole(fields::request(Some(drawn), word, fields)?))
     }
 }

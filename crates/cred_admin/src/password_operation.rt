@@ -4,7 +4,7 @@ ghost use Rattle.std.specs.Prelude.{◌≡◌, Err, IfOk, OnErr, false, true};
 ghost use Rattle.std.specs.FinMap as map;
 ghost use Rattle.cred_book.specs.Works.{is_for_current, new_record};
 ghost use Rattle.cred_cli.specs.Watched.{Basis, failed_of, reading_on, writing_on};
-ghost use Rattle.cred_file.specs.Edits.{has_room_for};
+ghost use Rattle.cred_file.specs.Changes.{has_room_for};
 ghost use Rattle.cred_admin.specs.{Commands.ComesTo, Commands.Obeys, Commands.Works, Commands.as_told, Commands.enrolment, Commands.passwords_of, Commands.reset_step, Commands.takes_first, Marked.tried, Seen.FitsSince, Seen.seen};
 
 use crate::fault::Fault;
@@ -24,7 +24,7 @@ use std::thread::Threads;
 
 /// An operation on one account, which reads each of its passwords from a line.
 #[derive(Clone, Copy, Debug, PartialEq, Eq)]
-pub enum Operation {
+pub enum PasswordOperation {
     /// Stores the first record of the account, and adds the account if it doesn't exist. The answer
     /// is `enrolled`, or `exists`.
     Add(NewPassword),
@@ -43,15 +43,18 @@ pub enum Operation {
     Remove,
 }
 
-impl Operation {
+impl PasswordOperation {
     /// Returns the passwords that the operation reads.
     pub fn passwords(&self) -> Passwords
         ensures { result ≡ passwords_of self.now }
     {
         match self {
-            Operation::Check | Operation::Upgrade(_) | Operation::Remove => Passwords::Present,
-            Operation::Add(new) | Operation::Reset(new) => Passwords::New(new.empty),
-            Operation::Change(new) => Passwords::PresentAndNew(new.empty),
+            PasswordOperation::Check | PasswordOperation::Upgrade(_) | PasswordOperation::Remove =>
+                Passwords::Present,
+            PasswordOperation::Add(new) | PasswordOperation::Reset(new) => Passwords::New(
+                new.empty,
+            ),
+            PasswordOperation::Change(new) => Passwords::PresentAndNew(new.empty),
         }
     }
 
@@ -106,9 +109,9 @@ impl Operation {
             last: new_pw,
         } = *typed;
         match self {
-            Operation::Add(new) => enrol(tools, keeper, name, &new.setting, &new_pw),
-            Operation::Check => settle(tools, keeper, Request::Verify { name: *name, pw }),
-            Operation::Change(new) => {
+            PasswordOperation::Add(new) => enrol(tools, keeper, name, &new.setting, &new_pw),
+            PasswordOperation::Check => settle(tools, keeper, Request::Verify { name: *name, pw }),
+            PasswordOperation::Change(new) => {
                 let setting = new.setting.setting();
                 let change = Request::Change {
                     name: *name,
@@ -118,8 +121,8 @@ impl Operation {
                 };
                 settle(tools, keeper, change)
             }
-            Operation::Reset(new) => reset(tools, keeper, name, &new.setting, &new_pw),
-            Operation::Upgrade(new) => {
+            PasswordOperation::Reset(new) => reset(tools, keeper, name, &new.setting, &new_pw),
+            PasswordOperation::Upgrade(new) => {
                 let setting = new.setting();
                 let upgrade = Request::Upgrade {
                     name: *name,
@@ -128,7 +131,7 @@ impl Operation {
                 };
                 settle(tools, keeper, upgrade)
             }
-            Operation::Remove => settle(tools, keeper, Request::Remove { name: *name, pw }),
+            PasswordOperation::Remove => settle(tools, keeper, Request::Remove { name: *name, pw }),
         }
     }
 }

@@ -1,5 +1,5 @@
 use Rattle.cred_admin.proofs.Records.{no_account, done_whole}
-use Rattle.cred_admin.proofs.operation.settle.Goals as goal
+use Rattle.cred_admin.proofs.password_operation.settle.Goals as goal
 
 pub returns-in_default : goal.returns-in_default
 returns-in_default g c = no_account _ _ (rw c.accounts.ensures at c.in_default.ensures.1)

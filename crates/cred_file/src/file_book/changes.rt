@@ -5,7 +5,7 @@ ghost use Rattle.std.specs.Prelude.{◌≡◌, true, false, IfErr, IfSome, None,
 ghost use Rattle.std.specs.FinMap as fin;
 ghost use Rattle.cred_book.specs.{Accounts.register_capacity, Calls.AdmitsWithin, Calls.EntersWithin, Calls.Loads, Commits.Commits, Commits.judgement};
 ghost use Rattle.cred_book.specs.Works.{name_of};
-ghost use Rattle.cred_file.specs.Edits.{Deletes, PutsEntry, Renames, SetsMark};
+ghost use Rattle.cred_file.specs.Changes.{Deletes, PutsEntry, Renames, SetsMark};
 ghost use Rattle.cred_file.specs.{Cells.blank, Cells.cell, Cells.mark_at, Cells.marked, Cells.marking, Cells.renewal, Cells.renewed, Cells.unmarked, Kept.cells, Kept.mark_of};
 ghost use Rattle.cred_file.specs.{Failures.FailsToDelete, Failures.FailsToPut, Failures.FailsToRename, Failures.Loses, Failures.LosesForMemory, Failures.Remembers, Failures.WasClean};
 ghost use Rattle.cred_file.specs.declared.fault.Attempt.TheVariants as Attempt;
