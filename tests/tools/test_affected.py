@@ -75,7 +75,7 @@ class Affected(Case):
             self.assertEqual({*names}, {*chosen})
 
     @each(
-        ("crates/cred_many/specs/Asks.antt", ["cred_many", "credkeep"]),
+        ("crates/cred_many/specs/LineOperations.antt", ["cred_many", "credkeep"]),
         ("crates/cred_many/proofs/Lib.antt", ["cred_many", "credkeep"]),
         ("crates/crash_laws/src/lib.rt", ["crash_laws"]),
         ("crates/cred_many/README.md", []),
