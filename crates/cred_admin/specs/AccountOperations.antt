@@ -117,29 +117,30 @@ is_renamed _ = false
 
 -- a renaming needs room for one more name, which the book lacks
 abbrev pub lacks_room : ℕ → MarkedBook → AccountOperation → Bool
-lacks_room room book operation =
-    is_renamed (operated book operation).0 && not (nat_lt (map.len book.accounts) room)
+lacks_room capacity book operation =
+    is_renamed (operated book operation).0 && not (nat_lt (map.len book.accounts) capacity)
 
 -- the effect of a keeper's call; memory runs out only if the change could have been made
 abbrev pub OperatesWithin : ℕ → MarkedBook → MarkedBook → AccountOperation
     → Result AccountReply BookError → Type 0
-OperatesWithin room old new operation (Ok r) =
-    (lacks_room room old operation ≡ false) × ((r, new) ≡ operated old operation)
-OperatesWithin room old new operation (Err error.Full) =
-    (lacks_room room old operation ≡ true) × (new ≡ old)
-OperatesWithin room old new operation (Err error.Memory) =
-    (account_reply_status (operated old operation).0 ≡ Done) × (lacks_room room old operation ≡ false) × (new ≡ old)
-OperatesWithin room old new operation (Err _) = ⊥
+OperatesWithin capacity old new operation (Ok r) =
+    (lacks_room capacity old operation ≡ false) × ((r, new) ≡ operated old operation)
+OperatesWithin capacity old new operation (Err error.Full) =
+    (lacks_room capacity old operation ≡ true) × (new ≡ old)
+OperatesWithin capacity old new operation (Err error.Memory) =
+    (account_reply_status (operated old operation).0 ≡ Done)
+    × (lacks_room capacity old operation ≡ false) × (new ≡ old)
+OperatesWithin capacity old new operation (Err _) = ⊥
 
 -- ---- what comes of it
 
 -- the change is made, and answered or not; or it is not made, and nothing is written
 abbrev pub Operates : ℕ → MarkedBook → MarkedBook → AccountOperation → Writing
     → Result Status Fault → Type 0
-Operates room old new operation w ended = ((r : AccountReply)
-    × OperatesWithin room old new operation (Ok r)
+Operates capacity old new operation w ended = ((r : AccountReply)
+    × OperatesWithin capacity old new operation (Ok r)
     × Tells (told r) w ended × IfErr ended (λ e. e ≡ fault.Write))
-    ⊎ ((e : BookError) × OperatesWithin room old new operation (Err e)
+    ⊎ ((e : BookError) × OperatesWithin capacity old new operation (Err e)
     × (ended ≡ Err (fault_of_book e)) × Keeps w.before w.now)
 
 -- The line of the account is written, and then its record is removed. A fault leaves the account as

@@ -13,7 +13,7 @@ use sqlite::Alter;
 /// if memory runs out and no other error is due. The book then stays as it was.
 pub trait Host {
     ghost use Rattle.std.specs.Prelude.{◌≡◌, ℕ, Bool, None, Some};
-    ghost use Rattle.cred_book.specs.{Accounts.most_accounts, Calls.AdmitsWithin, Calls.Loads, Commits.Commits};
+    ghost use Rattle.cred_book.specs.{Accounts.book_capacity, Calls.AdmitsWithin, Calls.Loads, Commits.Commits};
     ghost use Rattle.cred_admin.specs.{AccountOperations.OperatesWithin, Marked.Becomes, Marked.MarkedBook, Marked.with_account, Marked.with_commit, Marked.with_put, Marked.with_record, Marked.with_replaced};
     ghost use Rattle.cred_file.specs.Changes.{PutsEntry, TakesIn};
     ghost use Rattle.std.specs.FinMap as map;
@@ -21,7 +21,7 @@ pub trait Host {
     /// The accounts with their marks.
     ghost book: { Self → MarkedBook };
 
-    ghost capacity: { ℕ } = { most_accounts };
+    ghost capacity: { ℕ } = { book_capacity };
 
     /// Whether the keeper has failed for good. It then makes no more changes, and the change that
     /// was under way may or may not be kept.

@@ -7,7 +7,7 @@ use Rattle.std.specs.FinMap.Entries.{find-where_key, is_sorted-put, is_sorted-wh
 use Rattle.std.specs.{Cmp.eq_by_cmp_equiv, Cmp.Lexicographic.nat_list_cmp_total}
 use Rattle.std.proofs.{lemmas.List.Edits.length-insert, lemmas.List.Edits.length-remove, Math.ListN.length-set}
 use Rattle.cred_phc.specs.Values.{RecordValue}
-use Rattle.cred_book.specs.{Accounts.Accounts, Accounts.IsKept, Accounts.most_accounts, Names.name_cmp, Places.IsPlaceOf, Places.IsGapFor}
+use Rattle.cred_book.specs.{Accounts.Accounts, Accounts.IsKept, Accounts.book_capacity, Names.name_cmp, Places.IsPlaceOf, Places.IsGapFor}
 use Rattle.cred_book.proofs.{Entries.at_place, Entries.find_gap, Entries.other, Entries.put_gap, Entries.remove_place, Rows.same_rows}
 
 abbrev pub Entries : Type 0
@@ -88,7 +88,7 @@ module _ (entries : Entries) (capacity : ℕ) (kept : IsKept entries capacity) (
     pub insert_there : (now : Option RecordValue) → map.from_sorted (insert entries i (name, now)) ≡ map.insert book name now
     insert_there now = subst (λ es. map.from_sorted es ≡ map.insert book name now) (put_gap name_cmp nat_list_cmp_total entries name now i gap) (put_of now)
 
-    pub kept_insert : (now : Option RecordValue) (room : ℕ) → map.len book < most_accounts → most_accounts ≤ room → IsKept (insert entries i (name, now)) room
+    pub kept_insert : (now : Option RecordValue) (room : ℕ) → map.len book < book_capacity → book_capacity ≤ room → IsKept (insert entries i (name, now)) room
     kept_insert now room few fits = record {
       sorted = subst (λ es. T (map.is_sorted name_cmp es)) (put_gap name_cmp nat_list_cmp_total entries name now i gap) (sorted_put now);
       few = rw (length-insert entries i (name, now) gap.within) (omega (arith, len_of entries kept.sorted book view, few));
@@ -104,7 +104,7 @@ module _ (book : Accounts) (es : Entries) (is : es ≡ map.entries book) where
   sorted_whole : T (map.is_sorted name_cmp es)
   sorted_whole = subst (λ es. T (map.is_sorted name_cmp es)) (sym is) (map.entries_sorted book)
 
-  pub kept_whole : (capacity : ℕ) → map.len book ≤ most_accounts → most_accounts ≤ capacity → IsKept es capacity
+  pub kept_whole : (capacity : ℕ) → map.len book ≤ book_capacity → book_capacity ≤ capacity → IsKept es capacity
   kept_whole capacity few room = record { sorted = sorted_whole; few = omega (arith, few, map.len-entries book, ap length is); room = room }
 
   pub view_whole : map.from_sorted es ≡ book

@@ -20,7 +20,7 @@ use std::sync::Wait;
 /// The calls that take `rt` may wait. They answer `Memory` if memory runs out and no other error is
 /// due, and then change nothing.
 pub trait Keeper {
-    ghost use Rattle.cred_book.specs.Accounts.{Accounts, most_accounts};
+    ghost use Rattle.cred_book.specs.Accounts.{Accounts, book_capacity};
     ghost use Rattle.std.specs.Prelude.{◌≡◌, ℕ, true};
     ghost use Rattle.cred_book.specs.Calls.{AdmitsWithin, Loads, Shows};
     ghost use Rattle.cred_book.specs.Commits.{Begins, Commits};
@@ -28,7 +28,7 @@ pub trait Keeper {
 
     ghost book: { Self → Accounts };
 
-    ghost capacity: { ℕ } = { most_accounts };
+    ghost capacity: { ℕ } = { book_capacity };
 
     /// Adds a name, with no record.
     ///

@@ -3,7 +3,7 @@
 ghost use Rattle.std.specs.Prelude.{◌≡◌, ◌⊎◌, ◌<◌, IfOk, IfErr, MatchResult, T};
 ghost use Rattle.std.specs.FinMap as map;
 ghost use Rattle.std.specs.Slice.Iter.{iter_rest};
-ghost use Rattle.cred_book.specs.{Accounts.most_accounts, Accounts.with_entry};
+ghost use Rattle.cred_book.specs.{Accounts.book_capacity, Accounts.with_entry};
 ghost use Rattle.cred_book.specs.{Names.name_cmp, Places.IsGapFor, Places.IsPlaceOf};
 
 use crate::account_book::AccountBook;
@@ -17,7 +17,7 @@ use std::marker::Model;
 use std::slice;
 
 /// The maximum number of names in a book.
-const MOST_ACCOUNTS: usize = 4096;
+const BOOK_CAPACITY: usize = 4096;
 
 /// A map from at most 4096 names to at most one record each.
 ///
@@ -32,7 +32,7 @@ impl Book {
         ensures empty { IfOk result (λ book. book ≡ map.empty) }
         ensures memory { IfErr result (λ e. e ≡ BookError.Memory) }
     {
-        let entries = Vec::with_capacity(alloc, MOST_ACCOUNTS)?;
+        let entries = Vec::with_capacity(alloc, BOOK_CAPACITY)?;
         Ok(AccountBook {
             accounts: AccountArray { entries },
         })
@@ -45,12 +45,12 @@ impl Book {
     pub fn from_register(alloc: Global, register: &Register) -> Result<Book, BookError>
         ensures equal { IfOk result (λ book. book ≡ register.now) }
         ensures refused { IfErr result (λ e. (e ≡ BookError.Memory)
-            ⊎ ((e ≡ BookError.Full) × (most_accounts < map.len register.now))) }
+            ⊎ ((e ≡ BookError.Full) × (book_capacity < map.len register.now))) }
     {
-        if register.len() > MOST_ACCOUNTS {
+        if register.len() > BOOK_CAPACITY {
             return Err(BookError::Full);
         }
-        let mut copied = Vec::with_capacity(alloc, MOST_ACCOUNTS)?;
+        let mut copied = Vec::with_capacity(alloc, BOOK_CAPACITY)?;
         for (name, slot) in register.iter() {
             match copied.push((*name, slot.stored())) {
                 Ok(()) => {}
@@ -109,13 +109,13 @@ impl Model for AccountArray {
 }
 
 impl AccountMap for AccountArray {
-    ghost use Rattle.cred_book.specs.Accounts.{most_accounts};
+    ghost use Rattle.cred_book.specs.Accounts.{book_capacity};
 
     ghost accounts = { λ a. a };
 
-    const CAPACITY: usize = MOST_ACCOUNTS;
+    const CAPACITY: usize = BOOK_CAPACITY;
 
-    ghost CAPACITY = { most_accounts };
+    ghost CAPACITY = { book_capacity };
 
     ghost may_run_out = { ⊥ };
 
@@ -137,7 +137,7 @@ impl AccountMap for AccountArray {
         let Err(place) = place_of(&self.entries, &name) else {
             return Err(BookError::Exists);
         };
-        if self.len() >= MOST_ACCOUNTS {
+        if self.len() >= BOOK_CAPACITY {
             return Err(BookError::Full);
         }
         match self.entries.insert(place, (name, stored)) {
@@ -160,7 +160,7 @@ impl AccountMap for AccountArray {
     }
 
     fn copy(&self) -> Result<AccountArray, AllocError> {
-        let mut entries = Vec::with_capacity(*self.entries.allocator(), MOST_ACCOUNTS)?;
+        let mut entries = Vec::with_capacity(*self.entries.allocator(), BOOK_CAPACITY)?;
         entries.extend_from_slice(&self.entries)?;
         Ok(AccountArray { entries })
     }

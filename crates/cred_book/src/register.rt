@@ -13,7 +13,7 @@ use std::collections::{BTreeMap, btree_map};
 use std::marker::Model;
 
 /// The maximum number of names in a register.
-const MOST_NAMES: usize = 16_777_216;
+const REGISTER_CAPACITY: usize = 16_777_216;
 
 /// A map from at most 2^24 names to at most one record each.
 ///
@@ -70,7 +70,7 @@ impl AccountMap for AccountTree {
 
     ghost accounts = { λ t. t };
 
-    const CAPACITY: usize = MOST_NAMES;
+    const CAPACITY: usize = REGISTER_CAPACITY;
 
     ghost CAPACITY = { register_capacity };
 
@@ -91,7 +91,7 @@ impl AccountMap for AccountTree {
     }
 
     fn enter(&mut self, name: Name, stored: Option<Record>) -> Result<(), BookError> {
-        if self.len() >= MOST_NAMES {
+        if self.len() >= REGISTER_CAPACITY {
             if self.get(&name).is_some() {
                 return Err(BookError::Exists);
             }

@@ -1,7 +1,7 @@
 -- The end of the program.
 use Rattle.std.proofs.{Common.◌≡◌, Common.ℕ, Common.◌≤◌, Common.List, Common.[], Common.length, Common.Option, Common.Some, Common.None, Common.Bool, Common.Result, Common.Ok, Common.Err, Common.OnOk, Common.IfOk, Common.IfErr, Common.IfSome, Common.inl, Common.inr, Common.refl, lemmas.Option.IfSome_then}
 use Rattle.std.specs.FinMap as map
-use Rattle.cred_book.specs.Accounts.{Accounts, most_accounts}
+use Rattle.cred_book.specs.Accounts.{Accounts, book_capacity}
 use Rattle.cred_cli.specs.{declared.fault.ScriptFault.ScriptFault, declared.fault.ScriptFault.TheVariants.Memory, Statuses.status_number, Statuses.status_of, Script.events_of, Script.script_start, Scripts.ScriptEnds}
 use Rattle.cred_cli.specs.{Commands.Runs, declared.exit_status.ExitStatus.TheVariants.Done, declared.script.End.End, Calls.Call, Watched.Reading, Watched.Writing, Outcome.HasCause, Outcome.IsAnswered, Outcome.ScriptFails, Outcome.longest_script, Prompt.IsPrompt}
 use Rattle.cred_cli.proofs.{Prompts.no_calls, Readings.if_known, Readings.nothing_done}
@@ -33,21 +33,21 @@ no_memory r before failed name status unread is = inr (
   Memory,
   is,
   record {
-    stands = if_known r.input _ (λ bs known. (map.empty, (0, inr refl, nothing_done most_accounts map.empty (events_of bs) before)));
+    stands = if_known r.input _ (λ bs known. (map.empty, (0, inr refl, nothing_done book_capacity map.empty (events_of bs) before)));
     cause = tt;
-    prompt = no_calls most_accounts map.empty name before r.input r.log unread;
+    prompt = no_calls book_capacity map.empty name before r.input r.log unread;
   },
 )
 
 -- the script met a fault
 pub run_fails : (book : Accounts) (r : Reading) (w : Writing) (accounts : Accounts) (fault : ScriptFault) (status : ℕ) →
-    book ≡ map.empty → status ≡ status_number (status_of fault) → IfSome r.input (λ bs. ScriptFails most_accounts (script_start book bs w.before) r.left w.now accounts fault) → HasCause r.failed w.failed fault →
-    IfSome r.input (λ bs. IsPrompt most_accounts (script_start book bs w.before) w.name r.log) → Runs r w status
+    book ≡ map.empty → status ≡ status_number (status_of fault) → IfSome r.input (λ bs. ScriptFails book_capacity (script_start book bs w.before) r.left w.now accounts fault) → HasCause r.failed w.failed fault →
+    IfSome r.input (λ bs. IsPrompt book_capacity (script_start book bs w.before) w.name r.log) → Runs r w status
 run_fails book r w accounts fault status empty is fails cause prompt =
     inr (fault, is, record { stands = IfSome_then r.input fails (λ bs h. (accounts, rw empty at h)); cause = cause; prompt = rw empty at prompt })
 
 -- the script was answered whole
 pub runs_whole : (book new : Accounts) (bytes : List ℕ) (left : Option (List ℕ)) (failed : Bool) (log : List Call) (w : Writing) (end_ : End) (status : ℕ) → book ≡ map.empty → status ≡ status_number Done →
-    ScriptEnds most_accounts (script_start book bytes w.before) (record { input = Some bytes; left = left; failed = failed; log = log }) w new (Ok end_) → Runs (record { input = Some bytes; left = left; failed = failed; log = log }) w status
+    ScriptEnds book_capacity (script_start book bytes w.before) (record { input = Some bytes; left = left; failed = failed; log = log }) w new (Ok end_) → Runs (record { input = Some bytes; left = left; failed = failed; log = log }) w status
 runs_whole book new bytes left failed log w end_ status empty is ended =
     inl (is, record { written = rw empty at ended.done.written; short = ended.short; prompt = rw empty at ended.prompt })

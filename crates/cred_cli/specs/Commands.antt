@@ -3,7 +3,7 @@ use Rattle.std.specs.{Io.KnownBytes.Appends, Io.KnownBytes.Keeps, Option.ok_or, 
 use Rattle.std.specs.Prelude.{◌≡◌, ◌⊎◌, ℕ, ◌≤◌, Bool, true, false, if◌then◌else◌, Option, Some, None, IfSome, Result, Ok, List, [], ◌∷◌, ◌++◌, length, codes, MatchBool, MatchResult}
 use Rattle.clap.specs.Words.{Row, Text, first_of}
 use Rattle.cred_phc.specs.{Base64.bytes_of, Reading.◌>>=◌, Values.RecordValue, Values.SettingValue}
-use Rattle.cred_book.specs.{Accounts.Accounts, Accounts.most_accounts, Works.new_record, Works.right}
+use Rattle.cred_book.specs.{Accounts.Accounts, Accounts.book_capacity, Works.new_record, Works.right}
 use Rattle.cred_cli.specs.{Events.record_field, Events.setting_field, History.Shown, declared.exit_status.ExitStatus.ExitStatus}
 use Rattle.cred_cli.specs.{Outcome.FrontWritten, Outcome.HasCause, Outcome.ScriptFails, Outcome.longest_script, Prompt.IsPrompt}
 use Rattle.cred_cli.specs.{Script.out, Script.script_start, Statuses.status_number, Statuses.status_of, Texts.line_of, Watched.Reading, Watched.Writing}
@@ -13,19 +13,19 @@ use Rattle.std.specs.FinMap as map
 
 -- at each call on the reader of a script on an empty book, the lines that had come had answers
 abbrev pub RunsPrompt : Reading → Writing → Type 0
-RunsPrompt r w = IfSome r.input (λ bytes. IsPrompt most_accounts
+RunsPrompt r w = IfSome r.input (λ bytes. IsPrompt book_capacity
     (script_start map.empty bytes w.before) w.name r.log)
 
 -- all lines of a script on an empty book have answers
 pub record RunsWhole (r : Reading) (w : Writing) : Type 0 where
-  pub written : IfSome r.input (λ bytes. Appends w.before w.now (out most_accounts map.empty bytes))
+  pub written : IfSome r.input (λ bytes. Appends w.before w.now (out book_capacity map.empty bytes))
   pub short : IfSome r.input (λ bytes. length bytes ≤ longest_script)
   pub prompt : RunsPrompt r w
 
 -- or the script met a fault, and its book is gone
 pub record RunFails (r : Reading) (w : Writing) (fault : ScriptFault) : Type 0 where
   pub stands : IfSome r.input (λ bytes. (accounts : Accounts)
-      × ScriptFails most_accounts (script_start map.empty bytes w.before) r.left w.now accounts
+      × ScriptFails book_capacity (script_start map.empty bytes w.before) r.left w.now accounts
       fault)
   pub cause : HasCause r.failed w.failed fault
   pub prompt : RunsPrompt r w

@@ -2,7 +2,7 @@
 use Rattle.std.specs.Prelude.{◌≡◌, ◌⊎◌, ℕ, ◌<◌, List, [], ◌∷◌, Bool, true, false, Option, Some, None}
 use Rattle.std.specs.FinMap as map
 use Rattle.cred_phc.specs.{Tags.tag, Values.RecordValue, Values.IsPassword}
-use Rattle.cred_book.specs.{Accounts.Accounts, Accounts.most_accounts, Works.right}
+use Rattle.cred_book.specs.{Accounts.Accounts, Accounts.book_capacity, Works.right}
 use Rattle.cred_desk.specs.declared.entry.AccountState.{AccountState}
 use Rattle.cred_desk.specs.declared.entry.AccountState.TheVariants as state
 use Rattle.cred_desk.specs.declared.entry.Entry.{Entry}
@@ -69,7 +69,7 @@ IsMade book entry = FollowsAt (map.get book entry.name) entry.now
 
 -- a new name, with no record, while there is room
 abbrev pub IsAdmitted : Accounts → Entry → Type 0
-IsAdmitted book entry = (map.contains_key book entry.name ≡ false) × (map.len book < most_accounts)
+IsAdmitted book entry = (map.contains_key book entry.name ≡ false) × (map.len book < book_capacity)
     × (entry.now ≡ state.NoRecord)
 
 -- a record at a name that the book has

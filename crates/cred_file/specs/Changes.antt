@@ -73,18 +73,18 @@ Becomes old new after (Err _) = new ≡ old
 
 -- the name is there, or there is room for one more
 abbrev pub has_room_for : ℕ → Accounts → List ℕ → Bool
-has_room_for room book name = fin.contains_key book name || nat_lt (fin.len book) room
+has_room_for capacity book name = fin.contains_key book name || nat_lt (fin.len book) capacity
 
 -- the entry is in the book from now on; memory runs out only if the entry would have been put
 abbrev pub PutsEntry : ℕ → Accounts → Accounts → List ℕ → Option RecordValue
     → Result (Unit {0}) BookError → Type 0
-PutsEntry room old new name stored (Ok _) =
-    (has_room_for room old name ≡ true) × (new ≡ fin.insert old name stored)
-PutsEntry room old new name stored (Err error.Full) =
-    (has_room_for room old name ≡ false) × (new ≡ old)
-PutsEntry room old new name stored (Err error.Memory) =
-    (has_room_for room old name ≡ true) × (new ≡ old)
-PutsEntry room old new name stored (Err _) = ⊥
+PutsEntry capacity old new name stored (Ok _) =
+    (has_room_for capacity old name ≡ true) × (new ≡ fin.insert old name stored)
+PutsEntry capacity old new name stored (Err error.Full) =
+    (has_room_for capacity old name ≡ false) × (new ≡ old)
+PutsEntry capacity old new name stored (Err error.Memory) =
+    (has_room_for capacity old name ≡ true) × (new ≡ old)
+PutsEntry capacity old new name stored (Err _) = ⊥
 
 -- the name is removed; memory runs out only if the name is there
 abbrev pub Deletes : Accounts → Accounts → List ℕ → Result (Unit {0}) BookError → Type 0
@@ -102,17 +102,17 @@ MayRename book name other =
 -- room for one more. Memory runs out only if there is room.
 abbrev pub Renames : ℕ → Accounts → Accounts → List ℕ → List ℕ
     → Result (Unit {0}) BookError → Type 0
-Renames room old new name other (Ok _) =
+Renames capacity old new name other (Ok _) =
     MayRename old name other × (new ≡ renamed old name other)
-Renames room old new name other (Err error.NoAccount) =
+Renames capacity old new name other (Err error.NoAccount) =
     (fin.contains_key old name ≡ false) × (new ≡ old)
-Renames room old new name other (Err error.Exists) =
+Renames capacity old new name other (Err error.Exists) =
     (fin.contains_key old name ≡ true) × (fin.contains_key old other ≡ true) × (new ≡ old)
-Renames room old new name other (Err error.Full) =
-    MayRename old name other × (room ≤ fin.len old) × (new ≡ old)
-Renames room old new name other (Err error.Memory) =
-    MayRename old name other × (fin.len old < room) × (new ≡ old)
-Renames room old new name other (Err error.Name) = ⊥
+Renames capacity old new name other (Err error.Full) =
+    MayRename old name other × (capacity ≤ fin.len old) × (new ≡ old)
+Renames capacity old new name other (Err error.Memory) =
+    MayRename old name other × (fin.len old < capacity) × (new ≡ old)
+Renames capacity old new name other (Err error.Name) = ⊥
 
 -- a name is in both
 abbrev pub Meet : Accounts → Accounts → Type 0
@@ -135,15 +135,15 @@ MayTakeIn book added changed = AreApart book added × AreThere book changed
 -- all accounts are added and changed, or none
 abbrev pub TakesIn : ℕ → Accounts → Accounts → Accounts → Accounts → Result (Unit {0}) BookError
     → Type 0
-TakesIn room old new added changed (Ok _) = MayTakeIn old added changed
-    × (fin.len old + fin.len added ≤ room) × (new ≡ taken_in old added changed)
-TakesIn room old new added changed (Err error.Exists) = Meet old added × (new ≡ old)
-TakesIn room old new added changed (Err error.NoAccount) = Misses old changed × (new ≡ old)
-TakesIn room old new added changed (Err error.Full) = MayTakeIn old added changed
-    × (room < fin.len old + fin.len added) × (new ≡ old)
-TakesIn room old new added changed (Err error.Memory) = MayTakeIn old added changed
-    × (fin.len old + fin.len added ≤ room) × (new ≡ old)
-TakesIn room old new added changed (Err error.Name) = ⊥
+TakesIn capacity old new added changed (Ok _) = MayTakeIn old added changed
+    × (fin.len old + fin.len added ≤ capacity) × (new ≡ taken_in old added changed)
+TakesIn capacity old new added changed (Err error.Exists) = Meet old added × (new ≡ old)
+TakesIn capacity old new added changed (Err error.NoAccount) = Misses old changed × (new ≡ old)
+TakesIn capacity old new added changed (Err error.Full) = MayTakeIn old added changed
+    × (capacity < fin.len old + fin.len added) × (new ≡ old)
+TakesIn capacity old new added changed (Err error.Memory) = MayTakeIn old added changed
+    × (fin.len old + fin.len added ≤ capacity) × (new ≡ old)
+TakesIn capacity old new added changed (Err error.Name) = ⊥
 
 -- the mark of a name that is there is this one, and all else stays
 abbrev pub SetsMark : Accounts → Accounts → AllMarks → AllMarks → List ℕ → Mark

@@ -17,7 +17,7 @@ const C: &str =
     "$argon2id$v=19$m=256,t=2,p=1$c29tZXNhbHQ$gDtqOITe98Nz/qtXYCa3i4YhZKLmbzlEcxv5kGzWG0U";
 
 /// The number of names that a book has room for.
-const MOST_ACCOUNTS: usize = 4096;
+const BOOK_CAPACITY: usize = 4096;
 
 /// Makes every kind of change.
 #[test]
@@ -56,7 +56,7 @@ fn deletions_are_kept(rt: HostRuntime) {
 /// last one.
 fn full_book<R: Abort>(rt: &R, alloc: Global) -> Option<Book> {
     let mut book = Book::new(alloc).ok()?;
-    for place in 0..MOST_ACCOUNTS {
+    for place in 0..BOOK_CAPACITY {
         let number = 1_000 + place;
         let text = format!(in alloc; "a-name-of-thirty-two-bytes--{number}").ok()?;
         book.admit(name(rt, text.as_str())).ok()?;
