@@ -15,6 +15,8 @@ failed.
 
 from __future__ import annotations
 
+import collections
+import itertools
 import pathlib
 import re
 import subprocess
@@ -22,6 +24,7 @@ import sys
 from collections.abc import Iterable, Iterator
 
 import definitions_page
+import items
 import pictures
 import promises
 import statements
@@ -43,6 +46,8 @@ MOST = {
     "words in README.md": 650,
     "bytes in README.md": 5000,
     "lines of over 100 columns in src/ and specs/": 25,
+    "clauses that two functions share": 7,
+    "lines of longer clauses that stand again": 80,
     "lines that tools/english.txt finds": 158,
 }
 FOLDERS = (
@@ -104,9 +109,43 @@ def found_in_english() -> int:
     return sum(bool(forms.search(it)) for page in pages for it in without_code(page).splitlines())
 
 
+def functions_in(found: Iterable[items.Item]) -> Iterator[items.Item]:
+    """Yields the functions among some items, and those of their impls, traits and modules."""
+    for item in found:
+        yield from [item] if item.kind == "fn" else functions_in(item.inner)
+
+
+def clauses() -> Iterator[tuple[int, str]]:
+    """Yields each clause of the crates but tests and examples, with a number for its function."""
+    files = sorted(CRATES.glob("*/src/**/*.rt"))
+    read = [it for it in files if not is_test_or_example(it.relative_to(CRATES).parts[0])]
+    functions = (fn for file in read for fn in functions_in(items.File(source(file)).items()))
+    for number, function in enumerate(functions):
+        for clause in function.clauses:
+            yield number, f"{clause.kind} {clause.name} {{{clause.text}}}"
+
+
+def shared_clauses() -> dict[str, int]:
+    """Counts the clauses that the two most similar functions share word for word, and the lines of
+    longer clauses behind the first function that has them."""
+    of_clause = collections.defaultdict(set)
+    for number, text in clauses():
+        of_clause[text].add(number)
+    pairs: collections.Counter[tuple[int, int]] = collections.Counter()
+    again = 0
+    for text, functions in of_clause.items():
+        pairs.update(itertools.combinations(sorted(functions), 2))
+        lines = text.count("\n") + 1
+        again += (len(functions) - 1) * lines if lines > 1 else 0
+    return {
+        "clauses that two functions share": max(pairs.values()),
+        "lines of longer clauses that stand again": again,
+    }
+
+
 def house() -> Facts:
-    """Checks the bounded counts: README's words and bytes, long lines of code, and lines that
-    tools/english.txt finds."""
+    """Checks the bounded counts: README's words and bytes, long lines of code, repeated clauses,
+    and lines that tools/english.txt finds."""
     readme, lines = README.read_text(), 0
     for file in [*CRATES.glob("*/src/**/*.rt"), *CRATES.glob("*/specs/**/*.antt")]:
         lines += sum(len(it) > 100 and "use " not in it for it in source(file).splitlines())
@@ -115,6 +154,7 @@ def house() -> Facts:
         "bytes in README.md": len(readme.encode()),
         "lines of over 100 columns in src/ and specs/": lines,
         "lines that tools/english.txt finds": found_in_english(),
+        **shared_clauses(),
     }
     for what, count in counts.items():
         wrong = f"{count} {what}: the limit is {MOST[what]}"
