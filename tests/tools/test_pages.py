@@ -23,6 +23,29 @@ SAID = "README.md lacks `{}`, which docs/BUILDING.md has"
 CRATES = {"low": ("low", []), "other": ("other", ["std"]), "high": ("high", ["low", "other"])}
 ROW = "| [{0}](../crates/{0}) | what it gives |\n"
 TESTS = "| [high](../crates/high), [low](../crates/low) | both |\n"
+SHARING = """pub fn one(x: u8) -> u8
+    requires small { x ≤ 7 }
+    ensures same { result
+        ≡ x }
+{
+    x
+}
+struct Other;
+impl Other {
+    fn two(&self, x: u8) -> u8
+        requires small { x ≤ 7 }
+        ensures same { result
+        ≡ x }
+        ensures { 0 ≤ result };
+    fn three(&self, x: u8) -> u8
+        requires small { x ≤ 8 }
+        ensures same { result
+        ≡ x }
+    {
+        x
+    }
+}
+"""
 
 
 class Pages(Case):
@@ -77,6 +100,16 @@ class Pages(Case):
         with mock.patch.object(pages, "TOP", room):
             found = [it for it in pages.merges() if it]
         self.assertEqual(found, ["a.md has the marks of a merge"])
+
+    def test_shared_clauses(self) -> None:
+        """Two functions share the clauses that are equal word for word, and the lines of a clause
+        of several lines count from its second function on. Examples don't count."""
+        room = self.room()
+        write_files(room, {"low/src/lib.rt": SHARING, "example_of_use/src/lib.rt": SHARING})
+        with mock.patch.object(pages, "CRATES", room):
+            found = pages.shared_clauses()
+        again = "lines of longer clauses that stand again"
+        self.assertEqual(found, {"clauses that two functions share": 2, again: 4})
 
     def test_statements(self) -> None:
         """The tool compares the promises too."""
