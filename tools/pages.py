@@ -15,20 +15,19 @@ failed.
 
 from __future__ import annotations
 
-import collections
-import itertools
 import pathlib
 import re
 import subprocess
 import sys
 from collections.abc import Iterable, Iterator
 
+import contracts
 import definitions_page
-import items
 import pictures
 import promises
 import statements
 import tree
+import wrong_body
 from tree import CRATES, TOP, has_edit, has_test, is_test_or_example, listed, report, source
 
 PAGES = [
@@ -109,40 +108,6 @@ def found_in_english() -> int:
     return sum(bool(forms.search(it)) for page in pages for it in without_code(page).splitlines())
 
 
-def functions_in(found: Iterable[items.Item]) -> Iterator[items.Item]:
-    """Yields the functions among some items, and those of their impls, traits and modules."""
-    for item in found:
-        yield from [item] if item.kind == "fn" else functions_in(item.inner)
-
-
-def clauses() -> Iterator[tuple[int, str]]:
-    """Yields each clause of the crates but tests and examples, with a number for its function."""
-    files = sorted(CRATES.glob("*/src/**/*.rt"))
-    read = [it for it in files if not is_test_or_example(it.relative_to(CRATES).parts[0])]
-    functions = (fn for file in read for fn in functions_in(items.File(source(file)).items()))
-    for number, function in enumerate(functions):
-        for clause in function.clauses:
-            yield number, f"{clause.kind} {clause.name} {{{clause.text}}}"
-
-
-def shared_clauses() -> dict[str, int]:
-    """Counts the clauses that the two most similar functions share word for word, and the lines of
-    longer clauses behind the first function that has them."""
-    of_clause = collections.defaultdict(set)
-    for number, text in clauses():
-        of_clause[text].add(number)
-    pairs: collections.Counter[tuple[int, int]] = collections.Counter()
-    again = 0
-    for text, functions in of_clause.items():
-        pairs.update(itertools.combinations(sorted(functions), 2))
-        lines = text.count("\n") + 1
-        again += (len(functions) - 1) * lines if lines > 1 else 0
-    return {
-        "clauses that two functions share": max(pairs.values()),
-        "lines of longer clauses that stand again": again,
-    }
-
-
 def house() -> Facts:
     """Checks the bounded counts: README's words and bytes, long lines of code, repeated clauses,
     and lines that tools/english.txt finds."""
@@ -154,7 +119,7 @@ def house() -> Facts:
         "bytes in README.md": len(readme.encode()),
         "lines of over 100 columns in src/ and specs/": lines,
         "lines that tools/english.txt finds": found_in_english(),
-        **shared_clauses(),
+        **contracts.shared_clauses(),
     }
     for what, count in counts.items():
         wrong = f"{count} {what}: the limit is {MOST[what]}"
@@ -238,6 +203,16 @@ def planted() -> Facts:
         lost = [it for it in places if not stands(it)]
         wrong = f"docs/PLANTED.md: {name}: {', '.join(lost) or 'no place'} isn't there"
         yield wrong if lost or not places else None
+
+
+def applied() -> Facts:
+    """Yields each wrong body whose old text isn't once in its crate."""
+    for crate in sorted({it.parent.parent for it in CRATES.glob("*/wrong-bodies/*.edit")}):
+        files = [it for part in ("src", "specs", "proofs") for it in (crate / part).rglob("*.*")]
+        texts = {str(it.relative_to(crate)): source(it) for it in files}
+        for path in sorted(crate.glob("wrong-bodies/*.edit")):
+            edit = wrong_body.Edit(path)
+            yield None if edit.planted(texts) else f"{edit} doesn't apply"
 
 
 def without_code(text: str) -> str:
@@ -356,6 +331,7 @@ OF_TREE = (
     times,
     variables,
     planted,
+    applied,
     rooms,
     order,
     definitions,

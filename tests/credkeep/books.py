@@ -51,7 +51,7 @@ class Change(NamedTuple):
 # The words of a service whose own costs are cheap.
 SERVE = ("serve", "--tagged", "--setting", CHEAP)
 
-EDITS = [
+WITHOUT_PASSWORD = [
     Change({"ann": RECORD, "cat": ""}, ["rename", "ann", "bob"], {"bob": RECORD, "cat": ""}),
     Change({"ann": RECORD, "cat": ""}, ["disable", "ann"], {"ann": "", "cat": ""}),
     Change({"ann": RECORD, "cat": ""}, ["delete", "ann"], {"cat": ""}),

@@ -147,8 +147,8 @@ class OthersTest(ImportTest):
         accounts = {"ann": RECORD, "ann.x": SCRYPT, "bob": OTHER, "cat": RECORD, "dan": ""}
         accounts |= {"eve": RECORD, "fay": RECORD}
         self.begun(accounts)
-        for edit, name in (("lock", "eve"), ("expire", "fay"), ("lock", "dan")):
-            self.assertEqual(self.book(edit, name).status, 0)
+        for command, name in (("lock", "eve"), ("expire", "fay"), ("lock", "dan")):
+            self.assertEqual(self.book(command, name).status, 0)
         without = {**accounts, "eve": "", "fay": ""}
         self.run_in_room(of_the_page("credkeep users.db backup copy.db && credkeep copy.db export"))
         self.check_lines(without)

@@ -6,7 +6,16 @@ import tempfile
 from collections.abc import Callable
 from typing import Any
 
-from tests.credkeep.books import DONE, EDITS, OTHER, RECORD, SERVE, SETTING, Accounts, Book
+from tests.credkeep.books import (
+    DONE,
+    OTHER,
+    RECORD,
+    SERVE,
+    SETTING,
+    WITHOUT_PASSWORD,
+    Accounts,
+    Book,
+)
 from tests.credkeep.books import BookTest, Change, fails, lines_of
 from tests.helpers import Ended, Found, Stop, each, ended, need, need_native
 
@@ -26,7 +35,7 @@ HALF = {name: OTHER for name in [*MANY][::2]}
 RESET = ["reset", "ann", "--setting", SETTING]
 # Changes, and what their texts call them.
 COMMANDS = [
-    *((it, "the change of ann") for it in EDITS),
+    *((it, "the change of ann") for it in WITHOUT_PASSWORD),
     (Change({"ann": OTHER}, RESET, {"ann": RECORD}, "password\n"), "the change of ann"),
     (Change({}, ["import"], MANY, lines_of(MANY)), "the 200 new accounts"),
     (Change(HALF, ["import", "--update"], MANY, lines_of(MANY)), "and the records of 100 others"),

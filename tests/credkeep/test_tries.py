@@ -261,14 +261,14 @@ class PlacesTest(BookTest):
                 no = [f"{name} no" for name in LATE]
                 self.assertEqual([it for it in after if it in no], no)
 
-    def test_edits_behind_a_change(self) -> None:
+    def test_operations_behind_a_change(self) -> None:
         """A line without a hash that comes after a right password's hash waits for its change."""
-        for (line, (right, _)), edit in itertools.product(CHANGING.items(), WITHOUT_HASH):
+        for (line, (right, _)), operation in itertools.product(CHANGING.items(), WITHOUT_HASH):
             lines = [*BEFORE_A_TRY, f"try {line.format(OLD)}", *map(change_of, BEHIND)]
-            with self.subTest(edit, line=line):
-                answers = self.answers(State([], [], [], ""), lines, [f"edit {edit}"])
-                found = [it.split()[0] for it in answers if it.startswith(("try", "edit"))]
-                self.assertEqual(found, ["try", "edit"])
+            with self.subTest(operation, line=line):
+                answers = self.answers(State([], [], [], ""), lines, [f"next {operation}"])
+                found = [it.split()[0] for it in answers if it.startswith(("try", "next"))]
+                self.assertEqual(found, ["try", "next"])
                 self.assertIn(f"try {right}", answers)
 
 

@@ -7,6 +7,7 @@ from unittest import mock
 from tests.helpers import TOP, Case, each, write_files
 
 sys.path.insert(0, str(TOP / "tools"))
+import contracts  # noqa: E402
 import pages  # noqa: E402
 import tree  # noqa: E402
 
@@ -106,10 +107,22 @@ class Pages(Case):
         of several lines count from its second function on. Examples don't count."""
         room = self.room()
         write_files(room, {"low/src/lib.rt": SHARING, "example_of_use/src/lib.rt": SHARING})
-        with mock.patch.object(pages, "CRATES", room):
-            found = pages.shared_clauses()
+        with mock.patch.object(contracts, "CRATES", room):
+            found = contracts.shared_clauses()
         again = "lines of longer clauses that stand again"
         self.assertEqual(found, {"clauses that two functions share": 2, again: 4})
+
+    def test_wrong_bodies(self) -> None:
+        """A wrong body applies if its old text is once in its crate."""
+        edit = "fn: one\nold: {}\nnew: {{ 2 }}\n"
+        texts = {"low/src/lib.rt": "fn one() { 1 }\nfn two() { 3 } // { 3 }\n"}
+        for name, old in (("once", "{ 1 }"), ("twice", "{ 3 }"), ("none", "{ 4 }")):
+            texts[f"low/wrong-bodies/{name}.edit"] = edit.format(old)
+        room = self.room()
+        write_files(room, texts)
+        with mock.patch.object(pages, "CRATES", room):
+            found = [it for it in pages.applied() if it]
+        self.assertEqual(found, ["low/none doesn't apply", "low/twice doesn't apply"])
 
     def test_statements(self) -> None:
         """The tool compares the promises too."""

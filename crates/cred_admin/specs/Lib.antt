@@ -1,6 +1,6 @@
 -- Definitions that contracts cite: lines and passwords as they are read, what the commands do,
 -- what they write, and their exit statuses.
-pub mod Commands
+pub mod PasswordOperations
 pub mod AccountOperations
 pub mod Import
 pub mod Lines

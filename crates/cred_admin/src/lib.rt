@@ -1,9 +1,10 @@
-//! The commands of an administrator over a book of accounts. Add, check, change, upgrade, remove
+//! The operations of an administrator over a book of accounts. Add, check, change, upgrade, remove
 //! and reset read a password from a reader. Other commands show and list accounts, or disable,
 //! delete and rename an account. This crate also computes the result of an import's lines.
 //!
-//! Each command reads, then changes the book through its keeper, and then writes its answer. So no
-//! command writes an answer before the change.
+//! Each operation reads, then changes the book through its keeper, and then writes its answer. So
+//! no operation writes an answer before the change; only `disable_shown` writes the line that it
+//! removes first.
 #![tactic(auto)]
 
 mod account_operation;

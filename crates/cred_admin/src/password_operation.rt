@@ -5,7 +5,7 @@ ghost use Rattle.std.specs.FinMap as map;
 ghost use Rattle.cred_book.specs.Works.{is_for_current, new_record};
 ghost use Rattle.cred_cli.specs.Watched.{Basis, failed_of, reading_on, writing_on};
 ghost use Rattle.cred_file.specs.Changes.{has_room_for};
-ghost use Rattle.cred_admin.specs.{Commands.ComesTo, Commands.Obeys, Commands.Works, Commands.as_told, Commands.enrolment, Commands.passwords_of, Commands.reset_step, Commands.takes_first, Marked.tried, Seen.FitsSince, Seen.seen};
+ghost use Rattle.cred_admin.specs.{PasswordOperations.ComesTo, PasswordOperations.Obeys, PasswordOperations.Works, PasswordOperations.as_told, PasswordOperations.enrolment, PasswordOperations.passwords_of, PasswordOperations.reset_step, PasswordOperations.takes_first, Marked.tried, Seen.FitsSince, Seen.seen};
 
 use crate::fault::Fault;
 use crate::host::Host;

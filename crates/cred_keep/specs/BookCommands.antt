@@ -2,7 +2,7 @@
 use Rattle.std.specs.Io.KnownBytes.{Appends, Keeps}
 use Rattle.std.specs.Prelude.{◌≡◌, Bool, true, false, Option, Some, None, Result, Ok, Err}
 use Rattle.cred_book.specs.Accounts.{register_capacity}
-use Rattle.cred_admin.specs.{Commands.Obeys, AccountOperations.DisablesShown, AccountOperations.Operates}
+use Rattle.cred_admin.specs.{PasswordOperations.Obeys, AccountOperations.DisablesShown, AccountOperations.Operates}
 use Rattle.cred_admin.specs.{Listing.Prints, Listing.Tells, Listing.json_at, Listing.marked_line, Listing.shown_at, Marked.kept_book, Seen.Seen, Seen.seen}
 use Rattle.cred_admin.specs.{Statuses.status_of_fault, declared.fault.Fault.Fault, declared.import.ImportFault.ImportFault, declared.status.Status.Status}
 use Rattle.cred_admin.specs.declared.status.Status.TheVariants.{Done, Io, Memory, Database, Data}

@@ -1,6 +1,6 @@
-//! The commands of the program `credkeep`, which work on an open book. The program itself, with
-//! its words, its file and its terminal, is the crate `credkeep`. The crate `cred_file` has the
-//! book in its database.
+//! The commands of the program `credkeep`, which work on an open book. The crate `credkeep_words`
+//! reads the program's words, and the crate `credkeep` is the program with its file. The crate
+//! `cred_file` has the book in its database.
 #![tactic(auto)]
 
 mod book_command;

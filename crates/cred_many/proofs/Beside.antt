@@ -6,7 +6,7 @@ use Rattle.cred_book.proofs.Telling.{get_beside, get_without}
 use Rattle.cred_file.specs.{Cells.marked, Cells.unmarked, declared.marks.Mark.Mark}
 use Rattle.cred_file.proofs.TableLemmas.{same_name}
 use Rattle.std.specs.Ordering.{eq_by_cmp}
-use Rattle.cred_admin.specs.{Commands.reset_at, AccountOperations.deletion_at, AccountOperations.disabling_at, AccountOperations.expiry_at, AccountOperations.locking_at, AccountOperations.renaming_at, AccountOperations.unlocking_at}
+use Rattle.cred_admin.specs.{PasswordOperations.reset_at, AccountOperations.deletion_at, AccountOperations.disabling_at, AccountOperations.expiry_at, AccountOperations.locking_at, AccountOperations.renaming_at, AccountOperations.unlocking_at}
 use Rattle.cred_admin.specs.Marked.{MarkedBook, barred, marks_after, tried, tried_at, tried_if, with_mark, with_record}
 use Rattle.cred_admin.specs.declared.account_operation.AccountOperation.TheVariants.{Disable, Delete, Rename, Lock, Unlock, Expire}
 use Rattle.cred_admin.specs.declared.verdict.Verdict.{Verdict}

@@ -7,7 +7,7 @@ use Rattle.cred_book.specs.declared.request.Reply.TheVariants as reply
 use Rattle.cred_cli.specs.{History.Answer, History.Changed, Steps.reply_answer, Texts.reply_line}
 use Rattle.cred_cli.proofs.Simulation.{whole_replies}
 use Rattle.cred_many.specs.{LineOperations.IsJobOf, LineOperations.IsSound, LineOperations.hashed_for, LineOperations.is_reset, declared.line_operation.LineOperation.TheVariants.Whole, declared.line_operation.LineOperation.TheVariants.Login, declared.line_operation.LineOperation.TheVariants.Reset, declared.line_operation.LineOperation.TheVariants.Quick, declared.line_operation.LineOperation.TheVariants.Forgive, declared.line_operation.LineOperation.TheVariants.Later, Served.done, Served.NeedsMemory, Served.effect_of, Served.login_verdict, Served.record_at, Served.told_verdict, declared.line_operation.LineOperation.LineOperation}
-use Rattle.cred_admin.specs.{Commands.reset_step, Marked.HeedsMarks, Marked.MarkedBook, Marked.barred, Marked.due, Marked.is_outdated, Marked.keeps_password, Marked.marked_book, Marked.marks_after, Marked.shut, Marked.tried, Marked.tried_at, Marked.tried_if, Statuses.verdict_line}
+use Rattle.cred_admin.specs.{PasswordOperations.reset_step, Marked.HeedsMarks, Marked.MarkedBook, Marked.barred, Marked.due, Marked.is_outdated, Marked.keeps_password, Marked.marked_book, Marked.marks_after, Marked.shut, Marked.tried, Marked.tried_at, Marked.tried_if, Statuses.verdict_line}
 use Rattle.cred_admin.specs.declared.verdict.Verdict.{Verdict}
 use Rattle.cred_admin.specs.declared.verdict.Verdict.TheVariants.{Told, Expired, Same}
 use Rattle.cred_book.specs.declared.request.Request.TheVariants as request

@@ -6,7 +6,7 @@ use Rattle.cred_cli.specs.{History.Done, History.Refused, Texts.line_of, Texts.r
 use Rattle.cred_file.specs.{Cells.marked, Cells.renewed, Cells.unmarked, declared.marks.Mark.Mark}
 use Rattle.cred_file.proofs.TableLemmas.{same_name}
 use Rattle.std.specs.Ordering.{eq_by_cmp}
-use Rattle.cred_admin.specs.{Commands.reset_at, AccountOperations.deletion_at, AccountOperations.disabling_at, AccountOperations.account_reply_line, AccountOperations.expiry_at, AccountOperations.is_renamed, AccountOperations.locking_at, AccountOperations.renaming_at, AccountOperations.unlocking_at, Statuses.verdict_line}
+use Rattle.cred_admin.specs.{PasswordOperations.reset_at, AccountOperations.deletion_at, AccountOperations.disabling_at, AccountOperations.account_reply_line, AccountOperations.expiry_at, AccountOperations.is_renamed, AccountOperations.locking_at, AccountOperations.renaming_at, AccountOperations.unlocking_at, Statuses.verdict_line}
 use Rattle.cred_admin.specs.Marked.{MarkedBook, barred, expired, locked, marked_book, marks_after, tried, tried_at, tried_if, unlocked, with_mark, with_record}
 use Rattle.cred_admin.specs.declared.account_operation.AccountOperation.TheVariants.{Disable, Delete, Rename, Lock, Unlock, Expire}
 use Rattle.cred_admin.specs.declared.account_reply.AccountReply.{AccountReply}
@@ -127,11 +127,11 @@ module _ (capacity : ℕ) (book : MarkedBook) (name : List ℕ) (m : Mark) where
   tried_same r ne = tried_at_same r (map.get book.accounts (name_of r)) ne
 
   -- changes of accounts
-  abbrev after_edit : MarkedBook → AccountReply × MarkedBook → List ℕ × MarkedBook
-  after_edit b e = if is_renamed e.0 && not (nat_lt (map.len book.accounts) capacity) then (line_of (Refused (refusal.Book error.Full)), b) else (account_reply_line e.0, e.1)
+  abbrev after_operation : MarkedBook → AccountReply × MarkedBook → List ℕ × MarkedBook
+  after_operation b e = if is_renamed e.0 && not (nat_lt (map.len book.accounts) capacity) then (line_of (Refused (refusal.Book error.Full)), b) else (account_reply_line e.0, e.1)
 
-  told_same : (x y : AccountReply × MarkedBook) → Same x y → Same (after_edit other x) (after_edit book y)
-  told_same x y same = ap (after_edit other) same ∙ by_room (is_renamed y.0 && not (nat_lt (map.len book.accounts) capacity))
+  told_same : (x y : AccountReply × MarkedBook) → Same x y → Same (after_operation other x) (after_operation book y)
+  told_same x y same = ap (after_operation other) same ∙ by_room (is_renamed y.0 && not (nat_lt (map.len book.accounts) capacity))
     where
       by_room : (b : Bool) → ◌≡◌ {A = List ℕ × MarkedBook} (cond b (line_of (Refused (refusal.Book error.Full)), other) (account_reply_line y.0, with_mark y.1 name m))
           ((cond {A = List ℕ × MarkedBook} b (line_of (Refused (refusal.Book error.Full)), book) (account_reply_line y.0, y.1)).0, with_mark (cond {A = List ℕ × MarkedBook} b (line_of (Refused (refusal.Book error.Full)), book) (account_reply_line y.0, y.1)).1 name m)

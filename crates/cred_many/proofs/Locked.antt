@@ -7,7 +7,7 @@ use Rattle.cred_book.specs.{Works.name_of, Works.new_record, declared.request.Re
 use Rattle.cred_book.specs.declared.request.Request.TheVariants.{Enrol, Verify, Change as Changes, Upgrade, Remove}
 use Rattle.cred_cli.specs.Texts.{reply_line}
 use Rattle.cred_file.specs.{Cells.marked, Cells.renewed, declared.marks.Mark.Mark}
-use Rattle.cred_admin.specs.{Commands.reset_at, AccountOperations.disabling_at, AccountOperations.expiry_at, AccountOperations.lacks_room, AccountOperations.locking_at, AccountOperations.renaming_at, Statuses.verdict_line}
+use Rattle.cred_admin.specs.{PasswordOperations.reset_at, AccountOperations.disabling_at, AccountOperations.expiry_at, AccountOperations.lacks_room, AccountOperations.locking_at, AccountOperations.renaming_at, Statuses.verdict_line}
 use Rattle.cred_admin.specs.Marked.{MarkedBook, expired, locked, shut, tried, tried_at, with_mark, with_record}
 use Rattle.cred_admin.specs.declared.account_operation.AccountOperation.TheVariants.{Disable, Delete, Rename, Lock, Unlock, Expire}
 use Rattle.cred_admin.specs.declared.verdict.Verdict.TheVariants.{Told}

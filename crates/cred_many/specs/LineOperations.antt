@@ -100,7 +100,7 @@ abbrev pub IsSound : LineOperation → Type 0
 IsSound (Later name seconds) = ⊥
 IsSound operation = IfSome (hashed_for operation) (λ r. is_for_current r ≡ true)
 
--- the ask of a refused line
+-- the operation of a refused line
 abbrev pub refused : Refusal → LineOperation
 refused why = Quick (Bad why)
 

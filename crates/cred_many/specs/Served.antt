@@ -6,7 +6,7 @@ use Rattle.cred_file.specs.{Cells.cell, Cells.is_blank, Cells.is_marked, Cells.m
 use Rattle.cred_book.specs.{Works.name_of, Works.new_record, Works.same, declared.request.Reply.Reply}
 use Rattle.cred_cli.specs.{History.Done, History.Refused, History.Shown, Script.lines_of, Texts.line_of, Texts.reply_line}
 use Rattle.cred_cli.specs.Watched.{failed_of}
-use Rattle.cred_admin.specs.{Commands.reset_step, AccountOperations.disabling, AccountOperations.account_reply_line, AccountOperations.account_reply_status, AccountOperations.operated, AccountOperations.lacks_room, Listing.passwd_line}
+use Rattle.cred_admin.specs.{PasswordOperations.reset_step, AccountOperations.disabling, AccountOperations.account_reply_line, AccountOperations.account_reply_status, AccountOperations.operated, AccountOperations.lacks_room, Listing.passwd_line}
 use Rattle.cred_admin.specs.{Marked.MarkedBook, Marked.mark_in, Marked.tried, Marked.with_account, Marked.with_record, Statuses.verdict_line, declared.verdict.Verdict.Verdict, declared.verdict.Verdict.TheVariants.Told}
 use Rattle.cred_many.specs.{LineOperations.Entry, LineOperations.hashed_for, LineOperations.refused, Names.marked_page, Names.marks_line, Names.names_line, Names.page, Service.Service, Service.asked, declared.line_operation.LineOperation.LineOperation}
 use Rattle.cred_many.specs.Transcript.{TakesMore, Written, written_of}
@@ -22,7 +22,7 @@ use Rattle.cred_book.specs.declared.error.BookError.TheVariants as error
 use Rattle.cred_book.specs.declared.request.Reply.TheVariants as reply
 use Rattle.cred_book.specs.declared.request.Request.TheVariants as request
 use Rattle.cred_cli.specs.declared.refusal.Refusal.TheVariants as refusal
-use Rattle.cred_admin.specs.declared.account_reply.AccountReply.TheVariants as reply
+use Rattle.cred_admin.specs.declared.account_reply.AccountReply.TheVariants as account_reply
 use Rattle.cred_admin.specs.declared.status.Status.TheVariants as status
 use Rattle.cred_many.specs.declared.fault.ServiceFault.TheVariants as fault
 
@@ -51,8 +51,8 @@ told_verdict operation verdict = verdict
 
 -- the line of an account whose record is removed, with its mark, or the answer that it has none
 abbrev pub disabled_line : List ℕ → Mark → Option (Option RecordValue) → List ℕ
-disabled_line name m None = account_reply_line reply.NoAccount
-disabled_line name m (Some None) = account_reply_line reply.Absent
+disabled_line name m None = account_reply_line account_reply.NoAccount
+disabled_line name m (Some None) = account_reply_line account_reply.Absent
 disabled_line name m (Some (Some stored)) = passwd_line m (name, Some stored)
 
 -- the marks of an account and then its record, as the book's row has them; a row without either is
@@ -66,7 +66,7 @@ shown_line m (Some (Some stored)) = mark_text m ++ record_text stored ++ 10 ∷ 
 -- the failed tries at an account are forgiven, if the book has it
 abbrev pub forgiven_line : Bool → List ℕ
 forgiven_line true = codes "forgiven\n"
-forgiven_line false = account_reply_line reply.NoAccount
+forgiven_line false = account_reply_line account_reply.NoAccount
 
 -- a try is too early by so many seconds
 abbrev pub later_line : ℕ → List ℕ
@@ -93,8 +93,8 @@ done capacity book (Quick (ListMarks from most)) = (
   book,
 )
 done capacity book (Quick (OnAccount operation)) =
-    if lacks_room capacity book change then (line_of (Refused (refusal.Book error.Full)), book)
-    else (account_reply_line (operated book change).0, (operated book change).1)
+    if lacks_room capacity book operation then (line_of (Refused (refusal.Book error.Full)), book)
+    else (account_reply_line (operated book operation).0, (operated book operation).1)
 done capacity book (Quick (DisableShown name)) =
     (disabled_line name (book.marks name) (fin.get book.accounts name), (disabling book name).1)
 done capacity book (Quick (Bad why)) = (line_of (Refused why), book)
@@ -191,8 +191,8 @@ NeedsMemory capacity book (Quick (Load name stored)) =
 NeedsMemory capacity book (Quick (Show name)) =
     is_blank (cell (record_at book name) (mark_in book name)) ≡ false
 NeedsMemory capacity book (Quick (OnAccount operation)) =
-    (account_reply_status (operated book change).0 ≡ status.Done)
-    × (lacks_room capacity book change ≡ false)
+    (account_reply_status (operated book operation).0 ≡ status.Done)
+    × (lacks_room capacity book operation ≡ false)
 NeedsMemory capacity book (Quick (DisableShown name)) = is_some (record_at book name) ≡ true
 NeedsMemory capacity book (Quick (Bad why)) = ⊥
 NeedsMemory capacity book (Forgive name) = ⊥

@@ -35,11 +35,11 @@ pub(crate) enum QuickOperation {
     Account(Name),
     /// Stores this record at an account.
     Load(Name, Record),
-    /// LineOperations for an account's marks and its record.
+    /// Shows an account's marks and its record.
     Show(Name),
-    /// LineOperations for the names from this one on, in their order, at most so many.
+    /// Lists the names from this one on, in their order, at most so many.
     List(Name, u16),
-    /// LineOperations for the marked accounts from this name on, with their marks, at most so many.
+    /// Lists the marked accounts from this name on, with their marks, at most so many.
     ListMarks(Name, u16),
     /// Changes an account without asking for its password.
     OnAccount(AccountOperation),
@@ -116,7 +116,7 @@ impl LineOperation {
 }
 
 /// The maximum number of names in a list, with their marks or without.
-const MOST_NAMES: u64 = 1000;
+const MOST_LISTED: u64 = 1000;
 
 /// Reads the operation of the words after the tag, with the drawn setting if the words give none.
 pub(crate) fn operation_of(drawn: Setting, words: &[&[u8]]) -> Result<LineOperation, Refusal>
@@ -183,7 +183,7 @@ fn count(text: &[u8]) -> Result<u16, Refusal>
     ensures { result ≡ count_field text.now }
 {
     match decimal(text) {
-        Some(number) if number >= 1 && number <= MOST_NAMES => Ok(number as u16),
+        Some(number) if number >= 1 && number <= MOST_LISTED => Ok(number as u16),
         _ => Err(Refusal::Text(PhcError::Range)),
     }
 }

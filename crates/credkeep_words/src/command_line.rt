@@ -1,4 +1,4 @@
-//! The request of the command line.
+//! The command of the command line.
 
 use crate::arguments::credkeep;
 use crate::book_commands::read_command;

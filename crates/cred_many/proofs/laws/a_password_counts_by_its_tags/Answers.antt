@@ -4,7 +4,7 @@ use Rattle.cred_book.specs.{Passwords.KeepsTags, Passwords.made_setting, Works.n
 use Rattle.cred_book.proofs.Telling.{as_new, as_whole}
 use Rattle.cred_cli.specs.Texts.{reply_line}
 use Rattle.cred_file.specs.declared.marks.Mark.{Mark}
-use Rattle.cred_admin.specs.{Commands.reset_step, Marked.MarkedBook, Marked.barred, Marked.due, Marked.keeps_password, Marked.shut, Marked.tried, Marked.tried_at, Marked.tried_if, Statuses.verdict_line}
+use Rattle.cred_admin.specs.{PasswordOperations.reset_step, Marked.MarkedBook, Marked.barred, Marked.due, Marked.keeps_password, Marked.shut, Marked.tried, Marked.tried_at, Marked.tried_if, Statuses.verdict_line}
 use Rattle.cred_admin.specs.declared.verdict.Verdict.{Verdict}
 use Rattle.cred_admin.specs.declared.verdict.Verdict.TheVariants.{Same, Told}
 use Rattle.cred_many.specs.{Served.done, Served.login_verdict, Telling.KeepsTagsFor, Telling.with_passwords, declared.line_operation.LineOperation.LineOperation}

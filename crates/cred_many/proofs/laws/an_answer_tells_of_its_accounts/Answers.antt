@@ -3,7 +3,7 @@ use Rattle.cred_phc.specs.Values.{RecordValue}
 use Rattle.cred_book.specs.{Works.name_of, Works.new_record, declared.request.Request.Request}
 use Rattle.cred_cli.specs.Texts.{reply_line}
 use Rattle.cred_file.specs.declared.marks.Mark.{Mark}
-use Rattle.cred_admin.specs.{Commands.reset_step, Marked.MarkedBook, Marked.barred, Marked.tried, Marked.tried_at, Marked.tried_if, Statuses.verdict_line, declared.verdict.Verdict.Verdict}
+use Rattle.cred_admin.specs.{PasswordOperations.reset_step, Marked.MarkedBook, Marked.barred, Marked.tried, Marked.tried_at, Marked.tried_if, Statuses.verdict_line, declared.verdict.Verdict.Verdict}
 use Rattle.cred_admin.specs.declared.account_operation.AccountOperation.TheVariants.{Disable, Delete, Rename, Lock, Unlock, Expire}
 use Rattle.cred_many.specs.{Names.marked_page, Names.marks_line, Names.names_line, Names.page, Served.disabled_line, Served.done, Served.login_verdict, Served.forgiven_line, Served.shown_line, declared.line_operation.LineOperation.LineOperation}
 use Rattle.cred_many.specs.Telling.{AreAlikeAt, AreAlikeFor}
