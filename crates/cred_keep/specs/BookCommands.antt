@@ -115,7 +115,7 @@ pub record Leaves {S : Type 0} (g : Ghosts S) (command : BookCommand) (s : Seen)
 
 -- the command is done once on the opened book of a database, and the connection comes back as the
 -- command left it
-pub record IsServed {S : Type 0} (g : Ghosts S) (command : BookCommand) (r : Reading) (w : Writing)
+pub record IsCarriedOut {S : Type 0} (g : Ghosts S) (command : BookCommand) (r : Reading) (w : Writing)
     (old new : Held S) (status : Status) : Type 0 where
   pub opened : Kept S
   pub found : HasCleanDisk (state g opened.conn)

@@ -3,7 +3,7 @@
 ghost use Rattle.std.specs.Prelude.{◌≡◌, ◌⊎◌, ℕ, List, false, true};
 ghost use Rattle.cred_cli.specs.Watched.{Basis, IsNew, MayFollow, reading, reading_on, transcript_reading, transcript_writing, writing, writing_on};
 ghost use Rattle.cred_admin.specs.{Marked.kept_book, Seen.FitsSince, Seen.seen};
-ghost use Rattle.cred_keep.specs.BookCommands.{IsRefused, IsServed, Performs, is_unread};
+ghost use Rattle.cred_keep.specs.BookCommands.{IsCarriedOut, IsRefused, Performs, is_unread};
 
 use crate::import::{Importing, import};
 use crate::outcome::{CommandResult, Failure, command_end, import_end};
@@ -55,43 +55,46 @@ pub enum BookCommand {
     },
 }
 
-/// Opens the book of a database, and does a command on it. The connection comes back. If the
-/// database holds no book, `faults` says why, and the command reads and writes nothing. The caller
-/// has made no call on the reader or the writer. Only a call of these two may wait: otherwise every
-/// body returns, so these clauses bind it.
-///
-/// `faults` also gets the fault that ended the command, the reason why a password may be wrong, or
-/// the lines that an import left out. A failure of `faults` changes nothing. The status is
-/// `Database` if a change is lost; otherwise the table stands for the book, and a crash leaves it.
-pub fn serve_in<T: Threads + Sync, S: Alter, R: Read, W: Write, F: Write>(
-    tools: &Tools<'_, T>,
-    conn: Connection<S>,
-    command: &BookCommand,
-    reader: &mut Watched<R>,
-    writer: &mut Watched<W>,
-    faults: &mut F,
-) -> (Connection<S>, Status)
-    requires new_reader { IsNew reader.old }
-    requires new_writer { IsNew writer.old }
-    requires autocommit { conn.in_transaction ≡ false }
-    ensures done { IsServed S.Store command.now (reading R.remaining reader.old reader.new)
-        (writing W.contents writer.old writer.new) conn result.0 result.1
-        ⊎ (IsRefused S.Store conn result.0 result.1 × (reader.new ≡ reader.old)
-        × (writer.new ≡ writer.old)) }
-    ensures transcript { (rest : List ℕ) → MayFollow rest reader.new
-        → IsServed S.Store command.now (transcript_reading rest reader.new)
-        (transcript_writing writer.old writer.new) conn result.0 result.1
-        ⊎ (IsRefused S.Store conn result.0 result.1 × (reader.new ≡ reader.old)
-        × (writer.new ≡ writer.old)) }
-    ensures unread { is_unread command.now ≡ true → reader.new ≡ reader.old }
-{
-    match FileBook::open(tools.alloc, conn) {
-        Ok(mut book) => {
-            let ended = perform(tools, &mut book, command, reader, writer);
-            let status = tell_end(faults, ended, book.lost());
-            (book.close(), status)
+impl BookCommand {
+    /// Opens the book of a database, and carries out the command on it. The connection comes back.
+    /// If the database holds no book, `faults` says why, and the call reads and writes nothing. The
+    /// caller has made no call on the reader or the writer. Only a call of these two may wait:
+    /// otherwise every body returns, so these clauses bind it.
+    ///
+    /// `faults` also gets the fault that ended the command, the reason why a password may be wrong,
+    /// or the lines that an import left out. A failure of `faults` changes nothing. The status is
+    /// `Database` if a change is lost; otherwise the table stands for the book, and a crash leaves
+    /// it.
+    pub fn carry_out<T: Threads + Sync, S: Alter, R: Read, W: Write, F: Write>(
+        &self,
+        tools: &Tools<'_, T>,
+        conn: Connection<S>,
+        reader: &mut Watched<R>,
+        writer: &mut Watched<W>,
+        faults: &mut F,
+    ) -> (Connection<S>, Status)
+        requires new_reader { IsNew reader.old }
+        requires new_writer { IsNew writer.old }
+        requires autocommit { conn.in_transaction ≡ false }
+        ensures done { IsCarriedOut S.Store self.now (reading R.remaining reader.old reader.new)
+            (writing W.contents writer.old writer.new) conn result.0 result.1
+            ⊎ (IsRefused S.Store conn result.0 result.1 × (reader.new ≡ reader.old)
+            × (writer.new ≡ writer.old)) }
+        ensures transcript { (rest : List ℕ) → MayFollow rest reader.new
+            → IsCarriedOut S.Store self.now (transcript_reading rest reader.new)
+            (transcript_writing writer.old writer.new) conn result.0 result.1
+            ⊎ (IsRefused S.Store conn result.0 result.1 × (reader.new ≡ reader.old)
+            × (writer.new ≡ writer.old)) }
+        ensures unread { is_unread self.now ≡ true → reader.new ≡ reader.old }
+    {
+        match FileBook::open(tools.alloc, conn) {
+            Ok(mut book) => {
+                let ended = perform(tools, &mut book, self, reader, writer);
+                let status = tell_end(faults, ended, book.lost());
+                (book.close(), status)
+            }
+            Err((why, conn)) => (conn, refuse(faults, &why)),
         }
-        Err((why, conn)) => (conn, refuse(faults, &why)),
     }
 }
 

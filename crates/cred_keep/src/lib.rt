@@ -9,7 +9,7 @@ mod import;
 mod outcome;
 mod report;
 
-pub use book_command::{BookCommand, serve_in};
+pub use book_command::BookCommand;
 pub use copy::{CopyFault, copy_book, copy_into, count_accounts};
 pub use import::{BadLines, CountsForm, Effect, Imported, Importing};
 pub use outcome::{CommandResult, Failure};

@@ -9,11 +9,11 @@ use crate::fault::accept;
 use crate::files::{
     BookPlace, DamagedLog, close, fold, look, look_before_export, look_before_init, open_database,
 };
-use crate::tagged::{Tagged, serve_tagged};
+use crate::tagged::{Tagged, serve_book};
 use cred_admin::Status;
 use cred_cli::{Tools, Watched};
 use cred_file::{FileBook, OpenFault};
-use cred_keep::{BookCommand, refuse, serve_in};
+use cred_keep::{BookCommand, refuse};
 use credkeep_words::{
     Command, CommandLine, Counted, ProgressLine, Remarks, advise, read_passwords, read_words, say,
 };
@@ -67,7 +67,7 @@ fn answer<T: Threads + Wait + Clock + Sync + Copy + Send + 'static>(
         Command::Backup(to) => Ok(back_up(host, line, to)?.tell(host, line.counts)),
         Command::Restore(from) => Ok(restore(host, line, from)?.tell(host, line.counts)),
         Command::Verify => verify(host, line),
-        Command::Tagged(service) => serve_tagged(host, rt, line, &Tagged::of(service)),
+        Command::Tagged(service) => serve_book(host, rt, line, &Tagged::of(service)),
         Command::OnBook { command, echo } => {
             let tools = Tools {
                 rt,
@@ -155,7 +155,7 @@ fn obey<T: Threads + Sync, S: Alter, R: Read + Drop, W: Write + Drop, F: Write +
 {
     let mut reader = Watched::new(reader);
     let mut writer = Watched::new(writer);
-    serve_in(tools, conn, command, &mut reader, &mut writer, &mut faults)
+    command.carry_out(tools, conn, &mut reader, &mut writer, &mut faults)
 }
 
 /// Creates a book in the database, or reports whose tables are in the way. The database comes back.

@@ -59,7 +59,7 @@ impl Tagged {
 }
 
 /// Opens the file, answers tagged lines from standard input, and closes the file.
-pub(crate) fn serve_tagged<T: Threads + Wait + Clock + Sync + Copy + Send + 'static>(
+pub(crate) fn serve_book<T: Threads + Wait + Clock + Sync + Copy + Send + 'static>(
     host: &HostRuntime,
     rt: &T,
     line: &CommandLine<'_>,
@@ -148,7 +148,7 @@ where
                 fault,
                 ..
             } = served;
-            tell_end(faults, fault, keeper.lost());
+            tell_fault(faults, fault, keeper.lost());
             Finished {
                 conn: keeper.close(),
                 writer,
@@ -164,7 +164,7 @@ where
 }
 
 /// Writes the fault that ended a service, if any.
-fn tell_end<F: Write>(faults: &mut F, fault: Option<ServiceFault>, lost: Option<&Lost>) {
+fn tell_fault<F: Write>(faults: &mut F, fault: Option<ServiceFault>, lost: Option<&Lost>) {
     match fault {
         None => {}
         Some(ServiceFault::Keeper) => explain(faults, &Failure::Database, lost),

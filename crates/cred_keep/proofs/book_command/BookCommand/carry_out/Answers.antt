@@ -3,7 +3,7 @@ use Rattle.cred_cli.specs.Watched.{Contract, transcript_reading, transcript_writ
 use Rattle.cred_admin.specs.{Marked.kept_book, Seen.seen}
 use Rattle.cred_keep.specs.BookCommands.{Performs, status_of_end, unless_lost}
 use Rattle.cred_keep.proofs.OnBasis.{on_transcript}
-use Rattle.cred_keep.proofs.book_command.serve_in.Goals as goal
+use Rattle.cred_keep.proofs.book_command.BookCommand.carry_out.Goals as goal
 
 pub returns-in-Ok-clause-done : goal.returns-in-Ok-clause-done
 returns-in-Ok-clause-done g c =
@@ -21,9 +21,9 @@ returns-in-Ok-clause-done g c =
 pub returns-in-Ok-clause-transcript : goal.returns-in-Ok-clause-transcript
 returns-in-Ok-clause-transcript g c = λ rest may.
     let it = c.perform-ended in
-    let performs : Performs c.args.command.now (seen (transcript_reading rest it.new.reader) (transcript_writing c.args.writer.now it.new.writer) (kept_book c.in-Ok.book) (kept_book it.new.book)) it.result =
+    let performs : Performs c.args.self.now (seen (transcript_reading rest it.new.reader) (transcript_writing c.args.writer.now it.new.writer) (kept_book c.in-Ok.book) (kept_book it.new.book)) it.result =
     on_transcript g.R.Read.remaining g.W.Write.contents c.args.reader.now it.new.reader c.args.writer.now it.new.writer c.requires.new_reader.given
-    (λ r w. Performs c.args.command.now (seen r w (kept_book c.in-Ok.book) (kept_book it.new.book)) it.result) c.requires.new_reader.ended it.ensures.done rest may in
+    (λ r w. Performs c.args.self.now (seen r w (kept_book c.in-Ok.book) (kept_book it.new.book)) it.result) c.requires.new_reader.ended it.ensures.done rest may in
     inl (record {
       opened = c.in-Ok.book;
       found = c.in-Ok.ensures.found;
