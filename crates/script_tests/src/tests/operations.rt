@@ -1,9 +1,11 @@
 //! Tests of operations on an account, begun and committed, and their answers, on each keeper.
 //! `book_tests` and tests/operations.py have more tests of one operation alone.
 use super::committers::run_on_committer;
-use super::{Ran, filled_in, run_on};
+use super::{Ran, filled_in, run_in_room, run_on};
 use cred_book::{Book, Register};
 use cred_cli::{End, ScriptFault};
+use cred_file::FileBook;
+use sqlite::Connection;
 use std::alloc::Global;
 use std::process::Abort;
 use std::sync::Wait;
@@ -181,8 +183,8 @@ impl<'a> Dialogue<'a> {
         hold_seen(rt, self.name, workers, (ran.0, ran.1.as_slice()), want);
     }
 
-    /// Compares the answers with those of runs on an empty book, an empty register and a committer,
-    /// with one worker and with four.
+    /// Compares the answers with those of runs on an empty book, an empty register, a kept book and
+    /// a committer, with one worker and with four.
     fn judge<R: Threads + Wait + Sync + Abort>(&self, rt: &R, alloc: Global) {
         let script = self.script.as_bytes();
         for workers in [1, 4] {
@@ -190,10 +192,26 @@ impl<'a> Dialogue<'a> {
             self.hold_ran(rt, workers, &run_on(rt, alloc, workers, book, script));
             let register = Register::new(alloc);
             self.hold_ran(rt, workers, &run_on(rt, alloc, workers, register, script));
+            let ran = run_on_kept_book(rt, alloc, workers, script);
+            self.hold_ran(rt, workers, &ran.expect(rt, "memory"));
             let ran = run_on_committer(rt, alloc, workers, script);
             self.hold_ran(rt, workers, &ran.expect(rt, "a committer"));
         }
     }
+}
+
+/// Runs a script on an empty book that a database in memory keeps.
+fn run_on_kept_book<R: Threads + Wait + Sync + Abort>(
+    rt: &R,
+    alloc: Global,
+    workers: u8,
+    script: &[u8],
+) -> Option<Ran> {
+    let conn = Connection::open_in_memory(alloc).expect(rt, "memory");
+    let mut book = FileBook::create(alloc, conn).ok().expect(rt, "a book");
+    let ran = run_in_room(rt, alloc, workers, &mut book, script);
+    book.close().into_store();
+    ran
 }
 
 /// Compares the answers of each script of the text with those of its runs.
