@@ -7,7 +7,6 @@
 
 ghost use Rattle.std.specs.{Prelude.◌≡◌, List.list_any};
 ghost use Rattle.cred_admin.specs.Import.{bars, behind_braces, behind_word, has_bar, is_barred, is_locked, is_remark, is_star, line_number, line_word, record_part, said_as, said_locked, said_of, said_with, stored_at, without_return};
-ghost use Rattle.cred_file.specs.Cells.{begins, mark_of, past, rest_of};
 ghost use Rattle.cred_book.specs.Names.{made_name};
 ghost use Rattle.cred_phc.specs.Pieces.{pieces};
 
@@ -127,7 +126,7 @@ fn said_locked(
             mark: Mark::none(),
         })),
         LockedRecords::Kept if !barred && !is_star(text) => {
-            let (mark, text) = cut_mark(text);
+            let (mark, text) = Mark::cut(text);
             said_with(name, mark, text)
         }
         LockedRecords::Refused | LockedRecords::Kept => Err(LineFault::Locked),
@@ -139,32 +138,6 @@ fn said_with(name: Name, mark: Mark, text: &[u8]) -> Result<Said, LineFault>
 {
     let stored = stored_at(text)?;
     Ok(Said::Account(LineAccount { name, stored, mark }))
-}
-
-/// Returns the mark that stands before a record, and the text behind it.
-fn cut_mark(text: &[u8]) -> (Mark, &[u8])
-    ensures mark { result.0 ≡ mark_of text.now }
-    ensures rest { result.1.now ≡ rest_of text.now }
-{
-    let (locked, text) = cut(text, b'!');
-    let (must_change, text) = cut(text, b'~');
-    (
-        Mark {
-            locked,
-            must_change,
-        },
-        text,
-    )
-}
-
-/// Returns whether a text begins with this byte, and the text behind the byte.
-fn cut(text: &[u8], byte: u8) -> (bool, &[u8])
-    ensures { (result.0 ≡ begins byte text.now) × (result.1.now ≡ past byte text.now) }
-{
-    match text {
-        [first, rest @ ..] if *first == byte => (true, rest),
-        _ => (false, text),
-    }
 }
 
 /// Whether a second field has a record that `passwd -l` or an export marked, or `*` instead of a

@@ -5,7 +5,6 @@ ghost use Rattle.std.specs.FinMap as map;
 ghost use Rattle.cred_phc.specs.Values.{RecordValue};
 ghost use Rattle.cred_cli.specs.{Outcome.FrontWritten, Watched.Basis, Watched.failed_of, Watched.held_on, Watched.writing_on};
 ghost use Rattle.cred_admin.specs.Listing.{IsPiece, Prints, json_detail, json_marks, line_text, detail_word, marked_line};
-ghost use Rattle.cred_file.specs.Cells.{mark_text};
 ghost use Rattle.cred_admin.specs.declared.listing.TheConstants.{PIECE};
 
 use crate::detail::{Detail, detail_text};
@@ -125,7 +124,7 @@ fn push_line(
         LineForm::Passwd(detail) => {
             text.extend_from_slice(name.bytes())?;
             text.push(b':')?;
-            text.extend_from_slice(mark_text(mark))?;
+            text.extend_from_slice(mark.text())?;
             if let Some(stored) = stored {
                 let shown = detail_text(alloc, &stored, detail)?;
                 text.extend_from_slice(&shown)?;
@@ -144,19 +143,6 @@ fn push_line(
             text.extend_from_slice(b"}\n")?;
             Ok(())
         }
-    }
-}
-
-/// Returns the mark as the book's file has it before a record: `!` for a lock, and `~` for a
-/// password that must be changed.
-pub(crate) fn mark_text(mark: Mark) -> &'static [u8]
-    ensures { result.now ≡ mark_text mark }
-{
-    match (mark.locked, mark.must_change) {
-        (true, true) => b"!~",
-        (true, false) => b"!",
-        (false, true) => b"~",
-        (false, false) => b"",
     }
 }
 

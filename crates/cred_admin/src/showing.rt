@@ -8,7 +8,7 @@ ghost use Rattle.cred_admin.specs.Listing.{Tells, json_at, shown_at};
 use crate::detail::{Detail, detail_text};
 use crate::fault::Fault;
 use crate::host::Host;
-use crate::listing::{LineForm, line_of, mark_text};
+use crate::listing::{LineForm, line_of};
 use crate::printing::tell;
 use crate::status::Status;
 use cred_book::{Name, Reply};
@@ -37,7 +37,7 @@ pub fn show<K: Host, W: Write>(
         Ok(None) => tell(reply_line(&Reply::Absent), Status::No(None), writer),
         Ok(Some(stored)) => {
             let mut text = Vec::new(alloc);
-            text.extend_from_slice(mark_text(keeper.mark_of(name)))?;
+            text.extend_from_slice(keeper.mark_of(name).text())?;
             let shown = detail_text(alloc, &stored, detail)?;
             text.extend_from_slice(&shown)?;
             text.extend_from_slice(b"\n")?;

@@ -21,8 +21,8 @@ use std::io::Write;
 use std::sync::Wait;
 use std::thread::Threads;
 
-/// The bytes of an answer with its line end. Only a record's text needs an allocation. The other
-/// answers are fixed, so no change and no refused line can lack memory for its answer.
+/// The bytes of an answer with its line end. The answers to changes by requests and to refused
+/// lines are fixed texts, so such a line can't lack memory for its answer.
 #[derive(Drop)]
 pub enum AnswerLine {
     Fixed(&'static [u8]),

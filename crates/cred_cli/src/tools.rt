@@ -6,7 +6,7 @@ use cred_book::Hashing;
 use cred_pool::NoGate;
 use std::alloc::Global;
 
-/// The runtime, the allocator, and the maximum number of threads for one hash.
+/// The runtime, the allocator, and the maximum number of threads that hash.
 #[derive(Drop)]
 pub struct Tools<'a, T> {
     pub rt: &'a T,

@@ -2,7 +2,7 @@
 
 ghost use Rattle.std.specs.Prelude.{◌≡◌, true, OnOk};
 ghost use Rattle.std.specs.FinMap as map;
-ghost use Rattle.cred_file.specs.Cells.{is_marked, mark_at, marked, renewed, renewed_with, unmarked};
+ghost use Rattle.cred_file.specs.Cells.{begins, is_marked, mark_at, mark_of, mark_text, marked, past, renewed, renewed_with, rest_of, unmarked};
 ghost use Rattle.cred_file.specs.Transactions.{HasRoom, KeepsRoom};
 
 use cred_book::Name;
@@ -57,6 +57,45 @@ impl Mark {
             locked: given.locked || self.locked,
             must_change: given.must_change,
         }
+    }
+
+    /// Returns the text that stands for the marks before a record: `!` for a lock, and `~` for a
+    /// password that must be changed.
+    pub fn text(self) -> &'static [u8]
+        ensures { result.now ≡ mark_text self }
+    {
+        match (self.locked, self.must_change) {
+            (true, true) => b"!~",
+            (true, false) => b"!",
+            (false, true) => b"~",
+            (false, false) => b"",
+        }
+    }
+
+    /// Reads the marks at the front of a text, and returns them with the text behind them.
+    pub fn cut(text: &[u8]) -> (Mark, &[u8])
+        ensures mark { result.0 ≡ mark_of text.now }
+        ensures rest { result.1.now ≡ rest_of text.now }
+    {
+        let (locked, text) = cut(text, b'!');
+        let (must_change, text) = cut(text, b'~');
+        (
+            Mark {
+                locked,
+                must_change,
+            },
+            text,
+        )
+    }
+}
+
+/// Returns whether a text begins with this byte, and the text behind the byte.
+fn cut(text: &[u8], byte: u8) -> (bool, &[u8])
+    ensures { (result.0 ≡ begins byte text.now) × (result.1.now ≡ past byte text.now) }
+{
+    match text {
+        [first, rest @ ..] if *first == byte => (true, rest),
+        _ => (false, text),
     }
 }
 

@@ -8,7 +8,7 @@ ghost use Rattle.sqlite.specs.{declared.types.Value.TheVariants.Text, Order.colu
 ghost use Rattle.sqlite_value.specs.Value.{owned};
 ghost use Rattle.std.specs.FinMap as fin;
 ghost use Rattle.std.specs.Result.{result_map_both};
-ghost use Rattle.cred_file.specs.Cells.{Cells, begins, cell, cells_of, mark_at, past, read_cell};
+ghost use Rattle.cred_file.specs.Cells.{Cells, cell, cells_of, mark_at, read_cell};
 
 use crate::fault::OpenFault;
 use crate::marks::{Mark, Marks};
@@ -159,38 +159,13 @@ fn read_stored(value: ValueRef<'_>) -> Result<(Option<Record>, Mark), Option<Phc
 fn read_text(text: &[u8]) -> Result<(Option<Record>, Mark), PhcError>
     ensures { result_map_both (λ c. cell c.0 c.1) (λ e. e) result ≡ read_cell text.now }
 {
-    let behind = past(b'!', text);
-    let rest = past(b'~', behind);
-    let mark = Mark {
-        locked: begins(b'!', text),
-        must_change: begins(b'~', behind),
-    };
+    let (mark, rest) = Mark::cut(text);
     if rest.is_empty() && mark.is_marked() {
         return Ok((None, mark));
     }
     match parse_record(rest) {
         Ok(stored) => Ok((Some(stored), mark)),
         Err(fault) => Err(fault),
-    }
-}
-
-fn begins(byte: u8, text: &[u8]) -> bool
-    ensures { result ≡ begins byte text.now }
-{
-    match text {
-        [first, ..] => *first == byte,
-        [] => false,
-    }
-}
-
-/// Returns the text after this byte if the text begins with this byte, and otherwise the whole
-/// text.
-fn past(byte: u8, text: &[u8]) -> &[u8]
-    ensures { result.now ≡ past byte text.now }
-{
-    match text {
-        [first, rest @ ..] if *first == byte => rest,
-        _ => text,
     }
 }
 

@@ -3,7 +3,7 @@
 ghost use Rattle.std.specs.Prelude.{◌≡◌, ◌≤◌, [], true, false, IfErr, IfOk, OnOk};
 ghost use Rattle.std.specs.FinMap as fin;
 ghost use Rattle.cred_book.specs.Accounts.{register_capacity};
-ghost use Rattle.cred_file.specs.{Cells.cell, Cells.cells_of, Cells.mark_at, Cells.mark_text, Changes.moved, Failures.Changes, Failures.FailsToDelete, Failures.FailsToPut, Failures.FailsToRename, Failures.Refuses};
+ghost use Rattle.cred_file.specs.{Cells.cell, Cells.cells_of, Cells.mark_at, Changes.moved, Failures.Changes, Failures.FailsToDelete, Failures.FailsToPut, Failures.FailsToRename, Failures.Refuses};
 ghost use Rattle.cred_file.specs.Schema.{IsBookSchema, create_text, no_schema};
 ghost use Rattle.cred_file.specs.Keeps.{Has, IsRenamable, IsTableOf, MayBegin};
 ghost use Rattle.cred_file.specs.Rows.{Suits, is_update};
@@ -30,26 +30,13 @@ pub(crate) fn text_of(
 ) -> Result<Vec<u8>, PhcError>
     ensures { IfOk result (λ text. IsTextOf text.items (cell stored.now mark)) }
 {
-    let mut text = mark_text(alloc, mark)?;
+    let mut text = Vec::new(alloc);
+    text.extend_from_slice(mark.text())?;
     let Some(it) = stored else {
         return Ok(text);
     };
     let record = write_record(alloc, it)?;
     text.extend_from_slice(&record)?;
-    Ok(text)
-}
-
-/// Writes the marks alone.
-fn mark_text(alloc: Global, mark: Mark) -> Result<Vec<u8>, AllocError>
-    ensures { IfOk result (λ text. text.items ≡ mark_text mark) }
-{
-    let mut text = Vec::new(alloc);
-    if mark.locked {
-        text.push(b'!')?;
-    }
-    if mark.must_change {
-        text.push(b'~')?;
-    }
     Ok(text)
 }
 

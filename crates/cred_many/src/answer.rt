@@ -8,7 +8,7 @@ ghost use Rattle.cred_file.specs.Cells.{cell, is_blank, mark_text};
 ghost use Rattle.std.specs.FinMap as map;
 
 use crate::line_operation::QuickOperation;
-use crate::listing::{marks_line, names_line, push_mark_text};
+use crate::listing::{marks_line, names_line};
 use cred_admin::{
     AccountOperation, AccountReply, Detail, Host, LineForm, account_reply_line, line_of,
 };
@@ -88,7 +88,7 @@ fn behind_marks(alloc: Global, mark: Mark, text: &[u8]) -> Result<AnswerLine, Al
         (λ line. line_bytes line ≡ mark_text mark ++ text.now ++ 10 ∷ []) }
 {
     let mut line = Vec::new(alloc);
-    push_mark_text(&mut line, mark)?;
+    line.extend_from_slice(mark.text())?;
     line.extend_from_slice(text)?;
     line.push(b'\n')?;
     Ok(AnswerLine::Made(line))

@@ -111,18 +111,5 @@ fn push_mark(line: &mut Vec<u8>, name: &Name, mark: Mark) -> Result<(), AllocErr
     line.push(b' ')?;
     line.extend_from_slice(name.bytes())?;
     line.push(b':')?;
-    push_mark_text(line, mark)
-}
-
-/// Adds `!` for a lock, and `~` for a password that must be changed.
-pub(crate) fn push_mark_text(line: &mut Vec<u8>, mark: Mark) -> Result<(), AllocError>
-    ensures { OnOk result (line.new.items ≡ line.old.items ++ mark_text mark) }
-{
-    if mark.locked {
-        line.push(b'!')?;
-    }
-    if mark.must_change {
-        line.push(b'~')?;
-    }
-    Ok(())
+    line.extend_from_slice(mark.text())
 }
