@@ -140,11 +140,10 @@ class Progress:
     def say(self, what, end="\n"):
         """Prints the last event, the progress, and the remaining time."""
         minutes = max(round(self.rest() / 60), 1)
-        rest = (
-            f", about {minutes} minute{'s' if minutes > 1 else ''} left"
-            if len(self.done) < len(self.names)
-            else ""
-        )
+        rest = ""
+        if len(self.done) < len(self.names):
+            unit = "minutes" if minutes > 1 else "minute"
+            rest = f", about {minutes} {unit} left"
         clear = "\033[K" if sys.stderr.isatty() else ""
         # in one piece, since two threads print
         sys.stderr.write(f"{clear}{what}; {len(self.done)} of {len(self.names)} done{rest}{end}")

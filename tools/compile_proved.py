@@ -94,7 +94,7 @@ def at_level(text, level):
 def be_clang(level, clang, words):
     """Runs the toolchain's clang, with the changed module instead of the proved one."""
     if "module.bc" in words:
-        as_text = "-S -emit-llvm -Xclang -disable-llvm-passes -O3 -o module.ll".split()
+        as_text = ["-S", "-emit-llvm", "-Xclang", "-disable-llvm-passes", "-O3", "-o", "module.ll"]
         target = [it for it in words if it.startswith("--target=")]
         command = ["clang", *target, "-x", "ir", "module.bc", *as_text]
         subprocess.run(command, executable=clang, check=True)

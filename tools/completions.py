@@ -35,6 +35,11 @@ class Command(NamedTuple):
     usage: str
     options: list
 
+    def takes_one_of(self, values):
+        """Whether one of these values stands after the command's word."""
+        _, _, after = self.usage.partition(self.word)
+        return any(f"<{value}>" in after for value in values)
+
     def offered(self):
         """The command that prints its options."""
         return printed((f"--{name}", text) for name, _, text in self.options)
@@ -72,15 +77,15 @@ class Program:
     def after(self, *values):
         """The pattern of the words after a command whose first value is one of these."""
         # `add` needs a name that no account has yet
-        below = [it for it in self.commands if it.word != "add"]
-        shown = [(it.word, it.usage.partition(it.word)[2]) for it in below]
-        words = [word for word, rest in shown if any(f"<{it}>" in rest for it in values)]
+        below = [command for command in self.commands if command.word != "add"]
+        words = [command.word for command in below if command.takes_one_of(values)]
         return " | ".join(f"*/2/{word}" for word in words or ["-"])
 
     def filled(self, template):
         """Fills a template with the program's words."""
         each = [*self.commands, self.top]
-        valued = {f"--{name}" for command in each for name, value, _ in command.options if value}
+        options = [option for command in each for option in command.options]
+        valued = {f"--{name}" for name, value, _ in options if value}
         fields = {
             "NAME": self.name,
             "FUNCTION": "_" + self.name.replace("-", "_"),

@@ -206,7 +206,15 @@ def without_least_memory(room):
         if not re.match("libargon2|arm64|build", it.name)
     ]
     builds = sorted((C / "out").glob("v?.o"))
-    flags = "-O2 -std=c11 -fPIC -pthread -shared -Wl,-Bsymbolic -DLEAST_SHARED_MEMORY=1".split()
+    flags = [
+        "-O2",
+        "-std=c11",
+        "-fPIC",
+        "-pthread",
+        "-shared",
+        "-Wl,-Bsymbolic",
+        "-DLEAST_SHARED_MEMORY=1",
+    ]
     words = ["cc", *flags, f"-I{C / 'include'}", *sources, *builds, "-o", path]
     subprocess.run([str(it) for it in words], check=True)
     return path

@@ -13,8 +13,8 @@ PROCESSORS = {
     "v2": "Nehalem Westmere SandyBridge IvyBridge",
     "v3": "Haswell Skylake-Client EPYC",
 }
-LEVEL_2 = "sse3 ssse3 sse4.1 sse4.2 cx16 popcnt lahf-lm".split()
-LEVEL_3 = "avx avx2 bmi1 bmi2 f16c fma abm movbe xsave".split()
+LEVEL_2 = ["sse3", "ssse3", "sse4.1", "sse4.2", "cx16", "popcnt", "lahf-lm"]
+LEVEL_3 = ["avx", "avx2", "bmi1", "bmi2", "f16c", "fma", "abm", "movbe", "xsave"]
 # Instructions that the code of a level has, and that of no older level.
 INSTRUCTIONS = {"v1": "%xmm", "v2": "pshufb", "v3": "%ymm", "v4": r"mm(1[6-9]|2\d|3[01])\b"}
 # Bits of leaf 7 and of XCR0: qemu has no such processor.

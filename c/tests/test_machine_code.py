@@ -9,7 +9,7 @@ import unittest
 from harness import BUILDS, OUT, built, need, need_file, need_host, need_native, run, sources_for
 
 OBJDUMP = "objdump"
-COUNTED = "valgrind --tool=callgrind --callgrind-out-file=/dev/null".split()
+COUNTED = ["valgrind", "--tool=callgrind", "--callgrind-out-file=/dev/null"]
 # An instruction that multiplies vectors, and the number of them in a G.
 MULTIPLIES = re.compile(r"\tv?pmuludq\b")
 OF_A_BLOCK = {"v1": 256, "v2": 256, "v3": 128, "v4": 64}

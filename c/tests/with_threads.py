@@ -48,7 +48,8 @@ class WithThreads(unittest.TestCase):
         password too."""
         for at in range(record.rindex("$") + 1, len(record)):
             other = record[:at] + ("B" if record[at] == "A" else "A") + record[at + 1 :]
-            allowed = (N.MISMATCH, N.TAG)[: 1 + (at == len(record) - 1)]
+            is_last = at == len(record) - 1
+            allowed = (N.MISMATCH, N.TAG) if is_last else (N.MISMATCH,)
             self.assertIn(call("check_from", other, inputs(**given)), allowed, other)
         for name in ("password", "secret", "associated"):
             if shorter := given.get(name, b"")[:-1]:

@@ -17,7 +17,7 @@ import sys
 
 HERE = pathlib.Path(__file__).resolve().parent
 TOP = HERE.parent.parent
-sys.path[:0] = [str(HERE), str(TOP / "tools")]
+sys.path = [str(HERE), str(TOP / "tools"), *sys.path]
 import clauses  # noqa: E402
 import header  # noqa: E402
 import pages  # noqa: E402

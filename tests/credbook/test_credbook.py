@@ -43,7 +43,10 @@ FIELDS = [
     (f"load a {RECORD[:-1]}5", "bad 7 tag"),
     (f"load a {'x' * 513}", "bad 9 toolong"),
     (f"load a {RECORD.replace('t=2', f't={2**32 - 1}')}", "ok"),
-    *((f"commit {it}", "bad 12 key") for it in ("", *"0 65 00 01 064 +1 -1 1x x 257".split())),
+    *(
+        (f"commit {it}", "bad 12 key")
+        for it in ("", *["0", "65", "00", "01", "064", "+1", "-1", "1x", "x", "257"])
+    ),
     *((f"commit {it}", "bad 15 idle") for it in (1, 64)),
     *(
         (f"begin 1 verify a {it}", "bad 13 password")

@@ -8,7 +8,7 @@ from tests import helpers
 from tests.helpers import TOP, each, need, run
 from tests.needs import need_file
 
-sys.path[:0] = [str(TOP / "tools"), str(TOP / "packaging")]
+sys.path = [str(TOP / "tools"), str(TOP / "packaging"), *sys.path]
 import components  # noqa: E402
 import tree  # noqa: E402
 

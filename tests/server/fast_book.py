@@ -282,7 +282,10 @@ def write(operation: str, tag: str, said: str) -> None:
     for word in FAULTS.keys() & {"dies", "killed"}:
         if written >= int(FAULTS[word]):
             os.write(1, f"{tag} {said}".encode())
-            os.kill(os.getpid(), signal.SIGKILL) if word == "killed" else os._exit(5)
+            if word == "killed":
+                os.kill(os.getpid(), signal.SIGKILL)
+            else:
+                os._exit(5)
     if written == int(FAULTS.get("kills", "-1")):
         os.kill(os.getppid(), signal.SIGKILL)
         os._exit(5)

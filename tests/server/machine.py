@@ -41,7 +41,8 @@ def install(*paths: str) -> None:
 def commands_on_page(word: str) -> list[str]:
     """The lines of shell on the page that begin with a word."""
     blocks = re.findall(r"```sh\n(.*?)```", PAGE.read_text(), re.S)
-    return [line for block in blocks for line in block.splitlines() if line.startswith(word)]
+    lines = "\n".join(blocks).splitlines()
+    return [line for line in lines if line.startswith(word)]
 
 
 def shell(line: str, status: int = 0) -> str:

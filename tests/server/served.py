@@ -266,9 +266,10 @@ class Service:
     def talk(self, table: str) -> None:
         """Asks the lines of a table as Client.talk, with the socket before each line."""
         with Client(self.path("login")) as login, Client(self.path("admin")) as admin:
+            clients = {"login": login, "admin": admin}
             for row in table.strip().splitlines():
                 door, _, rest = row.lstrip().partition(" ")
-                {"login": login, "admin": admin}[door].talk(rest)
+                clients[door].talk(rest)
 
     def log(self) -> str:
         return (self.folder / "log").read_text()

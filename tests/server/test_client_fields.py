@@ -215,7 +215,7 @@ class OtherLanguages(Case):
         service = self.serving("--tries", "2").enrol(ada="secret", bob="")
         logins = [(b"ada", b"secret"), (b"bob", b""), (b"ada", b""), (b"zoe", b"secret")]
         said = self.php_answers(service.path(), *logins, *[(b"ada", b"guess")] * 2, logins[0])
-        self.assertEqual(said, "true true false false false NULL NULL".split())
+        self.assertEqual(said, ["true", "true", "false", "false", "false", "NULL", "NULL"])
         self.assertEqual(self.php_answers("/nonexistent", logins[0]), ["NULL"])
 
     def test_php_hostile_fields(self) -> None:

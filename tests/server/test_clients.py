@@ -95,7 +95,8 @@ class Clients(ClientCase):
         sent = ["account Ada", f"verify ada {SECRET}"]
         self.assertEqual(sorted(service.asked()[asked:]), sorted(sent * 2), "what isn't sent")
         for path in ("/nonexistent/socket", login):
-            service.stop() if path == login else None
+            if path == login:
+                service.stop()
             for call in self.calls(path):
                 text = f"^{path}: (No such file or directory|Connection refused)$"
                 with self.assertRaisesRegex(self.server.Unavailable, text):

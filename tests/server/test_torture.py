@@ -22,7 +22,7 @@ from typing import Optional
 from served import CHEAP, FAST_BOOK, TOP, Case, Client, Given, Service, chosen_book, field_of
 from tests.needs import need_file
 
-sys.path[:0] = str(TOP / "python"), str(TOP / "python/tests/accounts")
+sys.path = [str(TOP / "python"), str(TOP / "python/tests/accounts"), *sys.path]
 need_file(os.environ["RIGZUMAL_LIBRARY"])
 from torture.history import Account, Attempt, Illegal, Operation, check  # noqa: E402
 

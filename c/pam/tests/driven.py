@@ -23,7 +23,7 @@ from tests import helpers  # noqa: E402
 ROOM = helpers.common_folder()
 SOURCES = ["pam_rigzumal.c", "../src/base64.c"]
 WARNINGS = os.environ.get("TEST_WARNINGS", "-Wall -Wextra -Wpedantic -Werror").split()
-SANITIZED = "-O1 -fsanitize=address,undefined -fno-sanitize-recover=all".split()
+SANITIZED = ["-O1", "-fsanitize=address,undefined", "-fno-sanitize-recover=all"]
 
 
 class Pam(enum.IntEnum):

@@ -79,7 +79,10 @@ class Operations:
         accounts = self.accounts(self.high)
         slow = self.worked(accounts, kind, password, new)
         self.assertEqual(slow.reply.makes_change, kind is not Kind.VERIFY)
-        for stands in ("another", "one", *[None][: stood is not None]):
+        others = ["another", "one"]
+        if stood is not None:
+            others.append(None)
+        for stands in others:
             record = self.give(stands)
             self.assertEqual(accounts.commit(slow), Answer(Reply.CHANGED, record, record))
             self.assertEqual(self.stands(), record)
@@ -102,8 +105,8 @@ class LostAnswers:
     def test_what_stands_tells(self, stands, text, undone, done):
         """A new record in the row shows that it was stored; NULL shows nothing, so nothing is sent
         again."""
-        for is_done, error, times in itertools.product((0, 1), self.unknown, (1, 3)):
-            reply, is_record = (undone, done)[is_done]
+        for is_done, error, times in itertools.product((False, True), self.unknown, (1, 3)):
+            reply, is_record = done if is_done else undone
             record = self.give(stands)
             accounts = self.losing(not is_done, times, error, hasher=self.high)
             with self.subTest(done=is_done, error=error, times=times):

@@ -113,7 +113,10 @@ def killed_servers(run, node, pause=1.5):
     count = 0
     time.sleep(1.5)
     while run.process.is_alive():
-        node.end(signal.SIGQUIT) if count % 2 else node.kill()
+        if count % 2:
+            node.end(signal.SIGQUIT)
+        else:
+            node.kill()
         node.start()
         count += 1
         run.process.join(pause)

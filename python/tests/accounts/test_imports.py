@@ -226,7 +226,7 @@ class Json(Commands):
             ("check eve", "x", "noaccount"),
             ("change dan", "one\ntwo", "replaced"),
         ):
-            status = 4 * (reply == "noaccount")
+            status = 4 if reply == "noaccount" else 0
             self.assertEqual(self.told(words, given, status), [{"reply": reply}])
         (kept,) = self.told("disable --show dan")
         self.assertEqual((kept["reply"], parts(kept["record"]).memory), ("disabled", 64))
