@@ -56,7 +56,7 @@ def refused_here(text):
     found = re.fullmatch(form, text)
     if found is None:
         return None
-    version, memory, lanes = (int(it or 16) for it in found.group(1, 2, 3))
+    version, memory, lanes = int(found[1] or 16), int(found[2]), int(found[3])
     if version not in (16, 19):
         return NO_VERSION
     if lanes > 255:
@@ -73,13 +73,24 @@ def is_costly(text):
     return memory * passes > 10000 and max(memory, passes) < 2**32
 
 
-def text_of(it):
-    salt, tag = (
-        base64.b64encode(data).decode().rstrip("=")
-        for data in (it.salt or b"somesalt", it.password + b"tags"[: it.tag_size])
-    )
-    numbers = f"m={it.memory},t={it.passes},p={it.lanes}"
-    return f"${KINDS[it.kind % 3]}$v=19${numbers}${salt}${tag}"
+def letters(data):
+    return base64.b64encode(data).decode().rstrip("=")
+
+
+def text_of(inputs):
+    salt = letters(inputs.salt or b"somesalt")
+    tag = letters(inputs.password + b"tags"[: inputs.tag_size])
+    numbers = f"m={inputs.memory},t={inputs.passes},p={inputs.lanes}"
+    return f"${KINDS[inputs.kind % 3]}$v=19${numbers}${salt}${tag}"
+
+
+def asked(library, call, given):
+    """The result of a call, by its name or as a function of the library."""
+    return getattr(library, call)(*given) if isinstance(call, str) else call(library, *given)
+
+
+def first_of(result):
+    return result[0] if isinstance(result, tuple) else result
 
 
 class Comparison:
@@ -90,11 +101,8 @@ class Comparison:
     def same(self, call, *given, refused=None):
         """The answers of both libraries must be the same; but if a number is given, ours refuses by
         that number the call that the original hashes."""
-        one, other = (
-            getattr(lib, call)(*given) if isinstance(call, str) else call(lib, *given)
-            for lib in (self.ours, self.theirs)
-        )
-        answer, wanted = (it[0] if isinstance(it, tuple) else it for it in (one, other))
+        one, other = asked(self.ours, call, given), asked(self.theirs, call, given)
+        answer, wanted = first_of(one), first_of(other)
         if refused is not None and wanted in HASHED:
             self.refused[refused] = self.refused.get(refused, 0) + 1
             # the output is unchanged: all of one byte

@@ -103,12 +103,12 @@ class Inputs:
     @classmethod
     def plain(cls, **changes):
         """Good inputs of two lanes, except for these."""
-        it = cls(random.Random(1))
-        it.salt, it.password, it.secret, it.associated = b"somesalt", b"password", b"x", b"y"
-        it.null, it.flags, it.callbacks, it.overlap, it.version = "", 0, "", 0, 0x13
-        it.lanes, it.memory, it.passes, it.threads, it.tag_size, it.kind = 2, 16, 1, 1, 32, 2
-        vars(it).update(changes)
-        return it
+        plain = cls(random.Random(1))
+        good = {"salt": b"somesalt", "password": b"password", "secret": b"x", "associated": b"y"}
+        good |= {"null": "", "flags": 0, "callbacks": "", "overlap": 0, "version": 0x13}
+        good |= {"lanes": 2, "memory": 16, "passes": 1, "threads": 1, "tag_size": 32, "kind": 2}
+        vars(plain).update({**good, **changes})
+        return plain
 
 
 def zeros(size):
@@ -129,6 +129,10 @@ def places(it):
     return found
 
 
+def address_of(call):
+    return ctypes.cast(call, ctypes.c_void_p).value
+
+
 def context_at(it, arena, callbacks):
     """A context over an arena into which the inputs are written."""
     found = places(it)
@@ -144,14 +148,9 @@ def context_at(it, arena, callbacks):
     for name, content in data.items():
         fields += [address(name), len(content)]
     fields += [it.passes, it.memory, it.lanes, it.threads, it.version]
-    pair = [
-        ctypes.cast(call, ctypes.c_void_p).value for call in (callbacks.allocate, callbacks.free)
-    ]
-    if it.callbacks == "":
-        pair = [None, None]
-    elif it.callbacks in ("odd", "dod"):
-        pair[it.callbacks == "odd"] = None
-    return Context(*fields, *pair, it.flags if it.null == "" else 0)
+    allocate = None if it.callbacks in ("", "dod") else address_of(callbacks.allocate)
+    free = None if it.callbacks in ("", "odd") else address_of(callbacks.free)
+    return Context(*fields, allocate, free, it.flags if it.null == "" else 0)
 
 
 def by_context(lib, it, name, *given):

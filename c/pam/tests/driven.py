@@ -169,8 +169,13 @@ def sends(answer: bytes) -> Callable[[bytes, socket.socket], None]:
 
 
 def answers(**words: bytes) -> Callable[[bytes, socket.socket], None]:
-    """Answers each operation as `ways` say, and others with yes."""
-    return lambda line, client: client.sendall(words.get(line.split()[1].decode(), b"1 yes\n"))
+    """Answers each operation with its words, and others with yes."""
+
+    def reply(line: bytes, client: socket.socket) -> None:
+        operation = line.split()[1].decode()
+        client.sendall(words.get(operation, b"1 yes\n"))
+
+    return reply
 
 
 def said_at(answer: bytes, question: Question) -> tuple[Said, list[bytes]]:

@@ -21,10 +21,10 @@ VERIFY, KNOWN = line_of("verify", "ada", b"secret"), line_of("known", "ada")
 EDITS = [(at, 0, new) for at in range(7) for new in (b" ", b"\0", b"1")]
 EDITS += [(at, 1, new) for at in range(6) for new in (b"", b"Y")]
 NO_ANSWERS = {YES[:at] + new + YES[at + cut :] for at, cut, new in EDITS} - {YES}
-LINES = b"|1|1 |yes|1 no yes|2 yes|1 yes\r|1 yes\0no|1 YES"
-LINES += b"|1 yes\n1 yes|1 no\n1 yes|2 no\n1 yes|1 replaced"
-LINES += b"|1 unavailable|* denied|1 denied|1 bad 14 busy|1 n|1 none|1 noyes"
-NO_ANSWERS |= {line + b"\n" for line in LINES.split(b"|")}
+LINES = [b"", b"1", b"1 ", b"yes", b"1 no yes", b"2 yes", b"1 yes\r", b"1 yes\0no", b"1 YES"]
+LINES += [b"1 yes\n1 yes", b"1 no\n1 yes", b"2 no\n1 yes", b"1 replaced", b"1 unavailable"]
+LINES += [b"* denied", b"1 denied", b"1 bad 14 busy", b"1 n", b"1 none", b"1 noyes"]
+NO_ANSWERS |= {line + b"\n" for line in LINES}
 NO_ANSWERS |= {b"1 " + b"y" * 62, b"1 " + b"y" * 61 + b"\n", b"1 yes" + b" " * 70 + b"\n", b""}
 NO_ANSWERS |= {b"x" * 1000000, bytes(range(256)), b"\xff" * 63 + b"\n"}
 
