@@ -24,11 +24,11 @@ enrol bob one noaccount; reset bob one noaccount; change bob one x noaccount"""
 UPGRADED = "upgrade ann one upgraded; login ann one yes; login ann two no"
 # Costs of new records, the record in the row, the call, and the reply.
 TABLE = ("low", "one", AT_ONE), ("low", None, AT_NONE), ("high", "one", UPGRADED)
-CALLS = [
-    (costs, stands, *call.rsplit(" ", 1))
-    for costs, stands, calls in TABLE
-    for call in re.split("; |\n", calls)
-]
+CALLS = []
+for of_new_records, of_row, texts in TABLE:
+    for line in re.split("; |\n", texts):
+        call, _, answer = line.rpartition(" ")
+        CALLS.append((of_new_records, of_row, call, answer))
 
 
 class Operations:
@@ -259,7 +259,12 @@ class OnServers:
         """The call raises a refusal of the server at once, instead of after the whole patience."""
         self.execute("ALTER TABLE users ADD CHECK (record LIKE '%m=64,%')")
         dialect = losing(self.another_dialect(), True, 99, ConnectionError("planted"), ["undo"])
-        made, connect = [], lambda: made.append(self.connect()) or made[-1]
+        made = []
+
+        def connect():
+            made.append(self.connect())
+            return made[-1]
+
         accounts = self.accounts(self.high, dialect, connect, patience=60.0)
         self.assertRaises(StoreFault, accounts.change, "ann", "one", "two")
         self.assertLess(len(made), 5)

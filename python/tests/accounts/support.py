@@ -27,10 +27,9 @@ from tests.helpers import each  # noqa: F401: of each test
 from tests.needs import lacking
 
 # The codes of sqlite3's errors, which have names from Python 3.11 on.
-CHECK_FAILED, FOREIGN_KEY_FAILED = (
-    f"SQLITE_CONSTRAINT_{it}" if sys.version_info >= (3, 11) else ""
-    for it in ("CHECK", "FOREIGNKEY")
-)
+CHECK_FAILED = FOREIGN_KEY_FAILED = ""
+if sys.version_info >= (3, 11):
+    CHECK_FAILED, FOREIGN_KEY_FAILED = "SQLITE_CONSTRAINT_CHECK", "SQLITE_CONSTRAINT_FOREIGNKEY"
 warnings.simplefilter("ignore", LowMemoryWarning)
 # The patience, in seconds, of an operation that must succeed even on a slow machine.
 PATIENCE = 60.0

@@ -186,7 +186,12 @@ class OnPostgres(engines.OnPostgres, Base):
     def test_rows_are_read_as_they_are_sent(self):
         """After the first row the statement isn't at its end, so nothing stores all rows."""
         self.execute("INSERT INTO users SELECT 'user' || it FROM generate_series(1, 9) AS it")
-        made, connect = [], lambda: made.append(self.connect()) or made[-1]
+        made = []
+
+        def connect():
+            made.append(self.connect())
+            return made[-1]
+
         rows = _import.Rows(PerThread(connect), self.dialect).every()
         self.assertEqual(next(rows)[0], "ann")
         self.assertEqual(made[0].info.transaction_status.name, "ACTIVE")

@@ -174,8 +174,12 @@ class Hashers(Same):
     )
     def test_signatures_are_theirs(self, place, names):
         for name in names:
-            signature = lambda it: inspect.signature(getattr(getattr(it, place), name))
-            self.same(lambda it: list(signature(it).parameters), name)
+
+            def parameters(module):
+                call = getattr(getattr(module, place), name)
+                return list(inspect.signature(call).parameters)
+
+            self.same(parameters, name)
 
 
 class Parameters(Same):
@@ -189,8 +193,9 @@ class Parameters(Same):
         names = [it.name for it in dataclasses.fields(ours.Parameters)]
         for text in texts:
 
-            def values(it):
-                found = (getattr(it.extract_parameters(text), name) for name in names)
+            def values(module):
+                parameters = module.extract_parameters(text)
+                found = [getattr(parameters, name) for name in names]
                 return [getattr(value, "name", value) for value in found]
 
             self.same(values, text)
@@ -219,9 +224,11 @@ class Parameters(Same):
         hashed = ours.PasswordHasher().hash("x")
         self.assertTrue(hashed.startswith("$argon2id$v=19$m=65536,t=3,p=4$"), hashed)
         self.assertEqual(ours.profiles.get_default_parameters(), ours.extract_parameters(hashed))
-        names = "TIME_COST MEMORY_COST PARALLELISM HASH_LENGTH RANDOM_SALT_LENGTH"
-        found = [getattr(ours, f"DEFAULT_{name}") for name in names.split()]
-        self.assertEqual(found, [3, 65536, 4, 32, 16])
+        self.assertEqual(ours.DEFAULT_TIME_COST, 3)
+        self.assertEqual(ours.DEFAULT_MEMORY_COST, 65536)
+        self.assertEqual(ours.DEFAULT_PARALLELISM, 4)
+        self.assertEqual(ours.DEFAULT_HASH_LENGTH, 32)
+        self.assertEqual(ours.DEFAULT_RANDOM_SALT_LENGTH, 16)
         self.assertEqual(ours.low_level.ARGON2_VERSION, 19)
         self.assertEqual(ours.PasswordHasher().encoding, "utf-8")
 
