@@ -222,9 +222,8 @@ def is_built(program, level):
     built, seal = files_of(program, level)
     if not (built.is_file() and seal.is_file()):
         return False
-    return seal.read_text() in [
-        sum_of(program, level, it) for it in (("",) if has_rt() else ("", LINKED))
-    ]
+    makers = [""] if has_rt() else ["", LINKED]
+    return seal.read_text() in [sum_of(program, level, maker) for maker in makers]
 
 
 def best_level(program):
@@ -233,10 +232,9 @@ def best_level(program):
     here = level_here()
     if has_rt():
         return here
-    return max(
-        (it for it in LEVELS if it <= here and programs.has_object(program, it, programs.PACKED)),
-        default=here,
-    )
+    levels = [level for level in LEVELS if level <= here]
+    packed = [level for level in levels if programs.has_object(program, level, programs.PACKED)]
+    return max(packed, default=here)
 
 
 def link_packed(program, level):

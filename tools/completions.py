@@ -21,8 +21,12 @@ from daemon.ask.commands import COMMANDS  # noqa: E402
 
 PROGRAMS = {"credbook": "crates/credbook/out/credbook", "credkeep": "crates/credkeep/out/credkeep"}
 PROGRAMS |= {"credkeep-server": "bin/credkeep-server"}
+# An option in a help text: its name, the name of its value, and its text, perhaps on the next line.
 OPTION = re.compile(
-    r"^ +(?:-\w, )?--([\w-]+)(?:[ =]<?([\w-]+)>?)?(?:(?:  +|\n {8,})(?!-)(\S.*))?", re.M
+    r"^[ ]+(?:-\w,[ ])?--([\w-]+)"
+    r"(?:[ =]<?([\w-]+)>?)?"
+    r"(?:(?:[ ]{2,}|\n[ ]{8,})(?!-)(\S.*))?",
+    re.M,
 )
 
 

@@ -90,7 +90,8 @@ class Tokens:
         }
         kinds |= {"word": r"[A-Za-z_]\w*", "sign": SIGN}
         form = "|".join(f"(?P<{kind}>{it})" for kind, it in kinds.items())
-        self.found, self.texts, self.pair, self.within, opened = [], [], {}, [], []
+        self.found, self.texts, self.within = [], [], []
+        self.pair, opened = {}, []
         for token in re.finditer(form, self.source, re.S | re.M):
             at, text = len(self.found), token.group()
             # the end of a line has a meaning only outside of brackets
@@ -245,15 +246,19 @@ class Tokens:
                 f"{self.text(second, last)}, {self.text(first, end)}",
             )
         for argument in arguments:
-            yield self.without(
-                "argument dropped", *argument
-            ) if self.language is PYTHON else self.constant(*argument)
+            if self.language is PYTHON:
+                yield self.without("argument dropped", *argument)
+            else:
+                yield self.constant(*argument)
 
 
 def mutants_of(path):
     """Returns the mutants of a file, each only once, and none equal to the file."""
     source = path.read_bytes()
-    places = {
-        (it.start, it.end, it.new): it for it in Tokens(source, LANGUAGES[path.suffix]).mutants()
-    }
-    return sorted(it for it in places.values() if it.new.encode() != source[it.start : it.end])
+    found = Tokens(source, LANGUAGES[path.suffix]).mutants()
+    places = {(mutant.start, mutant.end, mutant.new): mutant for mutant in found}
+    return sorted(
+        mutant
+        for mutant in places.values()
+        if mutant.new.encode() != source[mutant.start : mutant.end]
+    )

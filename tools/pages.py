@@ -150,9 +150,11 @@ def figures() -> Facts:
 
 def in_minutes(elapsed: str) -> str:
     """`7 min 23 s to 15 min 47 s` in the form of README: `7 to 16`."""
-    found = re.findall(r"(?:(\d+) h )?(\d+) min(?: (\d+) s)?", elapsed)
-    minutes = (int(h or 0) * 60 + int(m) + int(s or 0) / 60 for h, m, s in found)
-    return " to ".join(f"{it:.0f}" for it in minutes)
+    times = []
+    for hours, minutes, seconds in re.findall(r"(?:(\d+) h )?(\d+) min(?: (\d+) s)?", elapsed):
+        whole = int(hours or 0) * 60 + int(minutes) + int(seconds or 0) / 60
+        times.append(f"{whole:.0f}")
+    return " to ".join(times)
 
 
 def times() -> Facts:

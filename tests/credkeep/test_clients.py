@@ -61,8 +61,10 @@ class Line:
         is_right, is_new = stored.password == self.password, stored.costs != self.made.costs
         if self.verb == "verify":
             return "yes" if is_right else "no", stored
+        if self.verb == "login" and not is_right:
+            return "no", stored
         if self.verb == "login":
-            return "yes" if is_right else "no", self.made if is_right and is_new else stored
+            return "yes", self.made if is_new else stored
         if not is_right:
             return "wrong", stored
         if self.verb == "upgrade":

@@ -14,9 +14,8 @@ def mode_of(path: pathlib.Path) -> int:
 
 
 # Lines that the login socket denies.
-DENIED = (
-    "enrol account load show rename list reset disable delete login upgrade remove serve backup"
-)
+DENIED = ["enrol", "account", "load", "show", "rename", "list", "reset", "disable", "delete"]
+DENIED += ["login", "upgrade", "remove", "serve", "backup"]
 # Lines that take a setting behind them, and the answers where they may have one.
 TAKE_SETTINGS = {
     f"change ada {SECRET} {SECRET}": "replaced",
@@ -56,7 +55,7 @@ class Asking(Case):
         line = f"verify zoe {SECRET}"
         self.assertEqual(service.asked()[-1], line, "the book hashes for an unknown name")
         asked = len(service.asked())
-        for word in [*DENIED.split(), *NO_OPERATIONS]:
+        for word in [*DENIED, *NO_OPERATIONS]:
             self.assertEqual(login.ask(f"{word} ada {SECRET}"), "denied", word)
         self.assertEqual(login.ask("show"), "denied")
         self.assertEqual(len(service.asked()), asked, "a denied line came to the book")

@@ -16,9 +16,8 @@ ENROL, VERIFY, LOGIN = f"enrol ann {TYPED}", f"verify ann {TYPED}", f"login ann 
 UPGRADE, REMOVE, RESET = f"upgrade ann {TYPED}", f"remove ann {TYPED}", f"reset ann {TYPED}"
 CHANGE = f"change ann {TYPED} {NEWER}"
 CALLS = (ENROL, VERIFY, LOGIN, UPGRADE, REMOVE, RESET, CHANGE)
-# The operations that read the record, and those that write one.
+# The operations that read the record.
 READ = (VERIFY, LOGIN, UPGRADE, REMOVE, CHANGE)
-MAKE = (ENROL, LOGIN, UPGRADE, RESET, CHANGE)
 # Those that change an account with a record of other costs, except `login`.
 ALWAYS_CHANGE = (UPGRADE, REMOVE, RESET, CHANGE)
 PARTS = (Kind.CHANGE, "ann", TYPED, NEWER)
