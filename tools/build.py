@@ -121,20 +121,20 @@ class Progress:
         below it, if each crate takes as long as estimated at the pace here."""
         now, done, begun = time.monotonic(), {**self.done}, {**self.running}
         pace, at = self.pace(done), 0
-        left = {
-            it: max(pace * self.expected[it] - now + begun.get(it, now), EVERY)
-            for it in self.names
-            if it not in done
-        }
-        waiting = [it for it in left if it not in begun]
-        ends = {it: left[it] for it in begun if it in left}
+        left = {}
+        for name in self.names:
+            if name not in done:
+                end = begun.get(name, now) + pace * self.expected[name]
+                left[name] = max(end - now, EVERY)
+        waiting = [name for name in left if name not in begun]
+        ends = {name: left[name] for name in begun if name in left}
         while waiting or ends:
-            ready = [it for it in waiting if not {*below(it)} & {*waiting, *ends}]
+            ready = [name for name in waiting if not {*below(name)} & {*waiting, *ends}]
             for name in ready[: max(AT_ONCE - len(ends), 0)]:
                 waiting.remove(name)
                 ends[name] = at + left[name]
             at = min(ends.values())
-            ends = {it: end for it, end in ends.items() if end > at}
+            ends = {name: end for name, end in ends.items() if end > at}
         return at
 
     def say(self, what, end="\n"):

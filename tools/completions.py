@@ -129,7 +129,7 @@ def quoted(text):
 
 def written(template, fields):
     return re.sub(
-        r"@([A-Z]+)@", lambda it: fields[it[1]], (TOP / "completions" / template).read_text()
+        r"@([A-Z]+)@", lambda found: fields[found[1]], (TOP / "completions" / template).read_text()
     )
 
 

@@ -118,19 +118,21 @@ class Tokens:
     def edge(self, at, step, ends):
         """Finds the last token, in one direction, of the operand beside the token at a place."""
         while 0 <= at + step < len(self.texts):
-            text, jumps = self.texts[at + step], OPENING if step < 0 else OPENING.values()
-            if text in ends or text not in jumps and self.within[at + step] != self.within[at]:
+            beside = at + step
+            text = self.texts[beside]
+            is_bracket = text in (OPENING if step < 0 else OPENING.values())
+            if text in ends or not is_bracket and self.within[beside] != self.within[at]:
                 break
-            at = self.pair.get(at + step, at + step) if text in jumps else at + step
+            at = self.pair.get(beside, beside) if is_bracket else beside
         return at
 
     def parts(self, opening):
         """Yields the first and last token of each part between commas inside a bracket."""
         closing = self.pair.get(opening, opening)
         commas = [
-            it
-            for it in range(opening, closing)
-            if self.texts[it] == "," and self.within[it] == opening
+            at
+            for at in range(opening, closing)
+            if self.texts[at] == "," and self.within[at] == opening
         ]
         edges = [opening, *commas, closing]
         return [(low + 1, high - 1) for low, high in zip(edges, edges[1:]) if low + 1 < high]
@@ -206,15 +208,12 @@ class Tokens:
             yield self.mutant("operand dropped", at, self.pair[at], "")
         if text == "(" and is_name and self.texts[at - 2] not in ("fn", "def", "class"):
             # outside of all brackets, C and Rust have parameters
-            yield from self.of_call(
-                self.parts(at) if self.language is PYTHON or self.within[at] >= 0 else []
-            )
+            if self.language is PYTHON or self.within[at] >= 0:
+                yield from self.of_call(self.parts(at))
         elif text in self.language.lists and not is_name and len(self.parts(at)) > 1:
-            yield from (
-                self.without("element dropped", *it)
-                for it in self.parts(at)
-                if ";" not in self.texts[it[0] : it[1]]
-            )
+            for first, last in self.parts(at):
+                if ";" not in self.texts[first:last]:
+                    yield self.without("element dropped", first, last)
 
     def without(self, operator, first, last):
         return self.mutant(operator, first, last + (self.texts[last + 1] == ","), "")
@@ -237,7 +236,7 @@ class Tokens:
 
     def of_call(self, arguments):
         # the order of named arguments has no effect
-        plain = [it for it in arguments if "=" not in self.texts[it[0] : it[1]]]
+        plain = [(first, last) for first, last in arguments if "=" not in self.texts[first:last]]
         for (first, end), (second, last) in zip(plain, plain[1:]):
             yield self.mutant(
                 "operands swapped",

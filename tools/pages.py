@@ -141,11 +141,11 @@ def figures() -> Facts:
     for word, count in there.items():
         said = re.findall(rf"(\d+) {word}", readme)
         yield None if said else f"README.md doesn't say how many {word} there are: {count}"
-        for it in said:
-            wrong = f"README.md says {it} {word}, and there are {count}"
-            yield None if int(it) == count else wrong
-    for it in re.findall(r"\b[A-Z_]+_MINUTES\b", readme):
-        yield f"README.md: {it} isn't filled in"
+        for number in said:
+            wrong = f"README.md says {number} {word}, and there are {count}"
+            yield None if int(number) == count else wrong
+    for name in re.findall(r"\b[A-Z_]+_MINUTES\b", readme):
+        yield f"README.md: {name} isn't filled in"
 
 
 def in_minutes(elapsed: str) -> str:

@@ -186,18 +186,14 @@ def trusted(text, crates):
 def check():
     """Returns the faults of the names on the page."""
     text = PAGE.read_text()
-    return [
-        it and f"docs/PROMISES.md: {it}"
-        for it in (*calls(text), *words(text), *files(text), *cells(text))
-    ]
+    faults = (*calls(text), *words(text), *files(text), *cells(text))
+    return [fault and f"docs/PROMISES.md: {fault}" for fault in faults]
 
 
 def check_trusted():
     """Returns the faults of the list of trusted code, compared with the toolchain."""
-    return [
-        it and f"docs/PROMISES.md: {it}"
-        for it in trusted(PAGE.read_text(), reached(kit() / "rlibs"))
-    ]
+    faults = trusted(PAGE.read_text(), reached(kit() / "rlibs"))
+    return [fault and f"docs/PROMISES.md: {fault}" for fault in faults]
 
 
 def main():

@@ -263,9 +263,9 @@ class Statements:
             names_of_code = {**file.others, **file.constants}
             self.say(f"{name} {item.kind}", stated(item, owner, is_run), names_of_code)
         if is_public or of_trait or item.kind != "fn":
-            for it in item.clauses:
-                words = definitions.words(it.text)
-                self.say(f"{name} {it.kind} {it.name}".rstrip(), words, file.names)
+            for clause in item.clauses:
+                words = definitions.words(clause.text)
+                self.say(f"{name} {clause.kind} {clause.name}".rstrip(), words, file.names)
         for inner in item.inner:
             self.read(file, inner, None if item.kind == "mod" else item)
 

@@ -210,11 +210,8 @@ def argon2_calls(ways, call, *setting):
 def without_least_memory(room):
     """Builds the library in a form that starts threads whatever the memory is."""
     path = pathlib.Path(room) / "librigzumal.so"
-    sources = [
-        it
-        for it in sorted((C / "src").glob("*.c"))
-        if not re.match("libargon2|arm64|build", it.name)
-    ]
+    files = sorted((C / "src").glob("*.c"))
+    sources = [file for file in files if not re.match("libargon2|arm64|build", file.name)]
     builds = sorted((C / "out").glob("v?.o"))
     flags = [
         "-O2",
@@ -301,11 +298,10 @@ def table_of_callers(ours, other, callers, settings):
     if other:
         ways["other"] = libraries.rigzumal_argon2(other)
         columns["other"] = spread("other")
-    each = itertools.product(settings, callers)
-    rows = {
-        (shown(*it), count): argon2_calls(ways, functools.partial(at_once, count), *it)
-        for it, count in each
-    }
+    rows = {}
+    for setting, count in itertools.product(settings, callers):
+        call = functools.partial(at_once, count)
+        rows[shown(*setting), count] = argon2_calls(ways, call, *setting)
     return ["m (KiB), t, p", "Callers"], columns, rows
 
 

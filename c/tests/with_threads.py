@@ -54,17 +54,17 @@ class WithThreads(unittest.TestCase):
         for name in ("password", "secret", "associated"):
             if shorter := given.get(name, b"")[:-1]:
                 judged = self.same(
-                    lambda it: call("check_from", record, it), {**given, name: shorter}
+                    lambda data: call("check_from", record, data), {**given, name: shorter}
                 )
                 self.assertEqual(judged, RIGZUMAL.MISMATCH, name)
         self.assertNotEqual(
-            self.same(lambda it: call("check_from", record[:-1], it), given), RIGZUMAL.OK
+            self.same(lambda data: call("check_from", record[:-1], data), given), RIGZUMAL.OK
         )
 
     def compare_calls(self, costs, room, size, given):
-        tag = self.same(lambda it: tag_from(size, costs, it), given)
+        tag = self.same(lambda data: tag_from(size, costs, data), given)
         text = "${}$v={}$m={},t={},p={}".format(KINDS[costs[0]], *costs[1:])
-        made = self.same(lambda it: written_text("record_from", room, size, text, it), given)
+        made = self.same(lambda data: written_text("record_from", room, size, text, data), given)
         if made[0] != RIGZUMAL.OK:
             return
         others = [given.get(name, NONE) for name in ("password", "salt", "secret", "associated")]
@@ -73,7 +73,9 @@ class WithThreads(unittest.TestCase):
             "argon2_write", RIGZUMAL.TEXT_SIZE, numbers(*costs), given["salt"], tag[1]
         )
         self.assertEqual(of_tag, made)
-        self.assertEqual(self.same(lambda it: call("check_from", made[1], it), given), RIGZUMAL.OK)
+        self.assertEqual(
+            self.same(lambda data: call("check_from", made[1], data), given), RIGZUMAL.OK
+        )
         self.check_refusals(made[1], given)
 
     def test_random_calls(self):
@@ -102,5 +104,5 @@ class WithThreads(unittest.TestCase):
             *((2, 0x13, 8 * 65536 + 24, 1, 2), (2, 0x13, 255 * 8, 2, 255)),
         ):
             given = {"password": b"password", "salt": b"somesalt"}
-            made = self.same(lambda it: tag_from(32, costs, it), given)
+            made = self.same(lambda data: tag_from(32, costs, data), given)
             self.assertEqual(made[0], RIGZUMAL.OK, costs)

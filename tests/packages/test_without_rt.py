@@ -224,5 +224,5 @@ class WithoutRt(helpers.Case):
         self.as_user(
             "sh", "-c", f"umask 077; make -C '{self.top}/python' install PREFIX={self.home}/p"
         )
-        for it in (self.home / "p").rglob("*"):
-            self.assertTrue(it.stat().st_mode & stat.S_IROTH, it)
+        for path in (self.home / "p").rglob("*"):
+            self.assertTrue(path.stat().st_mode & stat.S_IROTH, path)

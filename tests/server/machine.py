@@ -78,8 +78,8 @@ def prepared(room: pathlib.Path) -> None:
         added["passwd"] += f"{name}:x:{number}:4711::/tmp:/bin/sh\n"
         added["shadow"] += f"{name}:{crypted}:19000:0:99999:7:::\n"
     for file, lines in added.items():
-        with open(f"/etc/{file}", "a") as it:
-            it.write(lines)
+        with open(f"/etc/{file}", "a") as appended:
+            appended.write(lines)
     RUN.mkdir(parents=True)
     os.chmod(RUN, 0o755)
 
@@ -99,8 +99,8 @@ def started(room: pathlib.Path, *options: str) -> Service:
 
 
 def is_open(port: int) -> bool:
-    with socket.socket() as it:
-        return it.connect_ex(("127.0.0.1", port)) == 0
+    with socket.socket() as client:
+        return client.connect_ex(("127.0.0.1", port)) == 0
 
 
 def pamtester(service: str, user: str, tasks: str, typed: str, status: int, text: str) -> None:

@@ -113,8 +113,8 @@ def ran(*words: str) -> helpers.Ended:
 
 
 def is_listening(path: pathlib.Path) -> bool:
-    with socket.socket(socket.AF_UNIX) as it:
-        return it.connect_ex(str(path)) == 0
+    with socket.socket(socket.AF_UNIX) as client:
+        return client.connect_ex(str(path)) == 0
 
 
 def as_user(uid: int, gid: int, path: pathlib.Path, *lines: str) -> str:

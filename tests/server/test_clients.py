@@ -140,9 +140,9 @@ class Clients(ClientCase):
 
         def take() -> None:
             for said in (b"", b"1 yes\n"):
-                with listener.accept()[0] as it:
-                    it.recv(100 if said else 0)
-                    it.sendall(said)
+                with listener.accept()[0] as accepted:
+                    accepted.recv(100 if said else 0)
+                    accepted.sendall(said)
 
         later = threading.Timer(0.2, take)
         later.start()
@@ -230,7 +230,7 @@ class Clients(ClientCase):
             self.run_with(service.path(), used)
             verify = self.server.Client(service.path(), LONGEST).verify
             with concurrent.futures.ThreadPoolExecutor(8) as pool:
-                said = pool.map(lambda it: verify(f"user{it[0]}", f"secret{it[1]}"), pairs)
+                said = pool.map(lambda pair: verify(f"user{pair[0]}", f"secret{pair[1]}"), pairs)
                 self.assertEqual(list(said), ought)
             service.stop()
             self.assertEqual(

@@ -32,11 +32,11 @@ def install_stack(*more: str) -> None:
 def logged() -> Iterator[list[str]]:
     """The lines that programs log by syslog meanwhile."""
     lines: list[str] = []
-    with socket.socket(socket.AF_UNIX, socket.SOCK_DGRAM) as it:
-        it.bind("/dev/log")
+    with socket.socket(socket.AF_UNIX, socket.SOCK_DGRAM) as syslog:
+        syslog.bind("/dev/log")
 
         def read() -> None:
-            while line := it.recv(4096):
+            while line := syslog.recv(4096):
                 lines.append(line.decode().rstrip("\0\n"))
 
         reading = threading.Thread(target=read)

@@ -116,7 +116,7 @@ class Answers(Case):
         path = self.room() / "peer"
         for answer in ANSWERS.keys() - OF_OTHERS:
             with self.subTest(answer):
-                with Peer(path, lambda _, it: it.sendall(f"1 {answer}\n".encode())):
+                with Peer(path, lambda _, client: client.sendall(f"1 {answer}\n".encode())):
                     done = ended([ASK, "--server", str(path), "disable", "ada"])
                 path.unlink()
                 self.assertEqual(done.status, ANSWERS[answer].ask, done)

@@ -94,7 +94,7 @@ class Seen(Case):
         counts."""
         odd = self.room() / "odd"
         said = [b"1 stats\n", b"1 stats yes\n", b"1 stats yes=1 yes=\xff\n", b"\n", b""]
-        with Peer(odd, lambda _, it: it.sendall(said.pop())):
+        with Peer(odd, lambda _, client: client.sendall(said.pop())):
             for path in (str(self.serving().path()), "/nonexistent", *[str(odd)] * len(said)):
                 status, text, faults = ran("--metrics", path)
                 self.assertEqual((status, text), (1, ""))

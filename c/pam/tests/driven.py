@@ -180,8 +180,8 @@ def answers(**words: bytes) -> Callable[[bytes, socket.socket], None]:
 
 def said_at(answer: bytes, question: Question) -> tuple[Said, list[bytes]]:
     """The result of a question if each line gets the same answer, and the lines."""
-    with peer(sends(answer)) as it:
-        return asked(question, it.path), it.lines
+    with peer(sends(answer)) as server:
+        return asked(question, server.path), server.lines
 
 
 def line_of(word: str, name: str, *passwords: bytes) -> bytes:

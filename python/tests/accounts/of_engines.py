@@ -202,7 +202,9 @@ class AtOnce:
         """`_before_commit` runs before the statement, for a log of attempts; the table then has the
         answer's record."""
         accounts, seen = self.accounts(), []
-        accounts._table.before_commit = lambda it: seen.append((it.reply, self.is_right("one")))
+        accounts._table.before_commit = lambda worked: seen.append(
+            (worked.reply, self.is_right("one"))
+        )
         answer = accounts.commit(self.worked(accounts, Kind.CHANGE, "one", "two"))
         self.assertIs(answer.reply, Reply.REPLACED)
         self.assertEqual(seen, [(Reply.REPLACED, True)])

@@ -183,8 +183,8 @@ class Small(unittest.TestCase):
             found[verdict] += 1
             if part and history.conflict(part):
                 found["part"] += 1
-                for it in part:
-                    rest = [other for other in part if other is not it]
+                for operation in part:
+                    rest = [other for other in part if other is not operation]
                     self.assertIsNone(history.conflict(rest), shown)
         self.assertGreater(found[True], HISTORIES // 4)
         self.assertGreater(found[False], HISTORIES // 5)

@@ -310,7 +310,7 @@ class OnPostgres(engines.OnPostgres, Base):
         """Whether a COMMIT waited, and was cancelled: a new setting reaches the server's processes
         one by one."""
         notices, conn = [], self.another()
-        conn.add_notice_handler(lambda it: notices.append(it.severity))
+        conn.add_notice_handler(lambda notice: notices.append(notice.severity))
         self.execute("CREATE TABLE IF NOT EXISTS waits ()", conn=conn)
         self.execute("DROP TABLE waits", conn=conn)
         return "WARNING" in notices

@@ -60,7 +60,9 @@ class LowLevel(Same):
                 "version": draw.choice((16, 19)),
             }
             for name in ("hash_secret", "hash_secret_raw"):
-                call = lambda it: getattr(it.low_level, name)(type=it.Type[kind], **named)
+                call = lambda module: getattr(module.low_level, name)(
+                    type=module.Type[kind], **named
+                )
                 self.same(call, named)
 
     def test_verdicts_are_theirs(self):
@@ -70,7 +72,7 @@ class LowLevel(Same):
                 self.same_verdict(given, password, kind)
 
     def same_verdict(self, hashed, password=b"x", kind="ID"):
-        verify = lambda it: it.low_level.verify_secret(hashed, password, it.Type[kind])
+        verify = lambda module: module.low_level.verify_secret(hashed, password, module.Type[kind])
         self.same(verify, hashed, password, kind)
 
     def test_long_hashes_are_verified(self):
@@ -96,7 +98,7 @@ class LowLevel(Same):
 
     @each(*range(-60, 20))
     def test_messages_are_theirs(self, number):
-        self.same(lambda it: it.low_level.error_to_str(number), number)
+        self.same(lambda module: module.low_level.error_to_str(number), number)
 
     @each("x", 5, None)
     def test_types(self, wrong):
@@ -125,11 +127,11 @@ class Hashers(Same):
         *(f"{OLD}\n", OLD.replace("2i", "2x"), OLD.replace("$c29", "$ c29")),
     )
     def test_answers_are_theirs(self, given):
-        self.same(lambda it: it.PasswordHasher(**COSTS).verify(given, "password"), given)
+        self.same(lambda module: module.PasswordHasher(**COSTS).verify(given, "password"), given)
 
     @each({"time_cost": "1"}, {"type": "ID"}, {"hash_len": 1.0, "salt_len": None})
     def test_wrong_types_are_named(self, named):
-        self.same(lambda it: it.PasswordHasher(**named), named)
+        self.same(lambda module: module.PasswordHasher(**named), named)
 
     @each(
         ({"parallelism": 256, "memory_cost": 4096}, "Too many lanes"),

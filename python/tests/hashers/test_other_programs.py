@@ -115,10 +115,10 @@ class Further(Judged):
         for text in texts:
             bare = text[text.index("$") :]
             self.check_read(bare, b"correct horse")
-            it = rigzumal.parts(bare)
-            sizes = {"hash_len": it.tag_size, "salt_len": it.salt_size}
-            kind = Type[it.scheme.removeprefix("argon2").upper()]
-            hasher = PasswordHasher(it.passes, it.memory, it.lanes, **sizes, type=kind)
+            parts = rigzumal.parts(bare)
+            sizes = {"hash_len": parts.tag_size, "salt_len": parts.salt_size}
+            kind = Type[parts.scheme.removeprefix("argon2").upper()]
+            hasher = PasswordHasher(parts.passes, parts.memory, parts.lanes, **sizes, type=kind)
             made, tried = hasher.hash(b"correct horse"), (b"correct horse", other(b"correct horse"))
             # That program accepts our string.
             self.assertEqual([says(made, password) for password in tried], [True, False])
