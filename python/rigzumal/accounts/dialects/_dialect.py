@@ -106,13 +106,10 @@ class Dialect:
             names = ", ".join(it.__name__ for it in self.key_types)
             found = getattr(key_type, "__name__", repr(key_type))
             raise TypeError(f"keys here are of {names}, not {found}")
-        self.table_name = table
-        self.key_name = key
-        self.record_name = record
+        self.table_name, self.key_name, self.record_name = table, key, record
         self.key_type = key_type
         self.table = ".".join(map(self.quoted, table.split(".")))
-        self.key = self.quoted(key)
-        self.record = self.quoted(record)
+        self.key, self.record = self.quoted(key), self.quoted(record)
         has_key = f"WHERE {self.key} = {self.mark}"
         same = self._same.format(record=self.record, mark=self.mark)
         self.select = f"SELECT {self.record} FROM {self.table} {has_key}"
@@ -122,8 +119,8 @@ class Dialect:
             self.update += f" RETURNING {self.record}"
         self.at_once = self._at_once()
         self.insert = f"INSERT INTO {self.table} ({self.key}) VALUES ({self.mark})"
-        every = f"SELECT {self.key}, {self.record} FROM {self.table} ORDER BY {self.key}"
-        self.every = self.alone(every)
+        columns = f"{self.key}, {self.record}"
+        self.every = self.alone(f"SELECT {columns} FROM {self.table} ORDER BY {self.key}")
 
     def _at_once(self) -> str:
         return ""
@@ -139,10 +136,9 @@ class Dialect:
     def enrolling(self, lines: Sequence[Line]) -> Sequence[Any]:
         """Writes records into rows without a record."""
         cases = f" WHEN {self.mark} THEN {self.mark}" * len(lines)
-        put = f"{self.record} = CASE {self.key}{cases} END"
         keys = ", ".join([self.mark] * len(lines))
-        where = f"{self.key} IN ({keys}) AND {self.record} IS NULL"
-        sql = f"UPDATE {self.table} SET {put} WHERE {where}"
+        sql = f"UPDATE {self.table} SET {self.record} = CASE {self.key}{cases} END"
+        sql += f" WHERE {self.key} IN ({keys}) AND {self.record} IS NULL"
         return (sql, *itertools.chain(*lines), *(key for key, _ in lines))
 
     def standing(self, keys: Sequence[Key]) -> Sequence[Any]:
