@@ -98,7 +98,7 @@ def file_of(number: int, name: str, data: bytes) -> dict[str, Any]:
         "SPDXID": f"SPDXRef-file-{number}",
         "fileName": f"./{name.removeprefix('./')}",
         "checksums": [
-            {"algorithm": kind, "checksumValue": it.hexdigest()} for kind, it in sums.items()
+            {"algorithm": kind, "checksumValue": sum_.hexdigest()} for kind, sum_ in sums.items()
         ],
         "licenseConcluded": NOBODY,
         "copyrightText": NOBODY,

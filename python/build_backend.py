@@ -88,9 +88,10 @@ def is_built(top: pathlib.Path) -> bool:
     if not LIBRARY.exists() or is_taken:
         return False
     sources = [top / "crates.txt", top / "c/Makefile"]
-    sources += [it for part in PARTS for it in (top / part).rglob("*") if "out" not in it.parts]
+    for part in PARTS:
+        sources += [path for path in (top / part).rglob("*") if "out" not in path.parts]
     built = LIBRARY.stat().st_mtime
-    return all(it.stat().st_mtime <= built for it in sources if it.is_file())
+    return all(path.stat().st_mtime <= built for path in sources if path.is_file())
 
 
 def need_library() -> None:

@@ -14,10 +14,41 @@ TOP = pathlib.Path(__file__).resolve().parent.parent
 TESTS = tuple(str(TOP / it) for it in ("tests", "python/tests"))
 # The names that Sentry's scrubber hides by default (sentry_sdk.scrubber.DEFAULT_DENYLIST).
 HIDDEN = frozenset(
-    "password passwd secret api_key apikey auth credentials mysql_pwd privatekey private_key token"
-    " session csrftoken sessionid x_csrftoken x_forwarded_for set_cookie cookie authorization"
-    " proxy-authorization x_api_key aiohttp_session connect.sid csrf_token csrf _csrf _csrf_token"
-    " PHPSESSID _session symfony user_session _xsrf XSRF-TOKEN".split()
+    [
+        "password",
+        "passwd",
+        "secret",
+        "api_key",
+        "apikey",
+        "auth",
+        "credentials",
+        "mysql_pwd",
+        "privatekey",
+        "private_key",
+        "token",
+        "session",
+        "csrftoken",
+        "sessionid",
+        "x_csrftoken",
+        "x_forwarded_for",
+        "set_cookie",
+        "cookie",
+        "authorization",
+        "proxy-authorization",
+        "x_api_key",
+        "aiohttp_session",
+        "connect.sid",
+        "csrf_token",
+        "csrf",
+        "_csrf",
+        "_csrf_token",
+        "PHPSESSID",
+        "_session",
+        "symfony",
+        "user_session",
+        "_xsrf",
+        "XSRF-TOKEN",
+    ]
 )
 
 
@@ -65,13 +96,16 @@ def _has(value: Any, secrets: Collection[str]) -> bool:
 def _held(value: Any) -> Iterator[Any]:
     """The parts of a container, or of a structure or a buffer of C."""
     if isinstance(value, Mapping):
-        yield from (it for pair in value.items() if pair[0] not in HIDDEN for it in pair)
+        for name, held in value.items():
+            if name not in HIDDEN:
+                yield from (name, held)
     elif isinstance(value, (list, tuple, set, frozenset)):
         yield from value
     elif isinstance(value, functools.partial):
         yield from (value.args, value.keywords)
     elif isinstance(value, ctypes.Structure):
-        yield from (getattr(value, it[0]) for it in value._fields_ if it[0] not in HIDDEN)
+        names = [name for name, *_ in value._fields_]
+        yield from (getattr(value, name) for name in names if name not in HIDDEN)
     elif isinstance(value, ctypes.Array):
         yield bytes(value)
     elif isinstance(value, ctypes._SimpleCData):

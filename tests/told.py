@@ -100,11 +100,11 @@ def outside(module: Any) -> Iterator[str]:
     }
     cases = [it for it in vars(module).values() if isinstance(it, type)]
     cases = [it for it in cases if issubclass(it, unittest.TestCase)]
-    for name, it in own.items():
-        if inspect.isfunction(it) and name.startswith("test_"):
+    for name, thing in own.items():
+        if inspect.isfunction(thing) and name.startswith("test_"):
             yield f"{module.__name__}.{name}"
-        elif isinstance(it, type) and not any(issubclass(case, it) for case in cases):
-            tests = (word for word in vars(it) if word.startswith("test_"))
+        elif isinstance(thing, type) and not any(issubclass(case, thing) for case in cases):
+            tests = (word for word in vars(thing) if word.startswith("test_"))
             yield from (f"{module.__name__}.{name}.{word}" for word in tests)
 
 

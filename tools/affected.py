@@ -156,13 +156,14 @@ def words_for(chosen: Iterable[Job]) -> str:
     """Returns the words that select these jobs: a folder's word if they include all of its jobs."""
     names = {it.name for it in chosen}
     every = jobs()
-    in_part = {it.folder for it in every if it.name not in names}
-    words = {
-        it.name.partition(":")[0] if it.folder in in_part else it.folder
-        for it in every
-        if it.name in names
-    }
-    return " ".join(sorted(words)) if in_part else ""
+    in_part = {job.folder for job in every if job.name not in names}
+    if not in_part:
+        return ""
+    words = set[str]()
+    for job in every:
+        if job.name in names:
+            words.add(job.name.partition(":")[0] if job.folder in in_part else job.folder)
+    return " ".join(sorted(words))
 
 
 def elapsed(parts: Mapping[str, float], longest: float) -> str:
@@ -185,12 +186,14 @@ def of_proofs(again: Collection[str]) -> str:
     return f"proofs: {', '.join(again)}, {minutes}: {command}"
 
 
+def count_with_time(wrong_bodies: int) -> str:
+    return f"{wrong_bodies}, {elapsed({'all': A_WRONG_BODY * wrong_bodies}, 0)}"
+
+
 def of_wrong_bodies(changed: Collection[str], again: Iterable[str]) -> str:
     counts = {it: len([*CRATES.glob(f"{it}/wrong-bodies/*.edit")]) for it in {*changed, *again}}
-    own, every = (
-        f"{count}, {elapsed({'all': A_WRONG_BODY * count}, 0)}"
-        for count in (sum(counts[it] for it in changed), sum(counts.values()))
-    )
+    own = count_with_time(sum(counts[it] for it in changed))
+    every = count_with_time(sum(counts.values()))
     more = f" (if a contract or a definition has changed {every})" if every != own else ""
     command = " ".join(["python3 tools/wrong_bodies.py", *sorted(changed)])
     return f"wrong bodies: {own}{more}: {command}"

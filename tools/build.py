@@ -121,30 +121,29 @@ class Progress:
         below it, if each crate takes as long as estimated at the pace here."""
         now, done, begun = time.monotonic(), {**self.done}, {**self.running}
         pace, at = self.pace(done), 0
-        left = {
-            it: max(pace * self.expected[it] - now + begun.get(it, now), EVERY)
-            for it in self.names
-            if it not in done
-        }
-        waiting = [it for it in left if it not in begun]
-        ends = {it: left[it] for it in begun if it in left}
+        left = {}
+        for name in self.names:
+            if name not in done:
+                end = begun.get(name, now) + pace * self.expected[name]
+                left[name] = max(end - now, EVERY)
+        waiting = [name for name in left if name not in begun]
+        ends = {name: left[name] for name in begun if name in left}
         while waiting or ends:
-            ready = [it for it in waiting if not {*below(it)} & {*waiting, *ends}]
+            ready = [name for name in waiting if not {*below(name)} & {*waiting, *ends}]
             for name in ready[: max(AT_ONCE - len(ends), 0)]:
                 waiting.remove(name)
                 ends[name] = at + left[name]
             at = min(ends.values())
-            ends = {it: end for it, end in ends.items() if end > at}
+            ends = {name: end for name, end in ends.items() if end > at}
         return at
 
     def say(self, what, end="\n"):
         """Prints the last event, the progress, and the remaining time."""
         minutes = max(round(self.rest() / 60), 1)
-        rest = (
-            f", about {minutes} minute{'s' if minutes > 1 else ''} left"
-            if len(self.done) < len(self.names)
-            else ""
-        )
+        rest = ""
+        if len(self.done) < len(self.names):
+            unit = "minutes" if minutes > 1 else "minute"
+            rest = f", about {minutes} {unit} left"
         clear = "\033[K" if sys.stderr.isatty() else ""
         # in one piece, since two threads print
         sys.stderr.write(f"{clear}{what}; {len(self.done)} of {len(self.names)} done{rest}{end}")
@@ -223,9 +222,8 @@ def is_built(program, level):
     built, seal = files_of(program, level)
     if not (built.is_file() and seal.is_file()):
         return False
-    return seal.read_text() in [
-        sum_of(program, level, it) for it in (("",) if has_rt() else ("", LINKED))
-    ]
+    makers = [""] if has_rt() else ["", LINKED]
+    return seal.read_text() in [sum_of(program, level, maker) for maker in makers]
 
 
 def best_level(program):
@@ -234,10 +232,9 @@ def best_level(program):
     here = level_here()
     if has_rt():
         return here
-    return max(
-        (it for it in LEVELS if it <= here and programs.has_object(program, it, programs.PACKED)),
-        default=here,
-    )
+    levels = [level for level in LEVELS if level <= here]
+    packed = [level for level in levels if programs.has_object(program, level, programs.PACKED)]
+    return max(packed, default=here)
 
 
 def link_packed(program, level):

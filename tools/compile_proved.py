@@ -40,9 +40,12 @@ LEVELS = {
 V3, V4 = '"target-cpu"="x86-64-v3"', '"target-cpu"="x86-64-v4"'
 
 PREFETCHES = "cred_argon::block::prefetch_block"
+# The whole function: its head, perhaps a label, and its return.
 EMPTY_BODY = re.compile(
     rf'^define internal void @"{PREFETCHES}"\(ptr noundef %(\w+)\) #\d+ \{{\n'
-    r"(?:\w+:.*\n)?  ret void\n\}\n",
+    r"(?:\w+:.*\n)?"
+    r"  ret void\n"
+    r"\}\n",
     re.M,
 )
 # Half a block, by lines of the cache. More would fill the processor's list of pending reads, and
@@ -75,6 +78,7 @@ def with_prefetches(text):
 def with_inlined(text):
     """Returns the module with inlining for the functions whose source requests it."""
     for name in INLINED:
+        # The head of a function with this name, up to its arguments; and its attributes.
         head = re.compile(rf'^(define internal [^@\n]*@"{name}[^{{\n]*\) )(#\d+ \{{)', re.M)
         text, places = head.subn(r"\1alwaysinline \2", text)
         if not places:
@@ -94,7 +98,7 @@ def at_level(text, level):
 def be_clang(level, clang, words):
     """Runs the toolchain's clang, with the changed module instead of the proved one."""
     if "module.bc" in words:
-        as_text = "-S -emit-llvm -Xclang -disable-llvm-passes -O3 -o module.ll".split()
+        as_text = ["-S", "-emit-llvm", "-Xclang", "-disable-llvm-passes", "-O3", "-o", "module.ll"]
         target = [it for it in words if it.startswith("--target=")]
         command = ["clang", *target, "-x", "ir", "module.bc", *as_text]
         subprocess.run(command, executable=clang, check=True)

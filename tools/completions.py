@@ -21,8 +21,12 @@ from daemon.ask.commands import COMMANDS  # noqa: E402
 
 PROGRAMS = {"credbook": "crates/credbook/out/credbook", "credkeep": "crates/credkeep/out/credkeep"}
 PROGRAMS |= {"credkeep-server": "bin/credkeep-server"}
+# An option in a help text: its name, the name of its value, and its text, perhaps on the next line.
 OPTION = re.compile(
-    r"^ +(?:-\w, )?--([\w-]+)(?:[ =]<?([\w-]+)>?)?(?:(?:  +|\n {8,})(?!-)(\S.*))?", re.M
+    r"^[ ]+(?:-\w,[ ])?--([\w-]+)"
+    r"(?:[ =]<?([\w-]+)>?)?"
+    r"(?:(?:[ ]{2,}|\n[ ]{8,})(?!-)(\S.*))?",
+    re.M,
 )
 
 
@@ -34,6 +38,11 @@ class Command(NamedTuple):
     text: str
     usage: str
     options: list
+
+    def takes_one_of(self, values):
+        """Whether one of these values stands after the command's word."""
+        _, _, after = self.usage.partition(self.word)
+        return any(f"<{value}>" in after for value in values)
 
     def offered(self):
         """The command that prints its options."""
@@ -72,15 +81,15 @@ class Program:
     def after(self, *values):
         """The pattern of the words after a command whose first value is one of these."""
         # `add` needs a name that no account has yet
-        below = [it for it in self.commands if it.word != "add"]
-        shown = [(it.word, it.usage.partition(it.word)[2]) for it in below]
-        words = [word for word, rest in shown if any(f"<{it}>" in rest for it in values)]
+        below = [command for command in self.commands if command.word != "add"]
+        words = [command.word for command in below if command.takes_one_of(values)]
         return " | ".join(f"*/2/{word}" for word in words or ["-"])
 
     def filled(self, template):
         """Fills a template with the program's words."""
         each = [*self.commands, self.top]
-        valued = {f"--{name}" for command in each for name, value, _ in command.options if value}
+        options = [option for command in each for option in command.options]
+        valued = {f"--{name}" for name, value, _ in options if value}
         fields = {
             "NAME": self.name,
             "FUNCTION": "_" + self.name.replace("-", "_"),
@@ -120,7 +129,7 @@ def quoted(text):
 
 def written(template, fields):
     return re.sub(
-        r"@([A-Z]+)@", lambda it: fields[it[1]], (TOP / "completions" / template).read_text()
+        r"@([A-Z]+)@", lambda found: fields[found[1]], (TOP / "completions" / template).read_text()
     )
 
 

@@ -66,7 +66,8 @@ def entries(found: list[str]) -> Iterator[list[str]]:
 
 def imported(path: list[str], front: Place = ()) -> Iterator[tuple[str, Place]]:
     """Yields the imports of `A.B.{c, d as e}`: each local name, with the path of its origin."""
-    for entry in entries([part for it in path for part in it.split(".") if part]):
+    words = [part for word in path for part in word.split(".")]
+    for entry in entries([word for word in words if word]):
         if "{" in entry:
             opens = entry.index("{")
             yield from imported(entry[opens + 1 : -1], (*front, *entry[:opens]))

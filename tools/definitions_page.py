@@ -87,6 +87,9 @@ class Printer:
             raise LookupError(f"no file of specs/ has the definition {name.strip()}")
         return place
 
+    def places(self, names: str) -> list[Place]:
+        return [self.place(name) for name in names.split(",") if name.strip()]
+
     def named_in(self, place: Place) -> Iterator[Place]:
         """Yields the paths that a definition names, in its order."""
         text = self.found.found[place]
@@ -104,24 +107,26 @@ class Printer:
             place = left.pop()
             if place not in found and place not in chapters:
                 found[place] = None
-                paths = [it for it in self.named_in(place) if self.found.is_ours(it)]
-                left += [it for it in map(self.found.at, reversed(paths)) if it]
+                paths = [path for path in self.named_in(place) if self.found.is_ours(path)]
+                lower = [self.found.at(path) for path in reversed(paths)]
+                left += [each for each in lower if each]
         return [*found]
 
     def others(self, places: list[Place]) -> list[str]:
         """Lists the names in some definitions that `specs/` doesn't define."""
-        paths = {it for place in places for it in self.named_in(place) if it[:4] != KNOWN}
-        ours = {it for it in paths if self.found.is_ours(it)}
-        items = {item_of(it) for it in ours if it[3] in MADE}
-        library = {".".join((it[1], *it[3:])) for it in paths - ours if it[0] == "Rattle"}
+        named = {path for place in places for path in self.named_in(place)}
+        paths = {path for path in named if path[:4] != KNOWN}
+        ours = {path for path in paths if self.found.is_ours(path)}
+        items = {item_of(path) for path in ours if path[3] in MADE}
+        of_library = [path for path in paths - ours if path[0] == "Rattle"]
+        library = {".".join((path[1], *path[3:])) for path in of_library}
         return [*listed_as("of the code", items), *listed_as("of the toolchain", library)]
 
     def block(self, said: str) -> str:
         """Returns the text that a line of the page requests."""
-        roots, chapters = (
-            [self.place(it) for it in part.split(",") if it.strip()]
-            for part in said.partition(" up to ")[::2]
-        )
+        names_of_roots, _, names_of_chapters = said.partition(" up to ")
+        roots = self.places(names_of_roots)
+        chapters = self.places(names_of_chapters)
         places = [*self.below(roots, chapters), *chapters]
         new = [it for it in places if it not in self.printed]
         self.printed |= {*new}

@@ -17,7 +17,8 @@ KINDS = {"fn", "struct", "enum", "trait", "impl", "mod", "use", "ghost", "const"
 CLAUSES = {"requires", "ensures", "ghost"}
 WITHOUT_BODY = {"use", "const", "static", "type"}
 # The words that end an item's head, before its contract and braces.
-ENDS_HEAD = {it: {"{", ";", *(CLAUSES if it == "fn" else ())} for it in KINDS}
+ENDS_HEAD = {kind: {"{", ";"} for kind in KINDS}
+ENDS_HEAD["fn"] |= CLAUSES
 # Attributes that only concern the prover, the compiler or a reader.
 UNSEEN = {"tactic", "cycle", "inline", "allow", "doc"}
 # The attributes that hide nothing, and the one that omits an item from all but tests.

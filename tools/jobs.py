@@ -139,9 +139,11 @@ def jobs(words: Collection[str] = (), is_long: bool = False) -> list[Job]:
     """Returns the jobs with one of these words in their names, either those of every run or the
     long ones. The longest jobs, and those of unknown length, come first."""
     every = [*programs(), *(job for folder in FOLDERS for job in modules_of(folder))]
-    found = [it for it in every if any(word in it.name for word in words or ("",))]
+    if words:
+        every = [job for job in every if any(word in job.name for word in words)]
     known = seconds()
     return sorted(
-        (it for it in found if it.is_long == is_long),
-        key=lambda it: -known.get(it.name, sys.maxsize),
+        (job for job in every if job.is_long == is_long),
+        key=lambda job: known.get(job.name, sys.maxsize),
+        reverse=True,
     )

@@ -90,7 +90,8 @@ class Tokens:
         }
         kinds |= {"word": r"[A-Za-z_]\w*", "sign": SIGN}
         form = "|".join(f"(?P<{kind}>{it})" for kind, it in kinds.items())
-        self.found, self.texts, self.pair, self.within, opened = [], [], {}, [], []
+        self.found, self.texts, self.within = [], [], []
+        self.pair, opened = {}, []
         for token in re.finditer(form, self.source, re.S | re.M):
             at, text = len(self.found), token.group()
             # the end of a line has a meaning only outside of brackets
@@ -117,19 +118,21 @@ class Tokens:
     def edge(self, at, step, ends):
         """Finds the last token, in one direction, of the operand beside the token at a place."""
         while 0 <= at + step < len(self.texts):
-            text, jumps = self.texts[at + step], OPENING if step < 0 else OPENING.values()
-            if text in ends or text not in jumps and self.within[at + step] != self.within[at]:
+            beside = at + step
+            text = self.texts[beside]
+            is_bracket = text in (OPENING if step < 0 else OPENING.values())
+            if text in ends or not is_bracket and self.within[beside] != self.within[at]:
                 break
-            at = self.pair.get(at + step, at + step) if text in jumps else at + step
+            at = self.pair.get(beside, beside) if is_bracket else beside
         return at
 
     def parts(self, opening):
         """Yields the first and last token of each part between commas inside a bracket."""
         closing = self.pair.get(opening, opening)
         commas = [
-            it
-            for it in range(opening, closing)
-            if self.texts[it] == "," and self.within[it] == opening
+            at
+            for at in range(opening, closing)
+            if self.texts[at] == "," and self.within[at] == opening
         ]
         edges = [opening, *commas, closing]
         return [(low + 1, high - 1) for low, high in zip(edges, edges[1:]) if low + 1 < high]
@@ -205,15 +208,12 @@ class Tokens:
             yield self.mutant("operand dropped", at, self.pair[at], "")
         if text == "(" and is_name and self.texts[at - 2] not in ("fn", "def", "class"):
             # outside of all brackets, C and Rust have parameters
-            yield from self.of_call(
-                self.parts(at) if self.language is PYTHON or self.within[at] >= 0 else []
-            )
+            if self.language is PYTHON or self.within[at] >= 0:
+                yield from self.of_call(self.parts(at))
         elif text in self.language.lists and not is_name and len(self.parts(at)) > 1:
-            yield from (
-                self.without("element dropped", *it)
-                for it in self.parts(at)
-                if ";" not in self.texts[it[0] : it[1]]
-            )
+            for first, last in self.parts(at):
+                if ";" not in self.texts[first:last]:
+                    yield self.without("element dropped", first, last)
 
     def without(self, operator, first, last):
         return self.mutant(operator, first, last + (self.texts[last + 1] == ","), "")
@@ -236,7 +236,7 @@ class Tokens:
 
     def of_call(self, arguments):
         # the order of named arguments has no effect
-        plain = [it for it in arguments if "=" not in self.texts[it[0] : it[1]]]
+        plain = [(first, last) for first, last in arguments if "=" not in self.texts[first:last]]
         for (first, end), (second, last) in zip(plain, plain[1:]):
             yield self.mutant(
                 "operands swapped",
@@ -245,15 +245,19 @@ class Tokens:
                 f"{self.text(second, last)}, {self.text(first, end)}",
             )
         for argument in arguments:
-            yield self.without(
-                "argument dropped", *argument
-            ) if self.language is PYTHON else self.constant(*argument)
+            if self.language is PYTHON:
+                yield self.without("argument dropped", *argument)
+            else:
+                yield self.constant(*argument)
 
 
 def mutants_of(path):
     """Returns the mutants of a file, each only once, and none equal to the file."""
     source = path.read_bytes()
-    places = {
-        (it.start, it.end, it.new): it for it in Tokens(source, LANGUAGES[path.suffix]).mutants()
-    }
-    return sorted(it for it in places.values() if it.new.encode() != source[it.start : it.end])
+    found = Tokens(source, LANGUAGES[path.suffix]).mutants()
+    places = {(mutant.start, mutant.end, mutant.new): mutant for mutant in found}
+    return sorted(
+        mutant
+        for mutant in places.values()
+        if mutant.new.encode() != source[mutant.start : mutant.end]
+    )

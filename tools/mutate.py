@@ -45,6 +45,20 @@ def output(folder, *command):
     )
 
 
+def folders_built(top):
+    """Returns the folders of built files, except those of crates."""
+    folders = [*top.glob("*/out"), *top.glob("*/*/out")]
+    return [folder for folder in folders if folder.parent.parent.name != "crates"]
+
+
+def programs(top):
+    """Yields the programs of crates, without the proofs beside them, which are large."""
+    for crate in top.glob("crates/*"):
+        for file in crate.glob(f"out/{crate.name}*"):
+            if file.is_file():
+                yield file
+
+
 class Copy:
     """A copy of the repository in a separate folder."""
 
@@ -52,20 +66,8 @@ class Copy:
         self.top, self.file, self.original = room, room / file, (top / file).read_bytes()
         room.mkdir()
         listed = output(top, "git", "ls-files", "-zco", "--exclude-standard").split("\0")
-        files = [it for it in listed if it and os.path.lexists(top / it)]
-        files += [
-            it.relative_to(top)
-            for at in ("*/out", "*/*/out")
-            for it in top.glob(at)
-            if it.parent.parent.name != "crates"
-        ]
-        # of a crate only the program, since the proofs are large
-        files += [
-            it.relative_to(top)
-            for at in top.glob("crates/*")
-            for it in at.glob(f"out/{at.name}*")
-            if it.is_file()
-        ]
+        files = [name for name in listed if name and os.path.lexists(top / name)]
+        files += [built.relative_to(top) for built in (*folders_built(top), *programs(top))]
         output(top, "cp", "-a", "--parents", "-t", room, *files)
 
     def passes(self, command, limit):
@@ -131,9 +133,8 @@ def verdicts(top, file, mutants, asked):
             for number in range(min(asked.jobs, len(mutants)))
         ]
         free, began = queue.Queue(), time.monotonic()
-        if {*pool.map(lambda it: it.verdict(it.original, asked, asked.limit), made)} != {
-            "survived"
-        }:
+        verdicts = pool.map(lambda copy: copy.verdict(copy.original, asked, asked.limit), made)
+        if {*verdicts} != {"survived"}:
             sys.exit("the tests fail with nothing changed")
         took = time.monotonic() - began
         print(

@@ -146,18 +146,20 @@ def figures() -> Facts:
     for word, count in there.items():
         said = re.findall(rf"(\d+) {word}", readme)
         yield None if said else f"README.md doesn't say how many {word} there are: {count}"
-        for it in said:
-            wrong = f"README.md says {it} {word}, and there are {count}"
-            yield None if int(it) == count else wrong
-    for it in re.findall(r"\b[A-Z_]+_MINUTES\b", readme):
-        yield f"README.md: {it} isn't filled in"
+        for number in said:
+            wrong = f"README.md says {number} {word}, and there are {count}"
+            yield None if int(number) == count else wrong
+    for name in re.findall(r"\b[A-Z_]+_MINUTES\b", readme):
+        yield f"README.md: {name} isn't filled in"
 
 
 def in_minutes(elapsed: str) -> str:
     """`7 min 23 s to 15 min 47 s` in the form of README: `7 to 16`."""
-    found = re.findall(r"(?:(\d+) h )?(\d+) min(?: (\d+) s)?", elapsed)
-    minutes = (int(h or 0) * 60 + int(m) + int(s or 0) / 60 for h, m, s in found)
-    return " to ".join(f"{it:.0f}" for it in minutes)
+    times = []
+    for hours, minutes, seconds in re.findall(r"(?:(\d+) h )?(\d+) min(?: (\d+) s)?", elapsed):
+        whole = int(hours or 0) * 60 + int(minutes) + int(seconds or 0) / 60
+        times.append(f"{whole:.0f}")
+    return " to ".join(times)
 
 
 def times() -> Facts:

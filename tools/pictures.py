@@ -10,6 +10,7 @@ around-the-crates.txt. tools/pages.py compares all pictures except crates.svg wi
 """
 
 import html
+import itertools
 import re
 import subprocess
 import sys
@@ -43,11 +44,13 @@ LOOKS = (
 
 def lines_of(name):
     """Returns the lines of a text that have content."""
-    return [
-        it
-        for it in (PICTURES / name).read_text().splitlines()
-        if it.strip() and not it.startswith("#")
-    ]
+    lines = (PICTURES / name).read_text().splitlines()
+    return [line for line in lines if line.strip() and not line.startswith("#")]
+
+
+def cells_of(line):
+    """Returns the cells of a line, which `|` separates."""
+    return [cell.strip() for cell in line.split("|")]
 
 
 def element(name, **attributes):
@@ -92,8 +95,8 @@ def sequence(name):
     """Draws a sequence: a line with the participants, `A | B`, followed by `A > B: WORDS` for a
     step and `* WORDS` for an action of all participants."""
     title, who, *steps = lines_of(name)
-    who = [it.strip() for it in who.split("|")]
-    place = {it: 130 + 260 * i for i, it in enumerate(who)}
+    who = cells_of(who)
+    place = {party: 130 + 260 * number for number, party in enumerate(who)}
     bottom = 70 + 44 * len(steps)
     parts = []
     for party, x in place.items():
@@ -102,8 +105,8 @@ def sequence(name):
         box = {"x": x - 80, "y": 12, "width": 160, "height": 32}
         parts.append(element("rect", **box, rx=5, fill=SHADE, stroke=INK))
         parts.append(text(x, 33, party, "middle", weight="bold"))
-    for i, step in enumerate(steps):
-        y = 88 + 44 * i
+    for number, step in enumerate(steps):
+        y = 88 + 44 * number
         if step.startswith("*"):
             left, right = min(place.values()) - 100, max(place.values()) + 100
             box = {"x": left, "y": y - 24, "width": right - left, "height": 28}
@@ -122,27 +125,26 @@ def sequence(name):
 def steps(name):
     """Draws steps in their order, `WORDS | WHAT A CRASH LEAVES`: steps that leave the same result
     share a band."""
-    title, heads, *rows = [[it.strip() for it in line.split("|")] for line in lines_of(name)]
-    width, row = 900, 36
+    title, heads, *rows = [cells_of(line) for line in lines_of(name)]
+    width, height = 900, 36  # of a row
     parts = [text(56, 30, heads[0], weight="bold"), text(600, 30, heads[1], weight="bold")]
-    tints = iter([GROUND, TESTED, PROVED])
-    start = 0
-    for i in range(len(rows) + 1):
-        if i == len(rows) or rows[i][1] != rows[start][1]:
-            y = 46 + row * start
-            box = {"x": 12, "y": y, "width": width - 24, "height": row * (i - start) - 4}
-            parts.append(element("rect", **box, rx=5, fill=next(tints), stroke=PALE))
-            parts.append(text(600, y + row * (i - start) / 2 + 3, rows[start][1]))
-            start = i
-    ends = {"x1": 34, "y1": 60, "x2": 34, "y2": 46 + row * len(rows) - 18}
+    top = 46
+    tints = iter((GROUND, TESTED, PROVED))
+    for left, band in itertools.groupby(left for _, left in rows):
+        room = height * len([*band])
+        box = {"x": 12, "y": top, "width": width - 24, "height": room - 4}
+        parts.append(element("rect", **box, rx=5, fill=next(tints), stroke=PALE))
+        parts.append(text(600, top + room / 2 + 3, left))
+        top += room
+    ends = {"x1": 34, "y1": 60, "x2": 34, "y2": top - 18}
     parts.append(element("line", **ends, stroke=INK, stroke_width=1.5))
-    for i, (words, _) in enumerate(rows):
-        y = 46 + row * i + row / 2
+    for number, (words, _) in enumerate(rows):
+        y = 46 + height * number + height / 2
         circle = {"cx": 34, "cy": y - 2, "r": 10}
         parts.append(element("circle", **circle, fill=GROUND, stroke=INK, stroke_width=1.5))
-        parts.append(text(34, y + 3, str(i + 1), "middle"))
+        parts.append(text(34, y + 3, str(number + 1), "middle"))
         parts.append(text(56, y + 3, words))
-    return svg(width, 60 + row * len(rows), title[0], parts)
+    return svg(width, top + 14, title[0], parts)
 
 
 def setting(text):
@@ -156,16 +158,17 @@ def bars():
     """Draws a group of bars for each row of the first table of bench/RESULTS.md, in
     milliseconds."""
     table = re.search(r"^\|.*\n\|-.*\n((?:\|.*\n)+)", RESULTS.read_text(), re.M)
-    rows = [[it.strip() for it in row.strip("|").split("|")] for row in table[1].splitlines()]
-    names = [it.partition(",")[0].strip() for it in table[0].split("|")[2:5]]
-    longest = max(float(it) for row in rows for it in row[1:4] if it)
+    rows = [cells_of(row.strip("|"))[:4] for row in table[1].splitlines()]
+    names = [head.partition(",")[0].strip() for head in table[0].split("|")[2:5]]
+    cells = [cell for _, *times in rows for cell in times]
+    longest = max(float(cell) for cell in cells if cell)
     parts = [text(12, 30, "one Argon2id hash", weight="bold")]
     for at, (name, colour) in enumerate(zip(["Rigzumal", *names[1:]], BARS)):
         x = 200 + 130 * at
         parts.append(element("rect", x=x, y=19, width=12, height=12, fill=colour))
         parts.append(text(x + 18, 30, name))
     y = 50
-    for costs, *times in (row[:4] for row in rows):
+    for costs, *times in rows:
         parts.append(text(12, y + 14, setting(costs)))
         for colour, time in zip(BARS, times):
             if time:
@@ -179,13 +182,15 @@ def bars():
 
 def crates():
     """Returns each crate except tests and examples, with the crates that it uses directly."""
-    shown = sorted(it for it in listed() if not is_test_or_example(it))
-    return {
-        it: sorted(
-            low for low in below(it) if not any(low in all_below(other) for other in below(it))
-        )
-        for it in shown
-    }
+    shown = sorted(crate for crate in listed() if not is_test_or_example(crate))
+    return {crate: directly_below(crate) for crate in shown}
+
+
+def directly_below(crate):
+    """Returns the crates that a crate names, without those that another of them already uses."""
+    named = below(crate)
+    indirect = {low for other in named for low in all_below(other)}
+    return sorted(low for low in named if low not in indirect)
 
 
 def cluster(name, label, colour, style, more=""):
@@ -213,16 +218,17 @@ def crate_layers():
     out += [cluster("proved", "proved", PROVED, "rounded,filled", more=" penwidth=2;")]
     programs = {it for it in graph if (CRATES / it / "src/main.rt").is_file()}
     said = "proved safe; its words are tested"
-    out += [f'"{it}" [label="{it}\\n{said}"];' if it in programs else f'"{it}";' for it in graph]
+    for crate in graph:
+        out.append(f'"{crate}" [label="{crate}\\n{said}"];' if crate in programs else f'"{crate}";')
     out += ["}", cluster("trusted", "trusted", TRUSTED, "dotted,rounded,filled")]
     out += [*map(node, trusted), "}"]
-    out += [f'"{it}" -> "{low}";' for it, lows in graph.items() for low in lows]
-    out += [f'"{name.strip()}" -> "{low}";' for _, name, _, lows in tested for low in lows.split()]
-    out += [
-        f'"{upper}" -> "{name.strip()}" [style=dotted];'
-        for _, name, _, uppers in trusted
-        for upper in uppers.split()
-    ] + ["}"]
+    for crate, lows in graph.items():
+        out += [f'"{crate}" -> "{low}";' for low in lows]
+    for _, name, _, lows in tested:
+        out += [f'"{name.strip()}" -> "{low}";' for low in lows.split()]
+    for _, name, _, uppers in trusted:
+        out += [f'"{upper}" -> "{name.strip()}" [style=dotted];' for upper in uppers.split()]
+    out.append("}")
     drawn = subprocess.run(
         ["dot", "-Tsvg"], input="\n".join(out), text=True, stdout=subprocess.PIPE, check=True
     ).stdout

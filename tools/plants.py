@@ -168,7 +168,8 @@ def copied(room: pathlib.Path) -> pathlib.Path:
     """Copies the files of the tree and the build results into a new repository."""
     listed = ["git", "ls-files", "--cached", "--others", "--exclude-standard"]
     names = subprocess.run(listed, cwd=TOP, capture_output=True, text=True, check=True).stdout
-    built = [it for form in BUILT for it in TOP.glob(form) if it.is_file()]
+    found = [path for form in BUILT for path in TOP.glob(form)]
+    built = [path for path in found if path.is_file()]
     for path in [*(TOP / name for name in names.splitlines()), *built]:
         to = room / path.relative_to(TOP)
         to.parent.mkdir(parents=True, exist_ok=True)

@@ -28,9 +28,11 @@ FLAGS += " -Wl,-z,relro,-z,now -Wl,-z,noexecstack"
 def sources(program):
     """Returns all files of a program's crate and of the crates below it that rt reads, except for
     crates.txt."""
-    crates = [CRATES / it for it in [*all_below(program), program]]
-    folders = [crate / part for crate in crates for part in ("src", "specs", "proofs")]
-    return [it for folder in folders for it in sorted(folder.rglob("*")) if it.is_file()]
+    found = []
+    for name in [*all_below(program), program]:
+        for part in ("src", "specs", "proofs"):
+            found += sorted((CRATES / name / part).rglob("*"))
+    return [path for path in found if path.is_file()]
 
 
 def sums(program):

@@ -83,6 +83,10 @@ def has_clause(contract, name):
     return is_field or re.search(rf"\bensures {name}\b", contract) is not None
 
 
+def is_clause_of_one(contracts, name):
+    return any(has_clause(contract, name) for contract in contracts)
+
+
 def calls(text):
     """Yields the faults of the calls that a text names, and of the clauses in brackets after each
     call."""
@@ -96,7 +100,7 @@ def calls(text):
             yield f"the call `{path}` isn't there"
         else:
             names = re.findall(r"\w+", clauses)
-            lost = [it for it in names if not any(has_clause(each, it) for each in found)]
+            lost = [name for name in names if not is_clause_of_one(found, name)]
             yield f"`{path}` has no clause {', '.join(lost)}" if lost else None
 
 
@@ -108,16 +112,20 @@ def words(text):
         for named, word in re.findall(
             r"crates/(\w+)/|`([\w:]+)`", re.sub(r"\(`[^()]*`\)", "", item)
         ):
-            crate = named or (word.split("::")[0] if word.split("::")[0] in listed() else crate)
-            name = word.split("::")[-1]
-            if crate and word and crate != word.split("::")[0]:
-                texts = (
-                    source(it)
-                    for kind in ("src/**/*.rt", "specs/**/*.antt")
-                    for it in (CRATES / crate).glob(kind)
-                )
-                found = any(re.search(rf"\b{name}\b", it) for it in texts)
-                yield None if found or name in listed() else f"`{word}` isn't in {crate}"
+            path = word.split("::")
+            first, name = path[0], path[-1]
+            if named or first in listed():
+                crate = named or first
+            if crate and word and crate != first:
+                found = name in listed() or is_word_of(crate, name)
+                yield None if found else f"`{word}` isn't in {crate}"
+
+
+def is_word_of(crate, name):
+    """Whether a name stands in a crate's code or definitions."""
+    folder = CRATES / crate
+    files = [*folder.glob("src/**/*.rt"), *folder.glob("specs/**/*.antt")]
+    return any(re.search(rf"\b{name}\b", source(file)) for file in files)
 
 
 def files(text):
@@ -134,32 +142,28 @@ def files(text):
 
 def cells(text):
     """Yields each cell that is too long."""
-    for row in (it for it in text.splitlines() if it.startswith("|")):
-        yield from (
-            f"a cell of over 120 characters: {it.strip()[:60]}.."
-            for it in row.split("|")
-            if len(it.strip()) > 120
-        )
+    for row in text.splitlines():
+        if not row.startswith("|"):
+            continue
+        for cell in row.split("|"):
+            words = cell.strip()
+            if len(words) > 120:
+                yield f"a cell of over 120 characters: {words[:60]}.."
 
 
 def reached(libraries):
     """Returns the toolchain's crates that our crates use: those in crates.txt, and all crates below
     them."""
-    found, more = set(), {
-        "std",
-        *(
-            it
-            for name in listed()
-            if not is_test_or_example(name)
-            for it in listed()[name][1]
-            if it not in listed()
-        ),
-    }
+    more = {"std"}
+    for name, (_, below) in listed().items():
+        if not is_test_or_example(name):
+            more.update(below)
+    more.difference_update(listed())
+    found = set()
     while more:
         found |= more
-        more = {
-            low.name for it in more for low in (libraries / f"{it}.rlib/below").glob("*")
-        } - found
+        folders = [libraries / f"{crate}.rlib/below" for crate in more]
+        more = {low.name for folder in folders for low in folder.glob("*")} - found
     return found
 
 
@@ -170,35 +174,26 @@ def trusted(text, crates):
         r"^- ((?:`[^`]+`(?:, )?)+):", text.partition("\n## What is trusted\n")[2], re.M
     )
     named = [it for head in heads for it in re.findall(r"`([^`]+)`", head)]
-    yield from (
-        None
-        if any(fnmatch.fnmatch(it, name) for name in named)
-        else f"the list of what is trusted lacks `{it}`"
-        for it in sorted(crates)
-    )
-    yield from (
-        None
-        if fnmatch.filter(crates, it)
-        else f"the list of what is trusted has `{it}`, which no crate uses"
-        for it in named
-    )
+    for crate in sorted(crates):
+        is_named = any(fnmatch.fnmatch(crate, name) for name in named)
+        yield None if is_named else f"the list of what is trusted lacks `{crate}`"
+    for name in named:
+        is_used = bool(fnmatch.filter(crates, name))
+        unused = f"the list of what is trusted has `{name}`, which no crate uses"
+        yield None if is_used else unused
 
 
 def check():
     """Returns the faults of the names on the page."""
     text = PAGE.read_text()
-    return [
-        it and f"docs/PROMISES.md: {it}"
-        for it in (*calls(text), *words(text), *files(text), *cells(text))
-    ]
+    faults = (*calls(text), *words(text), *files(text), *cells(text))
+    return [fault and f"docs/PROMISES.md: {fault}" for fault in faults]
 
 
 def check_trusted():
     """Returns the faults of the list of trusted code, compared with the toolchain."""
-    return [
-        it and f"docs/PROMISES.md: {it}"
-        for it in trusted(PAGE.read_text(), reached(kit() / "rlibs"))
-    ]
+    faults = trusted(PAGE.read_text(), reached(kit() / "rlibs"))
+    return [fault and f"docs/PROMISES.md: {fault}" for fault in faults]
 
 
 def main():

@@ -66,9 +66,10 @@ def replies():
 def rows_of_page():
     """Returns the table in docs/ERRORS.md."""
     rows = ["| Answer | What it means | HTTP | `credkeep-ask` ends with |", "|---|---|--:|--:|"]
-    of_http = set(OPERATIONS[b"verify"].answers.split())
-    of_others = {word for it in OPERATIONS.values() for word in it.answers.split()} - of_http
-    of_others.update(TO_NEW_PASSWORDS)
+    of_others = set(TO_NEW_PASSWORDS)
+    for operation in OPERATIONS.values():
+        of_others.update(operation.answers)
+    of_others -= set(OPERATIONS[b"verify"].answers)
     for word, answer in ANSWERS.items():
         http = "" if word in of_others else answer.http
         rows.append(f"| `{word}` | {answer.meaning} | {http} | {answer.ask} |")

@@ -258,8 +258,8 @@ def main() -> int:
     reader.add_argument("--first", action="store_true")
     reader.add_argument("words", nargs="*")
     asked = reader.parse_args()
-    for it in SIGNALS:
-        signal.signal(it, interrupt)
+    for number in SIGNALS:
+        signal.signal(number, interrupt)
     chosen = jobs(asked.words, asked.long)
     progress = Progress(len(chosen), asked.first)
     progress.run_beside([it for it in chosen if not it.is_quiet])

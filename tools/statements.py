@@ -129,13 +129,14 @@ def sources_of(crate: str, crates: pathlib.Path) -> Iterator[Source]:
     for file in sorted(top.glob("**/*.rt")):
         path = file.relative_to(top).with_suffix("").parts
         found[() if path in (("lib",), ("main",)) else path] = File(source(file)).items()
-    named = {(*at, it.name) for at, items in found.items() for it in items if it.kind == "mod"}
+    places = [((*at, item.name), item) for at, items in found.items() for item in items]
+    named = {place for place, item in places if item.kind == "mod"}
     if lost := {*found} - named - {()}:
         raise ValueError(f"{crate}: a file that no `mod` names: {'/'.join(min(lost))}.rt")
-    tests = {(*at, it.name) for at, items in found.items() for it in items if is_for_tests(it)}
+    tests = {place for place, item in places if is_for_tests(item)}
     for modules, items in found.items():
-        if not any(modules[: len(it)] == it for it in tests):
-            yield Source(crate, modules, [it for it in items if not is_for_tests(it)])
+        if not any(modules[: len(place)] == place for place in tests):
+            yield Source(crate, modules, [item for item in items if not is_for_tests(item)])
 
 
 def imports_of(item: Item) -> list[tuple[str, Place]]:
@@ -143,7 +144,8 @@ def imports_of(item: Item) -> list[tuple[str, Place]]:
     path = item.head[item.head.index("use") + 1 :]
     if "*" in path:
         raise ValueError(f"an import of unknown names: {''.join(path)}")
-    return [*definitions.imported(["." if it == "::" else it for it in path])]
+    as_in_definitions = ["." if word == "::" else word for word in path]
+    return [*definitions.imported(as_in_definitions)]
 
 
 def stated(item: Item, owner: Item | None, is_run: bool) -> list[str]:
@@ -231,14 +233,17 @@ class Statements:
 
     def exported(self, sources: list[Source]) -> list[str]:
         """Returns the names that a crate exports with their origins, and its public modules."""
-        public = [(file, it) for file in sources for it in all_items(file.items) if it.is_public]
-        names = {
-            f"{'.'.join(self.whence(file, path))} as {local}"
-            for file, it in public
-            if it.kind == "use"
-            for local, path in imports_of(it)
-        }
-        return sorted(names | {f"mod {it.name}" for _, it in public if it.kind == "mod"})
+        names = set()
+        for file in sources:
+            for item in all_items(file.items):
+                if not item.is_public:
+                    continue
+                if item.kind == "mod":
+                    names.add(f"mod {item.name}")
+                elif item.kind == "use":
+                    for local, path in imports_of(item):
+                        names.add(f"{'.'.join(self.whence(file, path))} as {local}")
+        return sorted(names)
 
     def say(self, name: str, words: list[str], names: Names | None = None) -> None:
         """Adds the line of a promise."""
@@ -258,9 +263,9 @@ class Statements:
             names_of_code = {**file.others, **file.constants}
             self.say(f"{name} {item.kind}", stated(item, owner, is_run), names_of_code)
         if is_public or of_trait or item.kind != "fn":
-            for it in item.clauses:
-                words = definitions.words(it.text)
-                self.say(f"{name} {it.kind} {it.name}".rstrip(), words, file.names)
+            for clause in item.clauses:
+                words = definitions.words(clause.text)
+                self.say(f"{name} {clause.kind} {clause.name}".rstrip(), words, file.names)
         for inner in item.inner:
             self.read(file, inner, None if item.kind == "mod" else item)
 
@@ -284,11 +289,15 @@ def differences(text: str, lines: list[tuple[str, str]]) -> list[str]:
             was[line.partition(" ")[2]].append(line.partition(" ")[0])
     for name, found in lines:
         now[name].append(found)
-    differing = sorted(it for it in {*was, *now} if sorted(was[it]) != sorted(now[it]))
-    return [
-        f"{'new' if not was[it] else 'gone' if not now[it] else 'changed'}: {it}"
-        for it in differing
-    ]
+    changes = []
+    for name in sorted({*was, *now}):
+        if not was[name]:
+            changes.append(f"new: {name}")
+        elif not now[name]:
+            changes.append(f"gone: {name}")
+        elif sorted(was[name]) != sorted(now[name]):
+            changes.append(f"changed: {name}")
+    return changes
 
 
 def check() -> list[str | None]:

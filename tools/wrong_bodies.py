@@ -203,14 +203,14 @@ class Trial:
             link(seed, kept)
             functions = [it.function for it in group if bench.has(it.function)]
             _, output = bench.check(planted, kept, functions)
-            for it in group:
-                verdict = it.judge(output)
+            for edit in group:
+                verdict = edit.judge(output)
                 if verdict:
-                    self.settle(it, verdict, output)
+                    self.settle(edit, verdict, output)
                 elif len(group) > 1:
-                    self.try_group(bench, seed, [it], it.planted(bench.texts))
+                    self.try_group(bench, seed, [edit], edit.planted(bench.texts))
                 else:
-                    self.settle(it, self.refused_elsewhere(bench, planted, kept), output)
+                    self.settle(edit, self.refused_elsewhere(bench, planted, kept), output)
 
     def refused_elsewhere(self, bench, planted, kept):
         """Returns the refused functions of the whole crate, for a body whose own function isn't
@@ -236,19 +236,19 @@ class Trial:
     def try_edits(self, bench, edits):
         """Tries the edits of a crate that apply, over its unchanged functions."""
         applying = [it for it in edits if it.planted(bench.texts) is not None]
-        for it in edits:
-            if it not in applying:
-                self.settle(it, None, f"error: {NOT_ONCE}")
+        for edit in edits:
+            if edit not in applying:
+                self.settle(edit, None, f"error: {NOT_ONCE}")
         with tempfile.TemporaryDirectory(prefix="wrong-bodies-") as room:
             seed = f"{room}/kept"
             self.prove_as_it_stands(bench, applying, seed)
             with concurrent.futures.ThreadPoolExecutor(8) as pool:
                 begun = [
-                    pool.submit(self.try_group, bench, seed, *it)
-                    for it in groups(applying, bench.texts)
+                    pool.submit(self.try_group, bench, seed, *group)
+                    for group in groups(applying, bench.texts)
                 ]
-            for it in begun:
-                it.result()
+            for task in begun:
+                task.result()
 
     def prove_as_it_stands(self, bench, edits, seed):
         """Proves the functions of edits unchanged, in a folder, and keeps the result for later
@@ -296,17 +296,17 @@ class Trial:
     def end(self, status):
         """Prints the last lines, and returns the status of the program."""
         self.pool.shutdown()
-        for name, it in self.crates.items():
-            if it.exception():
+        for name, task in self.crates.items():
+            if task.exception():
                 self.failed.append(name)
-                say(f"{name}: the script couldn't try its wrong bodies: {it.exception()}")
+                say(f"{name}: the script couldn't try its wrong bodies: {task.exception()}")
         # a COMMAND whose words the script can't read would let all pass
         for name in () if status or self.asked.crates else listed():
             if any(CRATES.glob(f"{name}/wrong-bodies/*.edit")) and name not in self.crates:
                 self.failed.append(name)
                 say(f"{name}: no line says that the crate is proved")
-        for it in self.failed:
-            say(f"NOT REFUSED: {it}")
+        for edit in self.failed:
+            say(f"NOT REFUSED: {edit}")
         say(f"wrong bodies: {len(self.refused)} refused, {len(self.failed)} not")
         return status or int(bool(self.failed))
 

@@ -10,7 +10,8 @@ OURS = pathlib.Path(__file__).resolve().parents[2] / "c/out/librigzumal.so.1"
 ORIGINAL = "/usr/lib/x86_64-linux-gnu/libargon2.so.1"
 PASSWORD, SALT, SIZE = b"password", b"sixteen of salt.", 32
 INPUTS = (PASSWORD, len(PASSWORD), SALT, len(SALT))
-NUMBER, WIDE, LENGTH, TEXT = ctypes.c_uint32, ctypes.c_ulonglong, ctypes.c_size_t, ctypes.c_char_p
+NUMBER, WIDE = ctypes.c_uint32, ctypes.c_ulonglong
+LENGTH, TEXT = ctypes.c_size_t, ctypes.c_char_p
 DATA = [TEXT, LENGTH]
 ROOM = object()  # marks the buffer that a call writes
 
@@ -48,7 +49,8 @@ def need_initialised(sodium):
 def made(call, *given):
     """Returns the bytes that a call writes into its ROOM."""
     room = ctypes.create_string_buffer(SIZE)
-    if call(*(room if it is ROOM else it for it in given)) != 0:
+    words = [room if word is ROOM else word for word in given]
+    if call(*words) != 0:
         sys.exit(f"{call.__name__} refused its inputs")
     return room.raw
 

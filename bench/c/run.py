@@ -80,22 +80,33 @@ TAGS_A_CALLER = 2
 
 def ms(name):
     """Returns a column: the best time of a library, or nothing if this machine lacks it."""
-    return lambda row: f"{best(row[name]):.1f}" if name in row else ""
+
+    def cell(row):
+        return f"{best(row[name]):.1f}" if name in row else ""
+
+    return cell
 
 
 def over(name, figure, part=WALL):
     """Returns a column: the ratio of ours to another, by one figure."""
-    return lambda row: f"{figure(row['ours'], row[name], part):.2f}" if name in row else ""
+
+    def cell(row):
+        return f"{figure(row['ours'], row[name], part):.2f}" if name in row else ""
+
+    return cell
 
 
 def spread(name):
     """Returns a column: best and median of both times."""
-    figures = lambda turns, part: f"{best(turns, part):.1f}/{median(turns, part):.1f}"
-    return (
-        lambda row: "; ".join(figures(row[name], part) for part in (WALL, CPU))
-        if name in row
-        else ""
-    )
+
+    def cell(row):
+        if name not in row:
+            return ""
+        turns = row[name]
+        both = [f"{best(turns, part):.1f}/{median(turns, part):.1f}" for part in (WALL, CPU)]
+        return "; ".join(both)
+
+    return cell
 
 
 def threads_over_libargon2(part):
@@ -104,11 +115,10 @@ def threads_over_libargon2(part):
 
     def cell(row):
         ours, theirs = row.get("threads") or row["ours"], row.get("libargon2")
-        return (
-            "/".join(f"{it(ours, part) / it(theirs, part):.2f}" for it in (best, median))
-            if theirs
-            else ""
-        )
+        if not theirs:
+            return ""
+        ratios = [figure(ours, part) / figure(theirs, part) for figure in (best, median)]
+        return "/".join(f"{ratio:.2f}" for ratio in ratios)
 
     return cell
 
@@ -200,13 +210,18 @@ def argon2_calls(ways, call, *setting):
 def without_least_memory(room):
     """Builds the library in a form that starts threads whatever the memory is."""
     path = pathlib.Path(room) / "librigzumal.so"
-    sources = [
-        it
-        for it in sorted((C / "src").glob("*.c"))
-        if not re.match("libargon2|arm64|build", it.name)
-    ]
+    files = sorted((C / "src").glob("*.c"))
+    sources = [file for file in files if not re.match("libargon2|arm64|build", file.name)]
     builds = sorted((C / "out").glob("v?.o"))
-    flags = "-O2 -std=c11 -fPIC -pthread -shared -Wl,-Bsymbolic -DLEAST_SHARED_MEMORY=1".split()
+    flags = [
+        "-O2",
+        "-std=c11",
+        "-fPIC",
+        "-pthread",
+        "-shared",
+        "-Wl,-Bsymbolic",
+        "-DLEAST_SHARED_MEMORY=1",
+    ]
     words = ["cc", *flags, f"-I{C / 'include'}", *sources, *builds, "-o", path]
     subprocess.run([str(it) for it in words], check=True)
     return path
@@ -283,11 +298,10 @@ def table_of_callers(ours, other, callers, settings):
     if other:
         ways["other"] = libraries.rigzumal_argon2(other)
         columns["other"] = spread("other")
-    each = itertools.product(settings, callers)
-    rows = {
-        (shown(*it), count): argon2_calls(ways, functools.partial(at_once, count), *it)
-        for it, count in each
-    }
+    rows = {}
+    for setting, count in itertools.product(settings, callers):
+        call = functools.partial(at_once, count)
+        rows[shown(*setting), count] = argon2_calls(ways, call, *setting)
     return ["m (KiB), t, p", "Callers"], columns, rows
 
 

@@ -78,9 +78,9 @@ class Sample:
 
     def __init__(self, program: pathlib.Path, folder: pathlib.Path, accounts: int) -> None:
         self.program, self.count = program, accounts
-        self.book, self.other, self.users = (
-            folder / it for it in ("users.db", "other.db", "users")
-        )
+        self.book = folder / "users.db"
+        self.other = folder / "other.db"
+        self.users = folder / "users"
         numbers = random.Random(accounts).sample(range(16**8), accounts + 2 * LINES)
         names = [f"n{number:08x}" for number in numbers]
         self.names, self.new = names[:accounts], names[accounts:]
@@ -108,17 +108,20 @@ class Sample:
 def ours(sample: Sample, turns: int) -> dict[str, str]:
     """Measures the figures of credkeep."""
     program, book, one = sample.program, sample.book, sample.names[0]
-    best = lambda *words, **given: min(run(program, *words, **given) for _ in range(turns))
+
+    def best(*words, **given):
+        return min(run(program, *words, **given) for _ in range(turns))
+
     opened = best(book, "show", "nobody", status=4)
     # credkeep refuses a database with a second table once sqlite has opened it, before it reads a
     # row.
     refused = best(sample.other, "list", status=5)
     with Service(program, book, "serve", "--tagged", "--setting", CHEAP) as service:
         service.ask("t show nobody")
-        blank, shown = [""] * SHOWN, [f"t show {name}" for name in sample.some(SHOWN)]
-        blank_s, show_s = (
-            min(service.seconds_at_once(it) for _ in range(turns)) / SHOWN for it in (blank, shown)
-        )
+        blank = [""] * SHOWN
+        blank_s = min(service.seconds_at_once(blank) for _ in range(turns)) / SHOWN
+        shown = [f"t show {name}" for name in sample.some(SHOWN)]
+        show_s = min(service.seconds_at_once(shown) for _ in range(turns)) / SHOWN
         verifies = [f"t verify {name} {PASSWORD_WORD}" for name in sample.some(LINES)]
         verify_s = min(each_timed(service.ask, verifies) for _ in range(turns))
         changes = [f"t load {name} {sample.changed}" for name in sample.some(LINES)]
@@ -159,17 +162,18 @@ def imported(sample: Sample) -> float:
 def theirs(sample: Sample, turns: int) -> dict[str, str]:
     """Measures the figures of Python's sqlite3 on the same file, and of htpasswd."""
     one, fresh = sample.names[0], sample.book.with_name("fresh.db")
-    best = lambda more, *words: min(run(*words) for _ in range(turns + more))
+
+    def best(more, *words):
+        return min(run(*words) for _ in range(turns + more))
+
     # The difference of two starts of Python: with few rows, one turn shows nothing.
     read = best(2, sys.executable, "-c", READ_ALL, sample.book)
     empty = best(2, sys.executable, "-c", "import sqlite3, sys")
     connection = sqlite3.connect(sample.book, isolation_level=None)
     connection.execute("PRAGMA journal_mode = WAL")
     connection.execute("PRAGMA synchronous = FULL")
-    select, update = (
-        "SELECT record FROM account WHERE name = ?",
-        "UPDATE account SET record = ? WHERE name = ?",
-    )
+    select = "SELECT record FROM account WHERE name = ?"
+    update = "UPDATE account SET record = ? WHERE name = ?"
     show_s = each_timed(
         lambda name: connection.execute(select, (name,)).fetchone(), sample.some(SHOWN)
     )

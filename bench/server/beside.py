@@ -179,7 +179,7 @@ def main() -> None:
                     for name, path in paths.items()
                 }
         rows["start", ""] = {
-            it: functools.partial(tree.start, "many") for it, tree in trees.items()
+            name: functools.partial(tree.start, "many") for name, tree in trees.items()
         }
         printed(take_turns(rows, given.turns), given)
     print_load(load)

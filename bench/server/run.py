@@ -20,7 +20,7 @@ import tempfile
 import time
 
 TOP = pathlib.Path(__file__).resolve().parent.parent.parent
-sys.path[:0] = [str(TOP / it) for it in ("tests/server", "bench")]
+sys.path = [str(TOP / "tests/server"), str(TOP / "bench"), *sys.path]
 from machine import RUN, begun, install, prepared, shell  # noqa: E402
 from served import PYTHON, field_of  # noqa: E402
 from turns import print_head, print_row, rate  # noqa: E402

@@ -56,7 +56,7 @@ def refused_here(text):
     found = re.fullmatch(form, text)
     if found is None:
         return None
-    version, memory, lanes = (int(it or 16) for it in found.group(1, 2, 3))
+    version, memory, lanes = int(found[1] or 16), int(found[2]), int(found[3])
     if version not in (16, 19):
         return NO_VERSION
     if lanes > 255:
@@ -73,13 +73,24 @@ def is_costly(text):
     return memory * passes > 10000 and max(memory, passes) < 2**32
 
 
-def text_of(it):
-    salt, tag = (
-        base64.b64encode(data).decode().rstrip("=")
-        for data in (it.salt or b"somesalt", it.password + b"tags"[: it.tag_size])
-    )
-    numbers = f"m={it.memory},t={it.passes},p={it.lanes}"
-    return f"${KINDS[it.kind % 3]}$v=19${numbers}${salt}${tag}"
+def letters(data):
+    return base64.b64encode(data).decode().rstrip("=")
+
+
+def text_of(inputs):
+    salt = letters(inputs.salt or b"somesalt")
+    tag = letters(inputs.password + b"tags"[: inputs.tag_size])
+    numbers = f"m={inputs.memory},t={inputs.passes},p={inputs.lanes}"
+    return f"${KINDS[inputs.kind % 3]}$v=19${numbers}${salt}${tag}"
+
+
+def asked(library, call, given):
+    """The result of a call, by its name or as a function of the library."""
+    return getattr(library, call)(*given) if isinstance(call, str) else call(library, *given)
+
+
+def first_of(result):
+    return result[0] if isinstance(result, tuple) else result
 
 
 class Comparison:
@@ -90,11 +101,8 @@ class Comparison:
     def same(self, call, *given, refused=None):
         """The answers of both libraries must be the same; but if a number is given, ours refuses by
         that number the call that the original hashes."""
-        one, other = (
-            getattr(lib, call)(*given) if isinstance(call, str) else call(lib, *given)
-            for lib in (self.ours, self.theirs)
-        )
-        answer, wanted = (it[0] if isinstance(it, tuple) else it for it in (one, other))
+        one, other = asked(self.ours, call, given), asked(self.theirs, call, given)
+        answer, wanted = first_of(one), first_of(other)
         if refused is not None and wanted in HASHED:
             self.refused[refused] = self.refused.get(refused, 0) + 1
             # the output is unchanged: all of one byte
@@ -108,57 +116,64 @@ class Comparison:
         return one
 
 
-def compare_contexts(draw, comparison, it):
-    comparison.same(by_context, it, "argon2_ctx", it.kind)
+def compare_contexts(draw, comparison, inputs):
+    comparison.same(by_context, inputs, "argon2_ctx", inputs.kind)
     for number, kind in enumerate(KINDS):
-        tag = comparison.same(by_context, it, kind + "_ctx")[1]
+        tag = comparison.same(by_context, inputs, kind + "_ctx")[1]
         for at in (None, 0, len(tag) // 2, len(tag) - 1, draw.randrange(len(tag) or 1)):
             tried = bytearray(tag)
             if at is not None and tag:
                 tried[at] ^= 1 << draw.randrange(8)
             tried = bytes(tried) + b"\0"
-            comparison.same(by_context, it, kind + "_verify_ctx", tried)
-            comparison.same(by_context, it, "argon2_verify_ctx", tried, number)
+            comparison.same(by_context, inputs, kind + "_verify_ctx", tried)
+            comparison.same(by_context, inputs, "argon2_verify_ctx", tried, number)
 
 
-def compare_texts(comparison, it, texts):
+def compare_texts(comparison, inputs, texts):
     for text in texts:
         if is_costly(text):
             continue
         refused = refused_here(text)
         for password, size in (
-            (it.password, len(it.password)),
-            (it.password + b"x", len(it.password) + 1),
-            (it.password[:-1], len(it.password[:-1])),
+            (inputs.password, len(inputs.password)),
+            (inputs.password + b"x", len(inputs.password) + 1),
+            (inputs.password[:-1], len(inputs.password[:-1])),
             (None, 7),
             (None, 0),
         ):
             given = (text.encode("latin1"), password, size)
-            comparison.same("argon2_verify", *given, it.kind, refused=refused)
+            comparison.same("argon2_verify", *given, inputs.kind, refused=refused)
             for kind in KINDS:
                 comparison.same(kind + "_verify", *given, refused=refused)
 
 
 def compare(draw, comparison):
-    it = Inputs(draw)
-    compare_contexts(draw, comparison, it)
-    it.threads, it.flags, it.callbacks = it.lanes, 0, ""
-    numbers = (it.passes, it.memory, it.lanes, len(it.salt), it.tag_size, it.kind % 3)
+    inputs = Inputs(draw)
+    compare_contexts(draw, comparison, inputs)
+    inputs.threads, inputs.flags, inputs.callbacks = inputs.lanes, 0, ""
+    numbers = (
+        inputs.passes,
+        inputs.memory,
+        inputs.lanes,
+        len(inputs.salt),
+        inputs.tag_size,
+        inputs.kind % 3,
+    )
     fits = comparison.same("argon2_encodedlen", *numbers)
     size, has_raw = draw.choice((None, 0, 1, 40, 100, 3000, 3000, 3000)), draw.random() < 0.5
-    answer, encoded, _ = comparison.same(by_hash, it, size, has_raw)
+    answer, encoded, _ = comparison.same(by_hash, inputs, size, has_raw)
     if size == 3000:
         for room in (fits - 1, fits, fits + 1):
-            comparison.same(by_hash, it, room, has_raw)
+            comparison.same(by_hash, inputs, room, has_raw)
     if answer == 0 and size == 3000:
         texts = [encoded.split(b"\0")[0].decode()]
     else:
-        texts = [text_of(it)]
+        texts = [text_of(inputs)]
     texts += [damaged(draw, texts[0]) for _ in range(4)]
     texts.append(damaged(draw, texts[-1]))
-    compare_texts(comparison, it, texts)
+    compare_texts(comparison, inputs, texts)
     for kind in KINDS:
-        comparison.same(encoded_by_kind, it, kind)
+        comparison.same(encoded_by_kind, inputs, kind)
 
 
 def compare_memory_beyond_ours(ours):
@@ -187,11 +202,11 @@ def compare_refused_contexts(ours):
         (1, 8, 0, NO_VERSION),
     ):
         for callbacks in ("", "gives"):
-            it = Inputs.plain(lanes=lanes, memory=memory, version=version, flags=3)
-            it.secret, it.callbacks = b"secret", callbacks
-            answer, _, arena, *sizes, calls = by_context(ours, it, "argon2_ctx", 2)
+            inputs = Inputs.plain(lanes=lanes, memory=memory, version=version, flags=3)
+            inputs.secret, inputs.callbacks = b"secret", callbacks
+            answer, _, arena, *sizes, calls = by_context(ours, inputs, "argon2_ctx", 2)
             before = ctypes.create_string_buffer(b"\x5a" * ARENA, ARENA)
-            context_at(it, before, Callbacks(False))
+            context_at(inputs, before, Callbacks(False))
             if (answer, arena, sizes, calls) != (wanted, before.raw, [8, 6], []):
                 sys.exit(f"a context of {lanes}, {memory}, {version}: {answer}, {sizes}, {calls}")
 
@@ -229,20 +244,20 @@ def compare_pairs_of_faults(comparison):
     """Of two faults our call returns the original's first."""
     for one, other in itertools.combinations(FAULTS, 2):
         null = one.get("null", "") + other.get("null", "")
-        it = Inputs.plain(**{**one, **other, "null": null})
-        comparison.same(by_context, it, "argon2_ctx", it.kind)
+        inputs = Inputs.plain(**{**one, **other, "null": null})
+        comparison.same(by_context, inputs, "argon2_ctx", inputs.kind)
         for kind in KINDS:
-            comparison.same(by_context, it, kind + "_ctx")
-        comparison.same(by_hash, it, 3000, True)
+            comparison.same(by_context, inputs, kind + "_ctx")
+        comparison.same(by_hash, inputs, 3000, True)
 
 
 def compare_memory_askew(ours):
     """Memory at an address where no number can be stored is freed, and counts as none."""
     arena = ctypes.create_string_buffer(ARENA)
-    it = Inputs.plain(callbacks="gives")
+    inputs = Inputs.plain(callbacks="gives")
     for askew in (1, 2, 4):
         callbacks = Callbacks(True, askew)
-        answer = ours.argon2_ctx(ctypes.byref(context_at(it, arena, callbacks)), 2)
+        answer = ours.argon2_ctx(ctypes.byref(context_at(inputs, arena, callbacks)), 2)
         calls = [call[0] for call in callbacks.calls]
         if (answer, calls, callbacks.held) != (-22, ["allocate", "free"], {}):
             sys.exit(f"memory at {askew}: {answer}, {calls}")

@@ -41,7 +41,13 @@ SOURCES = [it for it in C_FILES if it not in {*LIBARGON2, *OTHERS}]
 SOURCES += [str(OUT / f"{build}.o") for build in BUILDS]
 # Tests that need none of the builds.
 WITHOUT_BUILDS = ["src/secrets.c", f"src/{ARCH}.c", "tests/no_builds.c"]
-VALGRIND = "valgrind -q --error-exitcode=9 --leak-check=full --errors-for-leak-kinds=all".split()
+VALGRIND = [
+    "valgrind",
+    "-q",
+    "--error-exitcode=9",
+    "--leak-check=full",
+    "--errors-for-leak-kinds=all",
+]
 
 # Makes calls that ask for threads use them for tags of every size.
 IN_THREADS = "-DLEAST_SHARED_MEMORY=1"

@@ -25,20 +25,20 @@ class Context(ctypes.Structure):
 
 
 def library(path):
-    it = ctypes.CDLL(path)
+    found = ctypes.CDLL(path)
     text, data = ctypes.c_char_p, [POINTER, SIZE]
-    it.argon2_error_message.restype = text
-    it.argon2_type2string.restype = text
-    it.argon2_encodedlen.restype = SIZE
-    it.argon2_hash.argtypes = [NUMBER] * 3 + data * 4 + [ctypes.c_int, NUMBER]
-    it.argon2_verify.argtypes = [POINTER, *data, ctypes.c_int]
-    it.argon2_verify_ctx.argtypes = [POINTER, text, ctypes.c_int]
+    found.argon2_error_message.restype = text
+    found.argon2_type2string.restype = text
+    found.argon2_encodedlen.restype = SIZE
+    found.argon2_hash.argtypes = [NUMBER] * 3 + data * 4 + [ctypes.c_int, NUMBER]
+    found.argon2_verify.argtypes = [POINTER, *data, ctypes.c_int]
+    found.argon2_verify_ctx.argtypes = [POINTER, text, ctypes.c_int]
     for kind in KINDS:
-        getattr(it, kind + "_hash_raw").argtypes = [NUMBER] * 3 + data * 3
-        getattr(it, kind + "_hash_encoded").argtypes = [NUMBER] * 3 + data * 2 + [SIZE, *data]
-        getattr(it, kind + "_verify").argtypes = [POINTER, *data]
-        getattr(it, kind + "_verify_ctx").argtypes = [POINTER, text]
-    return it
+        getattr(found, kind + "_hash_raw").argtypes = [NUMBER] * 3 + data * 3
+        getattr(found, kind + "_hash_encoded").argtypes = [NUMBER] * 3 + data * 2 + [SIZE, *data]
+        getattr(found, kind + "_verify").argtypes = [POINTER, *data]
+        getattr(found, kind + "_verify_ctx").argtypes = [POINTER, text]
+    return found
 
 
 ALLOCATE = ctypes.CFUNCTYPE(
@@ -103,12 +103,12 @@ class Inputs:
     @classmethod
     def plain(cls, **changes):
         """Good inputs of two lanes, except for these."""
-        it = cls(random.Random(1))
-        it.salt, it.password, it.secret, it.associated = b"somesalt", b"password", b"x", b"y"
-        it.null, it.flags, it.callbacks, it.overlap, it.version = "", 0, "", 0, 0x13
-        it.lanes, it.memory, it.passes, it.threads, it.tag_size, it.kind = 2, 16, 1, 1, 32, 2
-        vars(it).update(changes)
-        return it
+        plain = cls(random.Random(1))
+        good = {"salt": b"somesalt", "password": b"password", "secret": b"x", "associated": b"y"}
+        good |= {"null": "", "flags": 0, "callbacks": "", "overlap": 0, "version": 0x13}
+        good |= {"lanes": 2, "memory": 16, "passes": 1, "threads": 1, "tag_size": 32, "kind": 2}
+        vars(plain).update({**good, **changes})
+        return plain
 
 
 def zeros(size):
@@ -117,73 +117,77 @@ def zeros(size):
     return ctypes.c_char.from_buffer(mmap.mmap(-1, size, flags=flags))
 
 
-def places(it):
+def places(inputs):
     """The addresses of the inputs in an arena, one behind another, and of the output: over any of
     them, or behind them."""
-    sizes = {"p": len(it.password), "s": len(it.salt), "x": len(it.secret), "a": len(it.associated)}
+    sizes = {
+        "p": len(inputs.password),
+        "s": len(inputs.salt),
+        "x": len(inputs.secret),
+        "a": len(inputs.associated),
+    }
     at, found = 64, {}
     for name, size in sizes.items():
         found[name] = at
         at += size + 8
-    found["o"] = 64 + it.overlap * 2 % at if it.overlap % 2 else at
+    found["o"] = 64 + inputs.overlap * 2 % at if inputs.overlap % 2 else at
     return found
 
 
-def context_at(it, arena, callbacks):
+def address_of(call):
+    return ctypes.cast(call, ctypes.c_void_p).value
+
+
+def context_at(inputs, arena, callbacks):
     """A context over an arena into which the inputs are written."""
-    found = places(it)
+    found = places(inputs)
     start = ctypes.addressof(arena)
-    data = {"p": it.password, "s": it.salt, "x": it.secret, "a": it.associated}
+    data = {"p": inputs.password, "s": inputs.salt, "x": inputs.secret, "a": inputs.associated}
     for name, content in data.items():
         ctypes.memmove(start + found[name], content, len(content))
 
     def address(name):
-        return None if name in it.null else start + found[name]
+        return None if name in inputs.null else start + found[name]
 
-    fields = [address("o"), it.tag_size]
+    fields = [address("o"), inputs.tag_size]
     for name, content in data.items():
         fields += [address(name), len(content)]
-    fields += [it.passes, it.memory, it.lanes, it.threads, it.version]
-    pair = [
-        ctypes.cast(call, ctypes.c_void_p).value for call in (callbacks.allocate, callbacks.free)
-    ]
-    if it.callbacks == "":
-        pair = [None, None]
-    elif it.callbacks in ("odd", "dod"):
-        pair[it.callbacks == "odd"] = None
-    return Context(*fields, *pair, it.flags if it.null == "" else 0)
+    fields += [inputs.passes, inputs.memory, inputs.lanes, inputs.threads, inputs.version]
+    allocate = None if inputs.callbacks in ("", "dod") else address_of(callbacks.allocate)
+    free = None if inputs.callbacks in ("", "odd") else address_of(callbacks.free)
+    return Context(*fields, allocate, free, inputs.flags if inputs.null == "" else 0)
 
 
-def by_context(lib, it, name, *given):
+def by_context(lib, inputs, name, *given):
     """A call of a context, with all that it wrote, into the inputs too, and what its callbacks
     saw."""
     arena = ctypes.create_string_buffer(b"\x5a" * ARENA, ARENA)
-    callbacks = Callbacks(it.callbacks == "gives")
-    context = context_at(it, arena, callbacks)
+    callbacks = Callbacks(inputs.callbacks == "gives")
+    context = context_at(inputs, arena, callbacks)
     answer = getattr(lib, name)(ctypes.byref(context), *given)
-    at = places(it)["o"]
-    tag = arena.raw[at : at + it.tag_size]
+    at = places(inputs)["o"]
+    tag = arena.raw[at : at + inputs.tag_size]
     return answer, tag, arena.raw, context.pwdlen, context.secretlen, callbacks.calls
 
 
-def by_hash(lib, it, encoded_size, has_raw):
+def by_hash(lib, inputs, encoded_size, has_raw):
     raw = ctypes.create_string_buffer(b"\x5a" * 1100, 1100)
     encoded = ctypes.create_string_buffer(b"\x5a" * 3000, 3000)
-    password = None if it.null == "p" else it.password, len(it.password)
-    salt = None if it.null == "s" else it.salt, len(it.salt)
-    tag = ctypes.addressof(raw) if has_raw else None, it.tag_size
+    password = None if inputs.null == "p" else inputs.password, len(inputs.password)
+    salt = None if inputs.null == "s" else inputs.salt, len(inputs.salt)
+    tag = ctypes.addressof(raw) if has_raw else None, inputs.tag_size
     text = None if encoded_size is None else ctypes.addressof(encoded), encoded_size or 0
-    costs = (it.passes, it.memory, it.lanes)
-    answer = lib.argon2_hash(*costs, *password, *salt, *tag, *text, it.kind, it.version)
+    costs = (inputs.passes, inputs.memory, inputs.lanes)
+    answer = lib.argon2_hash(*costs, *password, *salt, *tag, *text, inputs.kind, inputs.version)
     return answer, encoded.raw, raw.raw
 
 
-def encoded_by_kind(lib, it, kind):
+def encoded_by_kind(lib, inputs, kind):
     raw = ctypes.create_string_buffer(1100)
     encoded = ctypes.create_string_buffer(3000)
-    common = (it.passes, it.memory, it.lanes, it.password, len(it.password))
-    salt = (it.salt, len(it.salt))
-    first = getattr(lib, kind + "_hash_raw")(*common, *salt, raw, it.tag_size)
-    size = (it.tag_size, ctypes.addressof(encoded), 3000)
+    common = (inputs.passes, inputs.memory, inputs.lanes, inputs.password, len(inputs.password))
+    salt = (inputs.salt, len(inputs.salt))
+    first = getattr(lib, kind + "_hash_raw")(*common, *salt, raw, inputs.tag_size)
+    size = (inputs.tag_size, ctypes.addressof(encoded), 3000)
     second = getattr(lib, kind + "_hash_encoded")(*common, *salt, *size)
     return second, encoded.raw, first, raw.raw

@@ -44,8 +44,8 @@ class Calls(unittest.TestCase):
             self.assertNotIn(refused.at, (None, block.at))
             self.assertEqual(ctypes.string_at(block.at, size), before)
         self.assertEqual(ctypes.string_at(other.at, 24), b"x" * 24)
-        for it in (block, other):
-            CALLS.rattle_dealloc(it.at)
+        for each in (block, other):
+            CALLS.rattle_dealloc(each.at)
         refused = CALLS.rattle_alloc(TOO_MUCH, 1)
         self.assertEqual((refused.is_there, ctypes.string_at(refused.at, 1)), (False, b"\0"))
 

@@ -8,8 +8,8 @@ import re
 import types
 
 HEADER = (pathlib.Path(__file__).parents[1] / "include/rigzumal.h").read_text()
-# The header's numbers by their names: N.OK, N.SHAPE, N.TEXT_SIZE ..
-N = types.SimpleNamespace(
+# The header's numbers by their names, such as RIGZUMAL.OK for RIGZUMAL_OK.
+RIGZUMAL = types.SimpleNamespace(
     **{name: int(number) for name, number in re.findall(r"\bRIGZUMAL_(\w+) = (\d+)\b", HEADER)}
 )
 UNTOUCHED = b"\x5a"
@@ -30,16 +30,20 @@ def call(name, *given):
     """The answer of a call: bytes are passed with their size, as are pairs of a pointer and a
     size."""
     words = []
-    for it in given:
-        if isinstance(it, (bytes, tuple)):
-            start, size = it if isinstance(it, tuple) else (it, len(it))
+    for value in given:
+        if isinstance(value, bytes):
+            words += [value, ctypes.c_size_t(len(value))]
+        elif isinstance(value, tuple):
+            start, size = value
             words += [start, ctypes.c_size_t(size)]
-        elif isinstance(it, int):
-            words.append(ctypes.c_size_t(it))
-        elif isinstance(it, ctypes.Structure):
-            words.append(ctypes.byref(it))
+        elif isinstance(value, int):
+            words.append(ctypes.c_size_t(value))
+        elif isinstance(value, ctypes.Structure):
+            words.append(ctypes.byref(value))
+        elif isinstance(value, str):
+            words.append(value.encode("latin1"))
         else:
-            words.append(it.encode("latin1") if isinstance(it, str) else it)
+            words.append(value)
     return getattr(LIBRARY, f"rigzumal_{name}")(*words)
 
 
@@ -49,7 +53,7 @@ def written(name, room, *given):
     answer = call(name, (buffer, room), *given)
     if buffer.raw[room:] != UNTOUCHED:
         raise AssertionError(f"{name} wrote behind its room")
-    if answer != N.OK and buffer.raw.strip(UNTOUCHED):
+    if answer != RIGZUMAL.OK and buffer.raw.strip(UNTOUCHED):
         raise AssertionError(f"{name} wrote with the fault {answer}")
     return answer, buffer.raw[:room]
 
@@ -59,9 +63,10 @@ def written_text(name, room, *given):
     end."""
     answer, data = written(name, room, *given)
     text, end, rest = data.partition(b"\0")
-    if answer == N.OK and (room and not end or rest.strip(UNTOUCHED)):
+    lacks_end = room > 0 and not end
+    if answer == RIGZUMAL.OK and (lacks_end or rest.strip(UNTOUCHED)):
         raise AssertionError(f"{name} wrote behind the text")
-    return answer, text.decode("latin1") if answer == N.OK else ""
+    return answer, text.decode("latin1") if answer == RIGZUMAL.OK else ""
 
 
 def numbers(*given):
@@ -77,7 +82,11 @@ def structure(*names):
         fields.append((name, kind))
         if name in ("password", "new_password", "salt", "secret", "associated"):
             fields.append((f"{name}_size", ctypes.c_size_t))
-    return type("Structure", (ctypes.Structure,), {"_fields_": fields})
+
+    class Structure(ctypes.Structure):
+        _fields_ = fields
+
+    return Structure
 
 
 Inputs = structure("password", "salt", "secret", "associated", "threads")

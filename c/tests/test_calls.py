@@ -9,12 +9,19 @@ from harness import TOP, WITHOUT_BUILDS, built, need, need_host, run, sources_fo
 
 # The build that each processor must run, by qemu's names.
 PROCESSORS = {
-    "v1": "qemu64 core2duo Penryn",
-    "v2": "Nehalem Westmere SandyBridge IvyBridge",
-    "v3": "Haswell Skylake-Client EPYC",
+    "qemu64": "v1",
+    "core2duo": "v1",
+    "Penryn": "v1",
+    "Nehalem": "v2",
+    "Westmere": "v2",
+    "SandyBridge": "v2",
+    "IvyBridge": "v2",
+    "Haswell": "v3",
+    "Skylake-Client": "v3",
+    "EPYC": "v3",
 }
-LEVEL_2 = "sse3 ssse3 sse4.1 sse4.2 cx16 popcnt lahf-lm".split()
-LEVEL_3 = "avx avx2 bmi1 bmi2 f16c fma abm movbe xsave".split()
+LEVEL_2 = ["sse3", "ssse3", "sse4.1", "sse4.2", "cx16", "popcnt", "lahf-lm"]
+LEVEL_3 = ["avx", "avx2", "bmi1", "bmi2", "f16c", "fma", "abm", "movbe", "xsave"]
 # Instructions that the code of a level has, and that of no older level.
 INSTRUCTIONS = {"v1": "%xmm", "v2": "pshufb", "v3": "%ymm", "v4": r"mm(1[6-9]|2\d|3[01])\b"}
 # Bits of leaf 7 and of XCR0: qemu has no such processor.
@@ -47,7 +54,7 @@ class Calls(unittest.TestCase):
         need_host()
         need("qemu-x86_64")
         program = processor()
-        wanted = {name: build for build, names in PROCESSORS.items() for name in names.split()}
+        wanted = dict(PROCESSORS)
         wanted.update({f"Haswell,-{feature}": "v1" for feature in LEVEL_2})
         wanted.update({f"Haswell,-{feature}": "v2" for feature in LEVEL_3})
         for name, build in wanted.items():
@@ -111,7 +118,10 @@ class Calls(unittest.TestCase):
         """Compilers warn if a program ignores the fault of a call, and of no other use."""
         header = (TOP / "include/rigzumal.h").read_text()
         calls = re.findall(r"^int (rigzumal_\w+)\(([^;]*)\)", header, re.MULTILINE)
-        lines = [f"{name}({', '.join('0' for _ in given.split(','))})" for name, given in calls]
+        lines = []
+        for name, given in calls:
+            zeros = ", ".join("0" for _ in given.split(","))
+            lines.append(f"{name}({zeros})")
         source = ROOM / "uses.c"
         for use, wanted in (
             ("{};", [it for it in lines if "explain" not in it]),
@@ -139,8 +149,11 @@ class Calls(unittest.TestCase):
 
         header = declared((TOP / "include/rigzumal.h").read_text())
         rows = re.findall(r"^\.BI (.*)", (TOP.parent / "man/rigzumal.3").read_text(), re.MULTILINE)
-        words = [re.findall(r'"([^"]*)"|(\S+)', row) for row in rows]
-        manual = declared("\n".join("".join(quoted + word for quoted, word in it) for it in words))
+        lines = []
+        for row in rows:
+            words = re.findall(r'"([^"]*)"|(\S+)', row)
+            lines.append("".join(quoted + word for quoted, word in words))
+        manual = declared("\n".join(lines))
         self.assertLess(25, len(header))
         self.assertEqual(manual, header)
 

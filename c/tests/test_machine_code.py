@@ -9,13 +9,15 @@ import unittest
 from harness import BUILDS, OUT, built, need, need_file, need_host, need_native, run, sources_for
 
 OBJDUMP = "objdump"
-COUNTED = "valgrind --tool=callgrind --callgrind-out-file=/dev/null".split()
+COUNTED = ["valgrind", "--tool=callgrind", "--callgrind-out-file=/dev/null"]
 # An instruction that multiplies vectors, and the number of them in a G.
 MULTIPLIES = re.compile(r"\tv?pmuludq\b")
 OF_A_BLOCK = {"v1": 256, "v2": 256, "v3": 128, "v4": 64}
 # An instruction that stores a vector on the stack, and one that prefetches.
 SPILLS = re.compile(r"\tv?mov\w+ +%[xyz]mm\d+,[^,(]*\(%r[sb]p")
 PREFETCHES = re.compile(r"\t(prefetch\w+) +(0x[0-9a-f]+)?\(")
+# The beginning of the function for blocks of addresses.
+FOR_ADDRESSES = re.compile(r"[0-9a-f]+ <cred_argon::block::compress>:")
 # The prefetches of a G: these lines of a block, for reading, into all caches.
 LINES = [("prefetcht0", line) for line in range(0, 512, 64)]
 # What is found in each build: instructions of a G, of which so many put a vector on the stack, and
@@ -33,11 +35,13 @@ def functions(build):
     """The instructions of each function that computes blocks of the memory, and so contains G; the
     function for blocks of addresses is left out."""
     code = run(OBJDUMP, "-d", "--no-show-raw-insn", OUT / f"{build}.o")
-    code = re.sub(r"(?s)\n[0-9a-f]+ <cred_argon::block::compress>:.*?(?=\n\n)", "", code)
-    all_lines = [
-        re.findall(r"(?m)^ *[0-9a-f]+:\t.*", it) for it in re.split(r"\n(?=[0-9a-f]+ <)", code)
-    ]
-    found = [it for it in all_lines if multiplications(it) >= OF_A_BLOCK[build]]
+    found = []
+    for function in re.split(r"\n(?=[0-9a-f]+ <)", code):
+        if FOR_ADDRESSES.match(function):
+            continue
+        lines = re.findall(r"(?m)^ *[0-9a-f]+:\t.*", function)
+        if multiplications(lines) >= OF_A_BLOCK[build]:
+            found.append(lines)
     if not found:
         raise AssertionError(f"{build} has no G")
     return found
@@ -86,10 +90,12 @@ class MachineCode(unittest.TestCase):
         for build in BUILDS:
             for lines in functions(build):
                 with self.subTest(build):
-                    found = [(at, PREFETCHES.search(it)) for at, it in enumerate(lines)]
-                    found = [(at, it) for at, it in found if it]
-                    what = [(it[1], int(it[2] or "0", 16)) for _, it in found]
-                    starts = [at for at, _ in found[:: len(LINES)]]
+                    places, what = [], []
+                    for at, line in enumerate(lines):
+                        if found := PREFETCHES.search(line):
+                            places.append(at)
+                            what.append((found[1], int(found[2] or "0", 16)))
+                    starts = places[:: len(LINES)]
                     self.assertEqual(what, LINES * len(starts))
                     ends = zip(starts, [*starts[1:], len(lines)])
                     behind = [multiplications(lines[at:to]) for at, to in ends]

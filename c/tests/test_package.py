@@ -81,9 +81,9 @@ class Package(unittest.TestCase):
             run("sh", "-c", f"umask 077; make install {words}")
             wanted = {re.sub("^lib/", f"{libdir}/", it) for it in INSTALLED}
             self.assertEqual(files_below(prefix), wanted)
-            for it in prefix.rglob("*"):  # everybody may read it, whoever installed it
-                mode = 0o755 if it.is_dir() else 0o644
-                self.assertEqual(stat.S_IMODE(it.stat().st_mode), mode, it)
+            for path in prefix.rglob("*"):  # everybody may read it, whoever installed it
+                mode = 0o755 if path.is_dir() else 0o644
+                self.assertEqual(stat.S_IMODE(path.stat().st_mode), mode, path)
             self.check_program(prefix, libdir)
         moved = (ROOM / "installed in lib").rename(ROOM / "moved")
         self.check_program(moved, "lib", "--define-prefix")

@@ -31,10 +31,13 @@ class Secrets(unittest.TestCase):
     def test_cleared_memory(self):
         """No secret is left after a call. While a tag is computed in parts, nothing is left of the
         cleared inputs, nor of RFC 9106's hash of the jobs' inputs."""
-        password, secret = (bytes((a * at + b) % 256 for at in range(n)) for n, a, b in VAULT)
+        password, secret = (
+            bytes((factor * at + first) % 256 for at in range(size))
+            for size, factor, first in VAULT
+        )
         parts = [struct.pack("<6I", 3, 40, 64, 1, 0x13, 2)]
-        for it in (password, b"sixteen of salt.", secret, b""):
-            parts += [struct.pack("<I", len(it)), it]
+        for data in (password, b"sixteen of salt.", secret, b""):
+            parts += [struct.pack("<I", len(data)), data]
         self.of_each_build("cleared", hashlib.blake2b(b"".join(parts)).hexdigest())
 
     def test_stacks(self):

@@ -5,7 +5,7 @@ import ctypes
 import re
 import unittest
 
-from rigzumal_calls import HEADER, LIBRARY, OLD_RECORD, RECORD, SCRYPT_RECORD, N
+from rigzumal_calls import HEADER, LIBRARY, OLD_RECORD, RECORD, SCRYPT_RECORD, RIGZUMAL
 from rigzumal_calls import call, written_text
 
 COSTS = "$argon2id$v=19$m=256,t=2,p=1"
@@ -25,31 +25,31 @@ PARTS = {
 
 # Bad records, each with its fault, or with a number that is out of its range in words.
 RECORDS = {
-    f"{COSTS}${SALT}${TAG}$": N.SHAPE,
-    f"$argon2x$v=19$m=256,t=2,p=1${SALT}${TAG}": N.SCHEME,
-    f"$argon2id$v=18$m=7,t=2,p=1${SALT}${TAG}": N.VERSION,
-    f"$argon2id$v=19$m=0256,t=2,p=1${SALT}${TAG}": N.PARAMS,
+    f"{COSTS}${SALT}${TAG}$": RIGZUMAL.SHAPE,
+    f"$argon2x$v=19$m=256,t=2,p=1${SALT}${TAG}": RIGZUMAL.SCHEME,
+    f"$argon2id$v=18$m=7,t=2,p=1${SALT}${TAG}": RIGZUMAL.VERSION,
+    f"$argon2id$v=19$m=0256,t=2,p=1${SALT}${TAG}": RIGZUMAL.PARAMS,
     f"$argon2id$v=19$m=7,t=2,p=1${SALT}${TAG}": "m=7 is under 8 p (8 KiB)",
     f"$argon2i$v=16$m=2097153,t=1,p=1${SALT}${TAG}": "m=2097153 is over 2097152 (KiB)",
     f"$argon2id$v=19$m=64,t=1,p=256${SALT}${TAG}": "p=256 is not from 1 to 255",
     f"$scrypt$ln=23,r=8,p=1$AA${TAG}": "ln=23: r times 2^ln is over 16777216",
-    f"{COSTS}$c29t${TAG}": N.SALT,
-    f"{COSTS}${SALT}$nf65E": N.TAG,
+    f"{COSTS}$c29t${TAG}": RIGZUMAL.SALT,
+    f"{COSTS}${SALT}$nf65E": RIGZUMAL.TAG,
 }
 
 # Bad costs and settings.
 OTHERS = {
-    "": N.SHAPE,
-    "x": N.SHAPE,
-    "$": N.SCHEME,
-    "$argon2id": N.SHAPE,
-    "$scrypt": N.SHAPE,
-    "$2b$12$abc": N.SCHEME,
-    "$argon2x$v=19$m=8,t=1,p=1": N.SCHEME,
-    "$argon2i$m=8,t=1,p=1": N.VERSION,
-    "$argon2id$v=16$m=8,t=1,p=1": N.VERSION,
-    "$argon2id$v=19$m=8,t=1": N.PARAMS,
-    f"$argon2id$v=19$m=64M,t=1,p=1${SALT}": N.PARAMS,
+    "": RIGZUMAL.SHAPE,
+    "x": RIGZUMAL.SHAPE,
+    "$": RIGZUMAL.SCHEME,
+    "$argon2id": RIGZUMAL.SHAPE,
+    "$scrypt": RIGZUMAL.SHAPE,
+    "$2b$12$abc": RIGZUMAL.SCHEME,
+    "$argon2x$v=19$m=8,t=1,p=1": RIGZUMAL.SCHEME,
+    "$argon2i$m=8,t=1,p=1": RIGZUMAL.VERSION,
+    "$argon2id$v=16$m=8,t=1,p=1": RIGZUMAL.VERSION,
+    "$argon2id$v=19$m=8,t=1": RIGZUMAL.PARAMS,
+    f"$argon2id$v=19$m=64M,t=1,p=1${SALT}": RIGZUMAL.PARAMS,
     "$argon2id$v=19$m=7,t=1,p=1": "m=7 is under 8 p (8 KiB)",
     f"$argon2d$v=19$m={2**64},t=1,p=1": f"m={2**64 - 1} is over 2097152 (KiB)",
     f"$argon2id$v=19$m=31,t=1,p=4${SALT}": "m=31 is under 8 p (32 KiB)",
@@ -61,8 +61,8 @@ OTHERS = {
     "$scrypt$ln=1,r=0,p=1": "r=0 is not from 1 to 255",
     "$scrypt$ln=1,r=256,p=1": "r=256 is not from 1 to 255",
     "$scrypt$ln=1,r=1,p=256": "p=256 is not from 1 to 255",
-    "$argon2id$v=19$m=8,t=1,p=1$c29t": N.SALT,
-    "$argon2id$v=19$m=8,t=1,p=1$": N.SALT,
+    "$argon2id$v=19$m=8,t=1,p=1$c29t": RIGZUMAL.SALT,
+    "$argon2id$v=19$m=8,t=1,p=1$": RIGZUMAL.SALT,
 }
 
 # The words for faults, in the order of their numbers.
@@ -80,14 +80,14 @@ def parts(text):
     """The fault of a text, and its parts."""
     found = (ctypes.c_uint32 * 7)(*[99] * 7)
     fault = call("parts", ctypes.byref(found), text)
-    return fault, tuple(found) if fault == N.OK else tuple(set(found))
+    return fault, tuple(found) if fault == RIGZUMAL.OK else tuple(set(found))
 
 
 class Texts(unittest.TestCase):
     def check_explained(self, text, fault, words=None):
         """A fault in words, which are cut off at the end of the buffer."""
         words = words or LIBRARY.rigzumal_strerror(fault).decode()
-        for room in (N.TEXT_SIZE, 5, 1):
+        for room in (RIGZUMAL.TEXT_SIZE, 5, 1):
             buffer = ctypes.create_string_buffer(b"\x5a" * (room + 1), room + 1)
             self.assertEqual(call("explain", (buffer, room), text), fault, text)
             self.assertEqual(buffer.value.decode(), words[: room - 1], text)
@@ -95,22 +95,24 @@ class Texts(unittest.TestCase):
 
     def check_fault(self, text, said):
         """The fault of a text, from the call for its parts and from the one that explains it."""
-        fault, words = (N.RANGE, said) if isinstance(said, str) else (said, None)
+        fault, words = (RIGZUMAL.RANGE, said) if isinstance(said, str) else (said, None)
         self.assertEqual(parts(text), (fault, (99,)), text)
         self.check_explained(text, fault, words)
         return fault
 
     def test_parts(self):
         for text, wanted in PARTS.items():
-            self.assertEqual(parts(text), (N.OK, wanted))
+            self.assertEqual(parts(text), (RIGZUMAL.OK, wanted))
             salt_size, tag_size = wanted[-2:]
-            self.assertEqual(call("record_fault", text), N.OK if tag_size else N.SHAPE)
+            self.assertEqual(
+                call("record_fault", text), RIGZUMAL.OK if tag_size else RIGZUMAL.SHAPE
+            )
             if salt_size and not tag_size:
-                self.assertEqual(call("setting_fault", text), N.OK)
-            self.check_explained(text, N.OK)
-        self.assertEqual(call("setting_fault", RECORD), N.SHAPE)
+                self.assertEqual(call("setting_fault", text), RIGZUMAL.OK)
+            self.check_explained(text, RIGZUMAL.OK)
+        self.assertEqual(call("setting_fault", RECORD), RIGZUMAL.SHAPE)
         setting = f"$argon2id$v=16$m=64,t=1,p=1${SALT}"
-        self.assertEqual(call("setting_fault", setting), N.VERSION)
+        self.assertEqual(call("setting_fault", setting), RIGZUMAL.VERSION)
 
     def test_faults(self):
         for text, said in OTHERS.items():
@@ -124,13 +126,15 @@ class Texts(unittest.TestCase):
 
     def test_long_texts(self):
         """Texts that are too long for any record, and texts of nearly that length."""
-        self.assertEqual(call("record_fault", "$" * 599), N.TOO_LONG)
+        self.assertEqual(call("record_fault", "$" * 599), RIGZUMAL.TOO_LONG)
         for size in range(480, 600):
-            self.check_fault("$" * size, N.SCHEME if size < N.TEXT_SIZE else N.TOO_LONG)
+            self.check_fault(
+                "$" * size, RIGZUMAL.SCHEME if size < RIGZUMAL.TEXT_SIZE else RIGZUMAL.TOO_LONG
+            )
             fault, _ = parts("$scrypt$ln=4,r=8,p=1$".ljust(size, "A"))
-            self.assertIn(fault, (N.SALT, N.TOO_LONG, N.SHAPE))
+            self.assertIn(fault, (RIGZUMAL.SALT, RIGZUMAL.TOO_LONG, RIGZUMAL.SHAPE))
             one_too_many = f"{RECORD}$".ljust(size, "A")
-            fault = N.SHAPE if size < N.TEXT_SIZE else N.TOO_LONG
+            fault = RIGZUMAL.SHAPE if size < RIGZUMAL.TEXT_SIZE else RIGZUMAL.TOO_LONG
             self.check_fault(one_too_many, fault)
             self.assertEqual(call("needs_rehash", one_too_many, COSTS, 8, 32), fault)
             self.assertEqual(call("needs_rehash", RECORD, one_too_many, 8, 32), fault)
@@ -141,40 +145,38 @@ class Texts(unittest.TestCase):
         for size in range(1, 1100):
             costs = good[:size].ljust(size, "0")
             for salt in map(bytes, range(8, 600, 148)):
-                given = (N.TEXT_SIZE, 32, costs, salt, b"x")
+                given = (RIGZUMAL.TEXT_SIZE, 32, costs, salt, b"x")
                 fault, _ = written_text("record", *given)
                 if costs == good and len(salt) == 8:
-                    self.assertEqual(fault, N.OK)
-                elif size + 1 + (len(salt) * 4 + 2) // 3 >= N.TEXT_SIZE:
-                    self.assertEqual(fault, N.TOO_LONG, (size, len(salt)))
+                    self.assertEqual(fault, RIGZUMAL.OK)
+                elif size + 1 + (len(salt) * 4 + 2) // 3 >= RIGZUMAL.TEXT_SIZE:
+                    self.assertEqual(fault, RIGZUMAL.TOO_LONG, (size, len(salt)))
                 else:
-                    self.assertNotIn(fault, (N.OK, N.TOO_LONG), (size, len(salt)))
+                    self.assertNotIn(fault, (RIGZUMAL.OK, RIGZUMAL.TOO_LONG), (size, len(salt)))
 
     def test_needs_rehash(self):
-        i, scrypt = COSTS.replace("2id", "2i"), "$scrypt$ln=8,r=8,p=1"
-        other_scrypt = [
-            f"$scrypt$ln={n},r={r},p={p}" for n, r, p in ((7, 8, 1), (8, 9, 1), (8, 8, 2))
-        ]
+        of_i, scrypt = COSTS.replace("2id", "2i"), "$scrypt$ln=8,r=8,p=1"
+        other_scrypt = ("$scrypt$ln=7,r=8,p=1", "$scrypt$ln=8,r=9,p=1", "$scrypt$ln=8,r=8,p=2")
         for record, costs, salt_size, tag_size, wanted in (
-            (RECORD, COSTS, 8, 32, N.OK),
-            (RECORD, f"{COSTS}${SALT}", 0, 32, N.OK),
-            (RECORD, f"{COSTS}$c29tZXNhbHRz", 0, 32, N.OTHER_COSTS),
-            (RECORD, COSTS, 9, 32, N.OTHER_COSTS),
-            (RECORD, COSTS, 8, 33, N.OTHER_COSTS),
-            (RECORD, COSTS, 8, 2**32 + 32, N.OTHER_COSTS),
-            (RECORD, COSTS.replace("256", "257"), 8, 32, N.OTHER_COSTS),
-            (RECORD, COSTS.replace("t=2", "t=1"), 8, 32, N.OTHER_COSTS),
-            (RECORD, COSTS.replace("p=1", "p=2"), 8, 32, N.OTHER_COSTS),
-            (RECORD, i, 8, 32, N.OTHER_COSTS),
-            (RECORD, scrypt, 8, 32, N.OTHER_COSTS),
-            (OLD_RECORD, i, 8, 32, N.OTHER_COSTS),
-            (SCRYPT_RECORD, scrypt, 9, 32, N.OK),
-            *((SCRYPT_RECORD, it, 9, 32, N.OTHER_COSTS) for it in other_scrypt),
-            ("x", "y", 8, 32, N.SHAPE),
-            (f"$argon2id$v=19$m=7,t=1,p=1${SALT}${TAG}", "$", 8, 32, N.RANGE),
-            (RECORD, COSTS.replace("v=19", "v=18"), 8, 32, N.VERSION),
-            (RECORD, RECORD, 0, 32, N.SHAPE),
-            (RECORD, f"{COSTS}${SALT}", 8, 32, N.SHAPE),
+            (RECORD, COSTS, 8, 32, RIGZUMAL.OK),
+            (RECORD, f"{COSTS}${SALT}", 0, 32, RIGZUMAL.OK),
+            (RECORD, f"{COSTS}$c29tZXNhbHRz", 0, 32, RIGZUMAL.OTHER_COSTS),
+            (RECORD, COSTS, 9, 32, RIGZUMAL.OTHER_COSTS),
+            (RECORD, COSTS, 8, 33, RIGZUMAL.OTHER_COSTS),
+            (RECORD, COSTS, 8, 2**32 + 32, RIGZUMAL.OTHER_COSTS),
+            (RECORD, COSTS.replace("256", "257"), 8, 32, RIGZUMAL.OTHER_COSTS),
+            (RECORD, COSTS.replace("t=2", "t=1"), 8, 32, RIGZUMAL.OTHER_COSTS),
+            (RECORD, COSTS.replace("p=1", "p=2"), 8, 32, RIGZUMAL.OTHER_COSTS),
+            (RECORD, of_i, 8, 32, RIGZUMAL.OTHER_COSTS),
+            (RECORD, scrypt, 8, 32, RIGZUMAL.OTHER_COSTS),
+            (OLD_RECORD, of_i, 8, 32, RIGZUMAL.OTHER_COSTS),
+            (SCRYPT_RECORD, scrypt, 9, 32, RIGZUMAL.OK),
+            *((SCRYPT_RECORD, it, 9, 32, RIGZUMAL.OTHER_COSTS) for it in other_scrypt),
+            ("x", "y", 8, 32, RIGZUMAL.SHAPE),
+            (f"$argon2id$v=19$m=7,t=1,p=1${SALT}${TAG}", "$", 8, 32, RIGZUMAL.RANGE),
+            (RECORD, COSTS.replace("v=19", "v=18"), 8, 32, RIGZUMAL.VERSION),
+            (RECORD, RECORD, 0, 32, RIGZUMAL.SHAPE),
+            (RECORD, f"{COSTS}${SALT}", 8, 32, RIGZUMAL.SHAPE),
         ):
             found = call("needs_rehash", record, costs, salt_size, tag_size)
             self.assertEqual(found, wanted, (record, costs, salt_size, tag_size))

@@ -7,7 +7,7 @@ import platform
 import random
 import unittest
 
-from rigzumal_calls import LIBRARY, N, call, inputs, numbers, written, written_text
+from rigzumal_calls import LIBRARY, RIGZUMAL, call, inputs, numbers, written, written_text
 
 # qemu-user takes too long over hundreds of threads.
 IS_FAST = platform.machine() == "x86_64"
@@ -48,27 +48,34 @@ class WithThreads(unittest.TestCase):
         password too."""
         for at in range(record.rindex("$") + 1, len(record)):
             other = record[:at] + ("B" if record[at] == "A" else "A") + record[at + 1 :]
-            allowed = (N.MISMATCH, N.TAG)[: 1 + (at == len(record) - 1)]
+            is_last = at == len(record) - 1
+            allowed = (RIGZUMAL.MISMATCH, RIGZUMAL.TAG) if is_last else (RIGZUMAL.MISMATCH,)
             self.assertIn(call("check_from", other, inputs(**given)), allowed, other)
         for name in ("password", "secret", "associated"):
             if shorter := given.get(name, b"")[:-1]:
                 judged = self.same(
-                    lambda it: call("check_from", record, it), {**given, name: shorter}
+                    lambda data: call("check_from", record, data), {**given, name: shorter}
                 )
-                self.assertEqual(judged, N.MISMATCH, name)
-        self.assertNotEqual(self.same(lambda it: call("check_from", record[:-1], it), given), N.OK)
+                self.assertEqual(judged, RIGZUMAL.MISMATCH, name)
+        self.assertNotEqual(
+            self.same(lambda data: call("check_from", record[:-1], data), given), RIGZUMAL.OK
+        )
 
     def compare_calls(self, costs, room, size, given):
-        tag = self.same(lambda it: tag_from(size, costs, it), given)
+        tag = self.same(lambda data: tag_from(size, costs, data), given)
         text = "${}$v={}$m={},t={},p={}".format(KINDS[costs[0]], *costs[1:])
-        made = self.same(lambda it: written_text("record_from", room, size, text, it), given)
-        if made[0] != N.OK:
+        made = self.same(lambda data: written_text("record_from", room, size, text, data), given)
+        if made[0] != RIGZUMAL.OK:
             return
         others = [given.get(name, NONE) for name in ("password", "salt", "secret", "associated")]
         self.assertEqual(written("argon2", size, numbers(*costs), *others), tag)
-        of_tag = written_text("argon2_write", N.TEXT_SIZE, numbers(*costs), given["salt"], tag[1])
+        of_tag = written_text(
+            "argon2_write", RIGZUMAL.TEXT_SIZE, numbers(*costs), given["salt"], tag[1]
+        )
         self.assertEqual(of_tag, made)
-        self.assertEqual(self.same(lambda it: call("check_from", made[1], it), given), N.OK)
+        self.assertEqual(
+            self.same(lambda data: call("check_from", made[1], data), given), RIGZUMAL.OK
+        )
         self.check_refusals(made[1], given)
 
     def test_random_calls(self):
@@ -83,7 +90,7 @@ class WithThreads(unittest.TestCase):
             costs += [mostly(draw.randint(1, 3), 0), mostly(lanes, 0)]
             given = {"password": some_bytes(), "salt": draw.randbytes(mostly(8 + number % 41, 7))}
             given |= {it: some_bytes() for it in ("secret", "associated") if draw.random() < 0.5}
-            sizes = mostly(N.TEXT_SIZE, 60), mostly(4 + number % 77, 2**32 + 32)
+            sizes = mostly(RIGZUMAL.TEXT_SIZE, 60), mostly(4 + number % 77, 2**32 + 32)
             with self.subTest(costs=costs, sizes=sizes, given=given):
                 self.compare_calls(costs, *sizes, given)
         self.assertGreater(started.value - before, SETS)
@@ -97,5 +104,5 @@ class WithThreads(unittest.TestCase):
             *((2, 0x13, 8 * 65536 + 24, 1, 2), (2, 0x13, 255 * 8, 2, 255)),
         ):
             given = {"password": b"password", "salt": b"somesalt"}
-            made = self.same(lambda it: tag_from(32, costs, it), given)
-            self.assertEqual(made[0], N.OK, costs)
+            made = self.same(lambda data: tag_from(32, costs, data), given)
+            self.assertEqual(made[0], RIGZUMAL.OK, costs)

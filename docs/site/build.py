@@ -17,7 +17,7 @@ import sys
 
 HERE = pathlib.Path(__file__).resolve().parent
 TOP = HERE.parent.parent
-sys.path[:0] = [str(HERE), str(TOP / "tools")]
+sys.path = [str(HERE), str(TOP / "tools"), *sys.path]
 import clauses  # noqa: E402
 import header  # noqa: E402
 import pages  # noqa: E402
@@ -54,9 +54,14 @@ def staged(page):
     text = page.read_text()
     if page == promises.PAGE:
         text = clauses.linked(text)
+
+    def of_site(found):
+        before, target, after = found.groups()
+        return before + link(page, target) + after
+
     parts = CODE.split(text)
-    for at in range(0, len(parts), 2):
-        parts[at] = LINK.sub(lambda it: it[1] + link(page, it[2]) + it[3], parts[at])
+    for at in range(0, len(parts), 2):  # outside code
+        parts[at] = LINK.sub(of_site, parts[at])
     return "".join(parts)
 
 

@@ -81,4 +81,4 @@ def linked(text):
     text = HELD.sub(held, text)
     text = CALL.sub(call, text)
     text = CARRIED.sub(carried, text)
-    return LEFT.sub(lambda it: link(it[0], TOP / it[2]), text)
+    return LEFT.sub(lambda found: link(found[0], TOP / found[2]), text)

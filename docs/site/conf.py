@@ -5,7 +5,7 @@ import sys
 
 HERE = pathlib.Path(__file__).resolve().parent
 TOP = HERE.parent.parent
-sys.path[:0] = [str(HERE), str(TOP / "python")]
+sys.path = [str(HERE), str(TOP / "python"), *sys.path]
 
 project = html_title = "Rigzumal"
 version = release = (TOP / "VERSION").read_text().strip()

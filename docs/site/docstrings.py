@@ -14,7 +14,8 @@ def samples(_, kind, name, thing, options, lines):
         if line:
             is_before = not is_set_in and not line.endswith(":")
         found.append(line)
-    lines[:] = found
+    lines.clear()  # Sphinx reads the same list afterwards
+    lines.extend(found)
 
 
 def colons(app, doctree):

@@ -13,7 +13,7 @@ MARK = re.compile("|".join(map(re.escape, MARKS)))
 
 
 def plain(text):
-    return MARK.sub(lambda it: MARKS[it[0]], text)
+    return MARK.sub(lambda found: MARKS[found[0]], text)
 
 
 def inline(text):

@@ -68,7 +68,13 @@ class MovingTest(Case):
         rest = "1000:1000::/home/x::"
         moves = [f"a{it}:{{{it}}}$argon2x:{rest}" for it in ("ARGON2ID", "argon2i", "Argon2")]
         moves += [f"ann:{{ARGON2ID}}$argon2x:{rest}x=nologins", "bare:{ARGON2ID}$argon2x"]
-        shut = "nologin nologin=y noauthenticate allow_nets=10.0.0.0/8 allow_real_nets=::1".split()
+        shut = [
+            "nologin",
+            "nologin=y",
+            "noauthenticate",
+            "allow_nets=10.0.0.0/8",
+            "allow_real_nets=::1",
+        ]
         shut += [f"y=1 {it}" for it in shut]
         out = [f"x:{{ARGON2ID}}$argon2x:{rest}{it}" for it in shut]
         out += [f"#x:{{ARGON2ID}}$argon2x:{rest}", f"x:!{{ARGON2ID}}$argon2x:{rest}"]

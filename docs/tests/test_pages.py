@@ -16,7 +16,7 @@ import sys
 import unittest
 
 HERE = pathlib.Path(__file__).resolve().parent
-sys.path[:0] = [str(HERE), str(HERE.parent.parent)]
+sys.path = [str(HERE), str(HERE.parent.parent), *sys.path]
 
 import services  # noqa: E402
 from tests.helpers import LIBRARIES, PYTHON, TOP, Case  # noqa: E402

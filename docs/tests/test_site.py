@@ -14,7 +14,7 @@ sys.path.insert(0, str(TOP))
 from tests.helpers import LIBRARIES, Case, need_module, run  # noqa: E402
 from tests.needs import need_file  # noqa: E402
 
-sys.path[:0] = [str(TOP / "docs/site"), str(TOP / "tools"), str(TOP / "python")]
+sys.path = [str(TOP / "docs/site"), str(TOP / "tools"), str(TOP / "python"), *sys.path]
 import build  # noqa: E402
 
 need_module("sphinx", "myst_parser")

@@ -89,7 +89,7 @@ def _verify(given: argparse.Namespace) -> int:
         print("yes")
         return Status.DONE
     print("no")
-    said = hint(password, lambda it: _library.check(record, it) == _library.OK)
+    said = hint(password, lambda password: _library.check(record, password) == _library.OK)
     if said:
         say(said)
     return Status.NO

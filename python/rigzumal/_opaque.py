@@ -5,7 +5,12 @@ from __future__ import annotations
 from rigzumal._hidden import hidden
 
 # The categories of RFC 8264's FreeformClass, section 4.3: what a person may type.
-_ALLOWED = frozenset("Ll Lu Lo Nd Lm Mn Mc Lt Nl No Me Sm Sc Sk So Pc Pd Ps Pe Pi Pf Po Zs".split())
+_LETTER_DIGITS = ("Ll", "Lu", "Lo", "Nd", "Lm", "Mn", "Mc")
+_OTHER_LETTER_DIGITS = ("Lt", "Nl", "No", "Me")
+_SYMBOLS = ("Sm", "Sc", "Sk", "So")
+_PUNCTUATION = ("Pc", "Pd", "Ps", "Pe", "Pi", "Pf", "Po")
+_SPACES = ("Zs",)
+_ALLOWED = frozenset(_LETTER_DIGITS + _OTHER_LETTER_DIGITS + _SYMBOLS + _PUNCTUATION + _SPACES)
 
 # Default_Ignorable_Code_Point in these categories, a property that unicodedata lacks; conjoining
 # Hangul (sections 9.9 and 9.13); the exceptions of RFC 5892, section 2.6.

@@ -43,7 +43,10 @@ FIELDS = [
     (f"load a {RECORD[:-1]}5", "bad 7 tag"),
     (f"load a {'x' * 513}", "bad 9 toolong"),
     (f"load a {RECORD.replace('t=2', f't={2**32 - 1}')}", "ok"),
-    *((f"commit {it}", "bad 12 key") for it in ("", *"0 65 00 01 064 +1 -1 1x x 257".split())),
+    *(
+        (f"commit {it}", "bad 12 key")
+        for it in ("", "0", "65", "00", "01", "064", "+1", "-1", "1x", "x", "257")
+    ),
     *((f"commit {it}", "bad 15 idle") for it in (1, 64)),
     *(
         (f"begin 1 verify a {it}", "bad 13 password")
@@ -134,7 +137,8 @@ class RunsTest(unittest.TestCase):
     def test_manual(self) -> None:
         """credbook(1) has each command and each option of the help, and no other."""
         commands = ("run", "hash", "check")
-        helped = "".join(credbook(*it, "--help").faults for it in ([], *([it] for it in commands)))
+        helped = credbook("--help").faults
+        helped += "".join(credbook(command, "--help").faults for command in commands)
         page = manual("credbook.1")
         self.assertEqual(options_in(helped) - {"--help", "--version"}, options_in(page))
         listed = helped.split("Commands:\n")[1].split("\n\n")[0]

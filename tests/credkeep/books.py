@@ -206,12 +206,13 @@ class Service(contextlib.AbstractContextManager["Service"]):
 
 def contents(folder: pathlib.Path) -> dict[str, bytes | None]:
     """The contents of a folder's files; a file's log without a change counts as none."""
-    logs = {f"{it.name}-wal" for it in folder.iterdir()}
-    return {
-        file.name: file.read_bytes() if file.is_file() else None
-        for file in folder.iterdir()
-        if not (file.name in logs and file.stat().st_size <= EMPTY_LOG)
-    }
+    logs = {f"{file.name}-wal" for file in folder.iterdir()}
+    found = dict[str, bytes | None]()
+    for file in folder.iterdir():
+        if file.name in logs and file.stat().st_size <= EMPTY_LOG:
+            continue
+        found[file.name] = file.read_bytes() if file.is_file() else None
+    return found
 
 
 def rows(path: pathlib.Path, text: str) -> list[Any]:

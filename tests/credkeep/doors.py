@@ -83,5 +83,10 @@ DOORS: dict[str, Door] = {
 
 def perform(test: unittest.TestCase, book: Book, door: Door, rows: Iterable[Row]) -> None:
     """Performs each operation at a door, or at the service if the door lacks it."""
-    for is_there, group in itertools.groupby(rows, lambda it: it[0].split()[0] in door.verbs):
-        (door if is_there else DOORS["serve --tagged"]).perform(test, book, [*group])
+
+    def is_there(row: Row) -> bool:
+        return row[0].split()[0] in door.verbs
+
+    for has_them, group in itertools.groupby(rows, is_there):
+        chosen = door if has_them else DOORS["serve --tagged"]
+        chosen.perform(test, book, [*group])

@@ -39,9 +39,13 @@ class Line:
         # What it makes; the salt of a login is drawn.
         made_of = new if self.verb == "change" else self.password
         self.made = Stored(made_of, costs, None if self.verb == "login" else f"{number:012}")
-        words = [self.verb, self.name, *([] if self.verb == "disable" else [self.password])]
-        words += [new] * (self.verb == "change")
-        words += [f"{costs}${number:012}"] * (self.verb in ("enrol", "change", "upgrade", "reset"))
+        words = [self.verb, self.name]
+        if self.verb != "disable":
+            words.append(self.password)
+        if self.verb == "change":
+            words.append(new)
+        if self.verb in ("enrol", "change", "upgrade", "reset"):
+            words.append(f"{costs}${number:012}")
         self.text = f"{tag} {Operation.of(' '.join(words)).line()}"
 
     def done(self, stored: Stored | None) -> tuple[str, Stored | None]:
@@ -57,8 +61,10 @@ class Line:
         is_right, is_new = stored.password == self.password, stored.costs != self.made.costs
         if self.verb == "verify":
             return "yes" if is_right else "no", stored
+        if self.verb == "login" and not is_right:
+            return "no", stored
         if self.verb == "login":
-            return "yes" if is_right else "no", self.made if is_right and is_new else stored
+            return "yes", self.made if is_new else stored
         if not is_right:
             return "wrong", stored
         if self.verb == "upgrade":

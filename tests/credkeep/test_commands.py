@@ -1,6 +1,7 @@
 """Commands on an account: their input, the records that they write, and their output."""
 
 import base64
+import itertools
 import json
 import pathlib
 
@@ -21,6 +22,7 @@ HINT = f"credkeep: hint: the password that was read {COUNTS}"
 NEW_HINT = f"credkeep: hint: the new password {COUNTS}"
 MAKING = ("add", "change", "reset")
 READING = ("add", "check", "change", "reset", "upgrade", "remove")
+READING_ONE_LINE = [command for command in READING if command != "change"]
 
 # Commands one after another with their inputs and ends. The book has ann, whose password is first,
 # and bob, whose password is that with a carriage return.
@@ -31,10 +33,8 @@ PASSWORDS = [
     # Nothing may stand behind it, or behind the second one of change.
     *(
         (f"{command} {name}", given, TWO_LINES)
-        for command in READING
-        for name in ("ann", "zoe")
+        for command, name in itertools.product(READING_ONE_LINE, ("ann", "zoe"))
         for given in ("first\nmore\n", "first\nmore", "first\n\n", "\nfirst", "\n" * 9000)
-        if command != "change"
     ),
     *(("change ann", given, THREE_LINES) for given in ("first\nx\ny\n", "first\nx\ny", "\n\n\n")),
     # Where the input has none, or no second one, nothing is changed.

@@ -2,6 +2,7 @@
 
 import itertools
 import json
+from collections.abc import Iterable
 
 from tests.credkeep.books import OTHER, RECORD, SALT, SCRYPT, TAG, Accounts, fails, imported
 from tests.credkeep.books import lined, lines_of
@@ -165,6 +166,13 @@ IMPORTS: list[tuple[str, str, tuple[int, ...] | None, dict[int, str], Accounts]]
 ]
 
 
+EXCLUDE_EACH_OTHER = ({"--update", "--skip-existing"}, {"--disable-locked", "--keep-locked"})
+
+
+def may_be_given(options: Iterable[str]) -> bool:
+    return not any(both <= {*options} for both in EXCLUDE_EACH_OTHER)
+
+
 class OptionsTest(ImportTest):
     def test_imports(self) -> None:
         for options, lines, counts, named, changed in IMPORTS:
@@ -208,9 +216,9 @@ class OptionsTest(ImportTest):
         before, good = {"ann": RECORD, "bob": ""}, f"ann:\nbob:{RECORD}\ncat:\n"
         bad = f"ann:{OTHER}\n\nbad\ncat:{RECORD}\ncat:\ndan:!x\n# end\n"
         choices = ("--skip-bad", "--disable-locked", "--keep-locked", "--update", "--skip-existing")
-        every = [it for count in range(4) for it in itertools.combinations(choices, count)]
-        exclude = ({"--update", "--skip-existing"}, {"--disable-locked", "--keep-locked"})
-        every = [it for it in every if not any(both <= {*it} for both in exclude)]
+        every = []
+        for count in range(4):
+            every += [it for it in itertools.combinations(choices, count) if may_be_given(it)]
         for given, options in itertools.product((good, bad), every):
             with self.subTest(given=given, options=options):
                 book = self.begun(before)

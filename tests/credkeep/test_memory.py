@@ -38,7 +38,10 @@ class MemoryTest(BookTest):
         if os.getuid() == 0 and shutil.which("gcore"):
             subprocess.run(["gcore", "-o", core, str(pid)], check=True, capture_output=True)
             parts.append(pathlib.Path(f"{core}.{pid}").read_bytes())
-        return [it for it in words if any(it in part for part in parts)]
+        left = set[bytes]()
+        for part in parts:
+            left |= {word for word in words if word in part}
+        return [word for word in words if word in left]
 
     def stop_with(self, service: Service, words: list[bytes]) -> None:
         """Stops a service once its memory has these words. It is killed if it never has."""

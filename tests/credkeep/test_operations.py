@@ -97,7 +97,9 @@ class OperationsTest(BookTest):
             with self.subTest(words=words):
                 book = self.begun({"ann": "", "bob": ""})
                 Tagged().perform(self, book, [(f"enrol ann one {ABOVE}", "enrolled")])
-                rows = [(line, without if is_high else bound) for line, bound, without in table]
+                rows = []
+                for line, with_bound, without in table:
+                    rows.append((line, without if is_high else with_bound))
                 Tagged(*words).perform(self, book, rows)
                 self.assertSound(book)
 

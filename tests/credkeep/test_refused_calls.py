@@ -21,17 +21,38 @@ from tests.helpers import Ended, Found, Stop, each, ended, need, need_native
 
 # The calls that change files or make changes last, and those between them. strace counts each by
 # itself.
-CHANGES = (
-    "write pwrite64 copy_file_range sendfile ftruncate fsync fdatasync fchmod fchown rename "
-    "renameat renameat2 unlink unlinkat"
-).split()
-CALLS = CHANGES + "openat newfstatat fstat readlink read pread64 fcntl clock_nanosleep".split()
-WRITES = "pwrite64 write fsync fdatasync ftruncate".split()
+CHANGES = [
+    "write",
+    "pwrite64",
+    "copy_file_range",
+    "sendfile",
+    "ftruncate",
+    "fsync",
+    "fdatasync",
+    "fchmod",
+    "fchown",
+    "rename",
+    "renameat",
+    "renameat2",
+    "unlink",
+    "unlinkat",
+]
+CALLS = CHANGES + [
+    "openat",
+    "newfstatat",
+    "fstat",
+    "readlink",
+    "read",
+    "pread64",
+    "fcntl",
+    "clock_nanosleep",
+]
+WRITES = ["pwrite64", "write", "fsync", "fdatasync", "ftruncate"]
 # How a run is refused or killed, and at which calls.
 WAYS = [("error=EIO", CHANGES), ("error=ENOSPC", CHANGES), ("signal=KILL", CALLS)]
 
 MANY = {f"n{at:03}": RECORD for at in range(200)}
-HALF = {name: OTHER for name in [*MANY][::2]}
+HALF = {name: OTHER for at, name in enumerate(MANY) if at % 2 == 0}
 RESET = ["reset", "ann", "--setting", SETTING]
 # Changes, and what their texts call them.
 COMMANDS = [

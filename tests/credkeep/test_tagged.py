@@ -135,12 +135,13 @@ class HashesTest(BookTest):
         with self.begun({"ann": records[1]}).tagged("--at-once", "1") as service:
             service.send("v verify ann -\n")
             for turn in range(changes):
-                said = [service.ask(f"c load ann {records[turn % 2]}")]
+                said, ought = [service.ask(f"c load ann {records[turn % 2]}")], ["c ok"]
                 if turn + 1 < changes:  # hashed behind the line, which is hashed again behind it
                     said.append(service.ask("m verify nobody -"))
+                    ought.append("m noaccount")
                 if "v no" in said:
                     return ""
-                self.assertEqual(said, ["c ok", "m noaccount"][: len(said)])
+                self.assertEqual(said, ought)
             answer = service.answer()
             self.assertEqual(service.end(), DONE)
             return answer
@@ -192,13 +193,13 @@ class TurnsTest(BookTest):
         """A thousand accounts ask again and again, and each is let in, in its turn: its answer
         comes within a round of where its line did. Some have records that take all memory."""
         cheap, costly = (self.record_of(memory) for memory in (8, 1024))
-        self.begun({it: costly if it.endswith("7") else cheap for it in ACCOUNTS})
-        lines = [f"verify {it} {ONE}" for _ in range(4) for it in ACCOUNTS]
+        self.begun({name: costly if name.endswith("7") else cheap for name in ACCOUNTS})
+        lines = [f"verify {name} {ONE}" for name in ACCOUNTS] * 4
         with self.book.tagged("--at-once", "4", "--memory", "1M") as service:
             done = service.end(lined(f"t{at} {line}" for at, line in enumerate(lines)))
         self.assertEqual((done.status, done.faults), (0, ""))
-        told = [re.fullmatch(r"t(\d+) yes", it) for it in done.written.splitlines()]
-        came = [int(it[1]) if it else -1 for it in told]
+        told = [re.fullmatch(r"t(\d+) yes", line) for line in done.written.splitlines()]
+        came = [int(found[1]) if found else -1 for found in told]
         self.assertEqual(sorted(came), [*range(len(lines))])
         late = max(abs(place - at) for place, at in enumerate(came))
         self.assertLess(late, len(ACCOUNTS))
@@ -261,9 +262,8 @@ class GroupsTest(BookTest):
         with self.book.tagged(**small_files(100_000)) as service:
             for turn in range(1000):
                 service.send(self.lines(turn))
-                done = self.assertAnswered(
-                    turn, [answer for _ in MEMBERS if (answer := service.answer())]
-                )
+                answers = [service.answer() for _ in MEMBERS]
+                done = self.assertAnswered(turn, [answer for answer in answers if answer])
                 standing = standing - done if turn % 2 else standing | done
                 if len(done) < len(MEMBERS):
                     break

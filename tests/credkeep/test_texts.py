@@ -138,11 +138,11 @@ REFUSED = [
         for size in NO_SIZES
     ),
     (
-        "import --update --skip-existing".split(),
+        ["import", "--update", "--skip-existing"],
         "credkeep: --skip-existing and --update exclude each other: .*",
     ),
     (
-        "import --keep-locked --disable-locked".split(),
+        ["import", "--keep-locked", "--disable-locked"],
         "credkeep: --disable-locked and --keep-locked exclude each other: .*",
     ),
     *(

@@ -159,7 +159,8 @@ CHANGING = {
 BEFORE = [f"before{at}" for at in range(70)]
 SLOW = f"$argon2id$v=19$m=65536,t=10,p=1${SALT}${TAG}"
 # Accounts for lines behind the try, and for lines that come once these are hashed.
-BEHIND, LATE = ([f"{word}{at}" for at in range(8)] for word in ("behind", "late"))
+BEHIND = [f"behind{at}" for at in range(8)]
+LATE = [f"late{at}" for at in range(8)]
 # Lines of an administrator, each of which needs no hash.
 WITHOUT_HASH = [
     "lock ann",

@@ -8,7 +8,7 @@ from tests import helpers
 from tests.helpers import TOP, each, need, run
 from tests.needs import need_file
 
-sys.path[:0] = [str(TOP / "tools"), str(TOP / "packaging")]
+sys.path = [str(TOP / "tools"), str(TOP / "packaging"), *sys.path]
 import components  # noqa: E402
 import tree  # noqa: E402
 
@@ -46,6 +46,6 @@ class Components(helpers.Case):
         """Each name is there once, in order, and each notice names what the crate is after."""
         names = [it["name"] for it in components.KNOWN["crates"]]
         self.assertEqual(names, sorted({*names}))
-        for it in components.KNOWN["crates"]:
-            with self.subTest(name=it["name"]):
-                self.assertEqual(it["after"] is None, it["licence"] == components.NOBODY)
+        for crate in components.KNOWN["crates"]:
+            with self.subTest(name=crate["name"]):
+                self.assertEqual(crate["after"] is None, crate["licence"] == components.NOBODY)

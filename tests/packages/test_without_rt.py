@@ -69,13 +69,9 @@ class WithoutRt(helpers.Case):
         need("make", "gcc")
         self.top, self.home = copy(self.room() / "a copy"), self.room()
         self.env = {"PATH": PATH, "HOME": str(self.home), "LANG": "C.UTF-8"}
-        # root's own commands run as nobody
-        self.user = (
-            []
-            if os.getuid()
-            else ["setpriv", "--reuid=nobody", "--regid=nogroup", "--clear-groups"]
-        )
-        if self.user:
+        self.user = []
+        if os.getuid() == 0:  # root's own commands run as nobody
+            self.user = ["setpriv", "--reuid=nobody", "--regid=nogroup", "--clear-groups"]
             run("chown", "-R", "nobody:nogroup", self.top.parent, self.home)
 
     def as_user(self, *words, status=0, at=None, **env):
@@ -228,5 +224,5 @@ class WithoutRt(helpers.Case):
         self.as_user(
             "sh", "-c", f"umask 077; make -C '{self.top}/python' install PREFIX={self.home}/p"
         )
-        for it in (self.home / "p").rglob("*"):
-            self.assertTrue(it.stat().st_mode & stat.S_IROTH, it)
+        for path in (self.home / "p").rglob("*"):
+            self.assertTrue(path.stat().st_mode & stat.S_IROTH, path)

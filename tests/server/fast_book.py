@@ -42,17 +42,44 @@ import sys
 import threading
 import time
 from concurrent.futures import ThreadPoolExecutor
-from typing import Optional
+from typing import NamedTuple, Optional
 
 NAME = re.compile(r"[a-z0-9._-]{1,32}")
 COSTS = "$fast$c=1"
 LOCKED, MUST_CHANGE = "!", "~"  # before the record of an account
-# How many fields operations have, how many of them are passwords, and whether a setting may follow.
-SHAPES = {"account show disable delete lock unlock expire forgive": (1, 0, False)}
-SHAPES |= {"load rename list marks": (2, 0, False)}
-SHAPES |= {"verify login remove": (2, 1, False), "enrol reset upgrade": (2, 1, True)}
-SHAPES |= {"change": (3, 2, True)}
-SHAPE_OF = {word: it for words, it in SHAPES.items() for word in words.split()}
+
+
+class Shape(NamedTuple):
+    """The fields of an operation."""
+
+    fields: int
+    passwords: int  # of the fields
+    may_set: bool = False  # whether a setting may follow
+
+
+NAME_ALONE, TWO_FIELDS = Shape(1, 0), Shape(2, 0)
+TRY, NEW_RECORD = Shape(2, 1), Shape(2, 1, may_set=True)
+SHAPE_OF = {
+    "account": NAME_ALONE,
+    "show": NAME_ALONE,
+    "disable": NAME_ALONE,
+    "delete": NAME_ALONE,
+    "lock": NAME_ALONE,
+    "unlock": NAME_ALONE,
+    "expire": NAME_ALONE,
+    "forgive": NAME_ALONE,
+    "load": TWO_FIELDS,
+    "rename": TWO_FIELDS,
+    "list": TWO_FIELDS,
+    "marks": TWO_FIELDS,
+    "verify": TRY,
+    "login": TRY,
+    "remove": TRY,
+    "enrol": NEW_RECORD,
+    "reset": NEW_RECORD,
+    "upgrade": NEW_RECORD,
+    "change": Shape(3, 2, may_set=True),
+}
 TRIES = ("verify", "login", "change", "upgrade", "remove")
 QUICK = ("show", "account", "list", "marks", "lock", "unlock", "expire", "forgive")
 DAY, LONGEST_WAIT = 86400, 900  # seconds
@@ -172,7 +199,8 @@ class Accounts:
         rows = sorted(it for it in self.rows.items() if it[0] >= first)
         if operation == "list":
             return " ".join(["names", *(name for name, _ in rows[: int(count)])])
-        marked = [f"{name}:{marks}" for name, row in rows if (marks := marks_of(row))]
+        marks = {name: marks_of(row) for name, row in rows}
+        marked = [f"{name}:{found}" for name, found in marks.items() if found]
         return " ".join(["marks", *marked[: int(count)]])
 
     def done(self, operation: str, fields: list[str], plain: list[bytes], setting: str) -> str:
@@ -282,7 +310,10 @@ def write(operation: str, tag: str, said: str) -> None:
     for word in FAULTS.keys() & {"dies", "killed"}:
         if written >= int(FAULTS[word]):
             os.write(1, f"{tag} {said}".encode())
-            os.kill(os.getpid(), signal.SIGKILL) if word == "killed" else os._exit(5)
+            if word == "killed":
+                os.kill(os.getpid(), signal.SIGKILL)
+            else:
+                os._exit(5)
     if written == int(FAULTS.get("kills", "-1")):
         os.kill(os.getppid(), signal.SIGKILL)
         os._exit(5)
@@ -337,4 +368,5 @@ if __name__ == "__main__":
         fast_files = importlib.import_module("fast_files")
         sys.exit(fast_files.main(sys.argv[1:], FAULTS.get("import", "")))
     at = sys.argv.index("serve")
-    serve(sys.argv[at - 1], dict(zip(sys.argv[at + 2 :: 2], sys.argv[at + 3 :: 2])))
+    path, _serve, _tagged, *words = sys.argv[at - 1 :]
+    serve(path, dict(zip(words[::2], words[1::2])))

@@ -8,11 +8,13 @@ import shutil
 import signal
 import sys
 import time
+from collections import Counter
 
 NAME = re.compile("[a-z0-9._-]{1,32}")
 MARKED = re.compile(r"(!?~?)(\$.*)?")
 BOUNDS = ("--most-memory", "--most-work")  # of a line's record: it keeps none of them
 STATUS_OF_LINES, STATUS_OF_DATABASE = 6, 5
+ENDS = ("added", "updated", "there already", "bad")  # of a line, in the order of the counts
 
 
 def rows_of(path: str) -> dict[str, str]:
@@ -50,23 +52,23 @@ def import_lines(path: str, options: list[str], fault: str) -> int:
         time.sleep(0.01)
     with open(path, "a+b", buffering=0) as file:
         fcntl.flock(file, fcntl.LOCK_EX)
-        rows, taken, counts = rows_of(path), "", [0, 0, 0, 0]
+        rows, taken, counts = rows_of(path), "", Counter[str]()
         for number, line in enumerate(lines, 1):
             if not line or line.startswith(b"#"):
                 continue
             name, row, why = why_bad(line, options, rows)
             if why:
                 print(f"credkeep: line {number}: it is bad ({why})", file=sys.stderr)
-                counts[3] += 1
+                counts["bad"] += 1
             elif name in rows and "--update" not in options:
-                counts[2] += 1
+                counts["there already"] += 1
             else:
-                counts[name in rows] += 1
+                counts["updated" if name in rows else "added"] += 1
                 if rows.get(name, "").startswith("!") and not row.startswith("!"):
                     row = f"!{row}"  # an import ends no lock
                 taken += f"{name} {row}\n"
                 rows[name] = row
-        if counts[3] and "--skip-bad" not in options:
+        if counts["bad"] and "--skip-bad" not in options:
             return STATUS_OF_LINES
         if fault == "full":
             print("credkeep: the database failed: database or disk is full", file=sys.stderr)
@@ -75,7 +77,7 @@ def import_lines(path: str, options: list[str], fault: str) -> int:
             os.kill(os.getpid(), signal.SIGKILL)
         if "--dry-run" not in options:
             file.write(taken.encode())
-    print("{} added, {} updated, {} there already, {} bad".format(*counts))
+    print(", ".join(f"{counts[end]} {end}" for end in ENDS))
     return 0
 
 

@@ -26,12 +26,12 @@ def run(*words, typed=""):
 
 
 def ask(name, *lines):
-    with socket.socket(socket.AF_UNIX) as it:
-        it.settimeout(60)
-        it.connect(f"/run/rigzumal/users/{name}.sock")
+    with socket.socket(socket.AF_UNIX) as client:
+        client.settimeout(60)
+        client.connect(f"/run/rigzumal/users/{name}.sock")
         for line in lines:
-            it.sendall(b"1 " + line.encode() + b"\n")
-            print(name, line.split()[0], it.recv(200).decode().strip(), flush=True)
+            client.sendall(b"1 " + line.encode() + b"\n")
+            print(name, line.split()[0], client.recv(200).decode().strip(), flush=True)
 
 
 def typed(path, *answers):

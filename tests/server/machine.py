@@ -41,7 +41,8 @@ def install(*paths: str) -> None:
 def commands_on_page(word: str) -> list[str]:
     """The lines of shell on the page that begin with a word."""
     blocks = re.findall(r"```sh\n(.*?)```", PAGE.read_text(), re.S)
-    return [line for block in blocks for line in block.splitlines() if line.startswith(word)]
+    lines = "\n".join(blocks).splitlines()
+    return [line for line in lines if line.startswith(word)]
 
 
 def shell(line: str, status: int = 0) -> str:
@@ -77,8 +78,8 @@ def prepared(room: pathlib.Path) -> None:
         added["passwd"] += f"{name}:x:{number}:4711::/tmp:/bin/sh\n"
         added["shadow"] += f"{name}:{crypted}:19000:0:99999:7:::\n"
     for file, lines in added.items():
-        with open(f"/etc/{file}", "a") as it:
-            it.write(lines)
+        with open(f"/etc/{file}", "a") as appended:
+            appended.write(lines)
     RUN.mkdir(parents=True)
     os.chmod(RUN, 0o755)
 
@@ -98,8 +99,8 @@ def started(room: pathlib.Path, *options: str) -> Service:
 
 
 def is_open(port: int) -> bool:
-    with socket.socket() as it:
-        return it.connect_ex(("127.0.0.1", port)) == 0
+    with socket.socket() as client:
+        return client.connect_ex(("127.0.0.1", port)) == 0
 
 
 def pamtester(service: str, user: str, tasks: str, typed: str, status: int, text: str) -> None:

@@ -113,8 +113,8 @@ def ran(*words: str) -> helpers.Ended:
 
 
 def is_listening(path: pathlib.Path) -> bool:
-    with socket.socket(socket.AF_UNIX) as it:
-        return it.connect_ex(str(path)) == 0
+    with socket.socket(socket.AF_UNIX) as client:
+        return client.connect_ex(str(path)) == 0
 
 
 def as_user(uid: int, gid: int, path: pathlib.Path, *lines: str) -> str:
@@ -266,9 +266,10 @@ class Service:
     def talk(self, table: str) -> None:
         """Asks the lines of a table as Client.talk, with the socket before each line."""
         with Client(self.path("login")) as login, Client(self.path("admin")) as admin:
+            clients = {"login": login, "admin": admin}
             for row in table.strip().splitlines():
                 door, _, rest = row.lstrip().partition(" ")
-                {"login": login, "admin": admin}[door].talk(rest)
+                clients[door].talk(rest)
 
     def log(self) -> str:
         return (self.folder / "log").read_text()

@@ -47,5 +47,8 @@ class Aging(Case):
         for text, (name, fields) in zip(said, words.items()):
             line = aging.Line(b"$6$x$y", tuple(it.encode() for it in fields))
             is_shut, must_change = line.why_shut(day), line.must_change(day)
-            ours = "shut" if is_shut else "change" if must_change else "open"
+            if is_shut:
+                ours = "shut"
+            else:
+                ours = "change" if must_change else "open"
             self.assertEqual(ours, SAYS[text], fields)

@@ -108,8 +108,11 @@ class CredkeepAsk(Case):
         passes them on by a pipe."""
         shown = self.asked(f"users.db|{operation}|ada", typed, account)
         self.assertEqual((shown.status, shown.echoes), (7, [*[False] * len(typed), True]))
-        prompts = b"Password: |\r\n" * (typed[0] in ONE)
-        prompts += b"New password: |\r\nThe same again: |\r\n" * (typed[-1] in TWO)
+        prompts = b""
+        if typed[0] in ONE:
+            prompts += b"Password: |\r\n"
+        if typed[-1] in TWO:
+            prompts += b"New password: |\r\nThe same again: |\r\n"
         self.assertEqual(shown.text, prompts + b"it was asked\r\n")
         self.assertEqual(self.noted("words"), f"{SHOW}\nusers.db|{operation}|ada|\n")
         self.assertEqual(self.noted("given"), given)

@@ -241,6 +241,6 @@ class AskServer(Case):
     def test_a_server_that_ends(self, said: bytes) -> None:
         """After a lost answer the error says what the administrator has to do."""
         path = self.room() / "odd"
-        with Peer(path, lambda _, it: it.sendall(said)):
+        with Peer(path, lambda _, client: client.sendall(said)):
             shown, status = self.asked([str(path), "delete", "ada"])
         self.assertEqual((status, "may or may not be stored" in shown), (5, True))

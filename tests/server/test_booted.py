@@ -191,8 +191,9 @@ class Booted(Case):
         (room / "logins.py").write_text(LOGINS)
         (line,) = commands_on_page("credkeep-ask --server add")
         (room / "add.sh").write_text(f"{line}\n")
-        lines = [*commands_on_page("systemctl stop"), *commands_on_page("systemctl start")]
-        lines[1:1] = [it for it in commands_on_page("runuser") if " restore " in it]
+        stop, *others = [*commands_on_page("systemctl stop"), *commands_on_page("systemctl start")]
+        restoring = [line for line in commands_on_page("runuser") if " restore " in line]
+        lines = [stop, *restoring, *others]
         (room / "restore.sh").write_text("set -e\n" + "\n".join(lines) + "\n")
         said = booted(room, "/usr/bin/python3 /inside.py")
         lines = iter(it.strip() for it in said.splitlines())

@@ -32,17 +32,18 @@ class HostileFields(ClientCase):
     def logins(self) -> Iterator[tuple[str, tuple[Any, ...]]]:
         """The calls of a login with each hostile field, and the reply to each; behind each a login
         that is right."""
-        R, right = self.server.Reply, (self.server.Reply.YES, "verify", "ada", "secret")
+        Reply = self.server.Reply
+        right = (Reply.YES, "verify", "ada", "secret")
         for what, field in NAMES.items():
             name = hostile_fields.text_of(field)
-            yield f"name: {what}", (R.NO, "verify", name, "secret")
-            yield f"name: {what}", (R.NO_ACCOUNT, "known", name)
-            yield f"name: {what}", (R.NO_ACCOUNT, "change", name, "secret", "hacked")
+            yield f"name: {what}", (Reply.NO, "verify", name, "secret")
+            yield f"name: {what}", (Reply.NO_ACCOUNT, "known", name)
+            yield f"name: {what}", (Reply.NO_ACCOUNT, "change", name, "secret", "hacked")
             yield f"after the name: {what}", right
         for what, field in PASSWORDS.items():
             for password in (field, hostile_fields.text_of(field)):
-                yield f"password: {what}", (R.NO, "verify", "ada", password)
-                yield f"password: {what}", (R.WRONG, "change", "ada", password, "hacked")
+                yield f"password: {what}", (Reply.NO, "verify", "ada", password)
+                yield f"password: {what}", (Reply.WRONG, "change", "ada", password, "hacked")
                 yield f"after the password: {what}", right
 
     def test_hostile_fields(self) -> None:
@@ -88,33 +89,33 @@ class HostileFields(ClientCase):
     def test_hostile_new_passwords(self) -> None:
         """A new password is any of up to 256 bytes, and is the one that was sent; a longer one, and
         text that has no UTF-8, are a ValueError, and the old one stays."""
-        R, service = self.server.Reply, self.serving("--tries", "0").enrol(ada="secret")
+        Reply, service = self.server.Reply, self.serving("--tries", "0").enrol(ada="secret")
         for call in self.calls(service.path("admin")):
             for what, field in PASSWORDS.items():
                 for password in (field, hostile_fields.text_of(field)):
                     with self.subTest(what, kind=type(password)):
-                        self.assertIs(call("reset", "ada", "secret"), R.REPLACED)
+                        self.assertIs(call("reset", "ada", "secret"), Reply.REPLACED)
                         if len(field) > 256 or "\udcff" in str(password):
                             self.assertRaises(ValueError, call, "reset", "ada", password)
-                            self.assertIs(call("verify", "ada", "secret"), R.YES)
+                            self.assertIs(call("verify", "ada", "secret"), Reply.YES)
                         else:
-                            self.assertIs(call("reset", "ada", password), R.REPLACED)
-                            self.assertIs(call("verify", "ada", field), R.YES)
-                            self.assertIs(call("verify", "ada", "secret"), R.NO)
+                            self.assertIs(call("reset", "ada", password), Reply.REPLACED)
+                            self.assertIs(call("verify", "ada", field), Reply.YES)
+                            self.assertIs(call("verify", "ada", "secret"), Reply.NO)
 
     def test_long_names_beside_others(self) -> None:
         """Whatever one task asks for, the others that share its connection are answered."""
-        R, service = self.server.Reply, self.serving("--mail-names")
+        Reply, service = self.server.Reply, self.serving("--mail-names")
         service.enrol(ada="secret")
 
         async def used(book: Any) -> None:
             async def honest() -> None:
                 for _ in range(50):
-                    self.assertIs(await book.verify("ada", "secret"), R.YES)
+                    self.assertIs(await book.verify("ada", "secret"), Reply.YES)
 
             async def visitor() -> None:
                 for size in (200, 940, 1000, 5000) * 10:
-                    self.assertIs(await book.verify("x" * size, "y" * 256), R.NO)
+                    self.assertIs(await book.verify("x" * size, "y" * 256), Reply.NO)
 
             await asyncio.gather(*(honest() for _ in range(8)), visitor())
 
@@ -215,7 +216,7 @@ class OtherLanguages(Case):
         service = self.serving("--tries", "2").enrol(ada="secret", bob="")
         logins = [(b"ada", b"secret"), (b"bob", b""), (b"ada", b""), (b"zoe", b"secret")]
         said = self.php_answers(service.path(), *logins, *[(b"ada", b"guess")] * 2, logins[0])
-        self.assertEqual(said, "true true false false false NULL NULL".split())
+        self.assertEqual(said, ["true", "true", "false", "false", "false", "NULL", "NULL"])
         self.assertEqual(self.php_answers("/nonexistent", logins[0]), ["NULL"])
 
     def test_php_hostile_fields(self) -> None:

@@ -21,39 +21,39 @@ from served import LONGEST, SECRET, until
 class Clients(ClientCase):
     def test_all_calls(self) -> None:
         """Each call, for threads and for asyncio, returns the book's answer."""
-        R, odd = self.server.Reply, "p\u00e4ss w\u00f6rd"
+        Reply, odd = self.server.Reply, "p\u00e4ss w\u00f6rd"
         rows: list[tuple[Any, ...]] = [
-            (R.OK, "account", "ada"),
-            (R.ABSENT, "known", "ada"),
-            (R.ABSENT, "verify", "ada", "x"),
-            (R.ENROLLED, "enrol", "ada", "secret"),
-            (R.EXISTS, "enrol", "ada", "secret"),
-            (R.YES, "verify", "ada", b"secret"),
-            (R.NO, "verify", "ada", ""),
-            (R.NO_ACCOUNT, "verify", "zoe", "x"),
-            (R.NO_ACCOUNT, "known", "zoe"),
-            (R.REPLACED, "change", "ada", "secret", odd),
-            (R.WRONG, "change", "ada", "secret", "x"),
-            (R.YES, "verify", "ada", odd),
-            (R.REPLACED, "reset", "ada", b"\xff" * 256),
-            (R.YES, "verify", "ada", b"\xff" * 256),
-            (R.YES, "known", "ada"),
-            (R.LOCKED, "lock", "ada"),
-            (R.NO, "verify", "ada", b"\xff" * 256),
-            (R.UNLOCKED, "unlock", "ada"),
-            (R.NONE, "unlock", "ada"),
-            (R.EXPIRED, "expire", "ada"),
-            (R.EXPIRED, "verify", "ada", b"\xff" * 256),
-            (R.EXPIRED, "known", "ada"),
-            (R.NO_ACCOUNT, "expire", "zoe"),
-            (R.RENAMED, "rename", "ada", "bob"),
+            (Reply.OK, "account", "ada"),
+            (Reply.ABSENT, "known", "ada"),
+            (Reply.ABSENT, "verify", "ada", "x"),
+            (Reply.ENROLLED, "enrol", "ada", "secret"),
+            (Reply.EXISTS, "enrol", "ada", "secret"),
+            (Reply.YES, "verify", "ada", b"secret"),
+            (Reply.NO, "verify", "ada", ""),
+            (Reply.NO_ACCOUNT, "verify", "zoe", "x"),
+            (Reply.NO_ACCOUNT, "known", "zoe"),
+            (Reply.REPLACED, "change", "ada", "secret", odd),
+            (Reply.WRONG, "change", "ada", "secret", "x"),
+            (Reply.YES, "verify", "ada", odd),
+            (Reply.REPLACED, "reset", "ada", b"\xff" * 256),
+            (Reply.YES, "verify", "ada", b"\xff" * 256),
+            (Reply.YES, "known", "ada"),
+            (Reply.LOCKED, "lock", "ada"),
+            (Reply.NO, "verify", "ada", b"\xff" * 256),
+            (Reply.UNLOCKED, "unlock", "ada"),
+            (Reply.NONE, "unlock", "ada"),
+            (Reply.EXPIRED, "expire", "ada"),
+            (Reply.EXPIRED, "verify", "ada", b"\xff" * 256),
+            (Reply.EXPIRED, "known", "ada"),
+            (Reply.NO_ACCOUNT, "expire", "zoe"),
+            (Reply.RENAMED, "rename", "ada", "bob"),
             (["bob"], "names"),
-            (R.OK, "account", "cid"),
+            (Reply.OK, "account", "cid"),
             (["bob"], "names", "-", 1),
             (["cid"], "names", "c"),
-            (R.DELETED, "delete", "cid"),
-            (R.DISABLED, "disable", "bob"),
-            (R.DELETED, "delete", "bob"),
+            (Reply.DELETED, "delete", "cid"),
+            (Reply.DISABLED, "disable", "bob"),
+            (Reply.DELETED, "delete", "bob"),
             ([], "names", "-", 5),
         ]
         path, open_before = self.serving().path("admin"), len(os.listdir("/proc/self/fd"))
@@ -95,7 +95,8 @@ class Clients(ClientCase):
         sent = ["account Ada", f"verify ada {SECRET}"]
         self.assertEqual(sorted(service.asked()[asked:]), sorted(sent * 2), "what isn't sent")
         for path in ("/nonexistent/socket", login):
-            service.stop() if path == login else None
+            if path == login:
+                service.stop()
             for call in self.calls(path):
                 text = f"^{path}: (No such file or directory|Connection refused)$"
                 with self.assertRaisesRegex(self.server.Unavailable, text):
@@ -139,9 +140,9 @@ class Clients(ClientCase):
 
         def take() -> None:
             for said in (b"", b"1 yes\n"):
-                with listener.accept()[0] as it:
-                    it.recv(100 if said else 0)
-                    it.sendall(said)
+                with listener.accept()[0] as accepted:
+                    accepted.recv(100 if said else 0)
+                    accepted.sendall(said)
 
         later = threading.Timer(0.2, take)
         later.start()
@@ -215,9 +216,9 @@ class Clients(ClientCase):
     def test_many_at_once(self) -> None:
         """Tasks share a connection, threads have one each: each call gets its own answer, though
         answers come in any order, and from a book that also writes noise."""
-        R = self.server.Reply
+        Reply = self.server.Reply
         pairs = [(number % 8, number % 3) for number in range(400)]
-        ought = [R.YES if one == two else R.NO for one, two in pairs]
+        ought = [Reply.YES if one == two else Reply.NO for one, two in pairs]
 
         async def used(client: Any) -> None:
             asked = (client.verify(f"user{one}", f"secret{two}") for one, two in pairs)
@@ -229,7 +230,7 @@ class Clients(ClientCase):
             self.run_with(service.path(), used)
             verify = self.server.Client(service.path(), LONGEST).verify
             with concurrent.futures.ThreadPoolExecutor(8) as pool:
-                said = pool.map(lambda it: verify(f"user{it[0]}", f"secret{it[1]}"), pairs)
+                said = pool.map(lambda pair: verify(f"user{pair[0]}", f"secret{pair[1]}"), pairs)
                 self.assertEqual(list(said), ought)
             service.stop()
             self.assertEqual(
@@ -238,16 +239,16 @@ class Clients(ClientCase):
 
     def test_connections_that_end(self) -> None:
         """After the server has closed or restarted, the next call connects anew."""
-        R, service = self.server.Reply, self.serving("--idle", "1")
+        Reply, service = self.server.Reply, self.serving("--idle", "1")
         service.enrol(ada="secret")
 
         def is_closed() -> bool:
             return service.stats()["clients"] == 1  # the one who looks
 
         async def used(client: Any) -> None:
-            self.assertIs(await client.verify("ada", "secret"), R.YES)
+            self.assertIs(await client.verify("ada", "secret"), Reply.YES)
             await asyncio.to_thread(until, is_closed, "it is closed")
-            self.assertIs(await client.verify("ada", "secret"), R.YES)
+            self.assertIs(await client.verify("ada", "secret"), Reply.YES)
             service.stop()
             with self.assertRaises(self.server.Unavailable):
                 await client.verify("ada", "secret")

@@ -181,8 +181,8 @@ class Earlier(Case):
         elsewhere = folder / "elsewhere"
         self.marks(folder).rename(elsewhere)
         for make, said in (
-            (lambda it: it.symlink_to(elsewhere), os.strerror(errno.ELOOP)),
-            (lambda it: it.symlink_to(folder / "nowhere"), os.strerror(errno.ELOOP)),
+            (lambda path: path.symlink_to(elsewhere), os.strerror(errno.ELOOP)),
+            (lambda path: path.symlink_to(folder / "nowhere"), os.strerror(errno.ELOOP)),
             (os.mkfifo, "it isn't a regular file"),
             (os.mkdir, "it isn't a regular file"),
         ):

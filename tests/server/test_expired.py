@@ -15,7 +15,7 @@ EXPIRED = {
     " && chage -d 0 eve",
     "too old": "chage -d 2020-01-01 -M 30 eve",
 }
-SU = "setpriv --reuid 4711 --regid 4711 --clear-groups su {} -c".split()
+SU = ["setpriv", "--reuid", "4711", "--regid", "4711", "--clear-groups", "su", "{}", "-c"]
 SSH = "ssh -tt -o StrictHostKeyChecking=no -o UserKnownHostsFile=/dev/null -o LogLevel=ERROR"
 SSH += " -o NumberOfPasswordPrompts=1 -o PreferredAuthentications=keyboard-interactive"
 LOGINS = {

@@ -42,11 +42,13 @@ class Limits(Case):
             client.send(letter)
             time.sleep(0.001)
         self.assertEqual(client.line(), b"a yes")
-        passwords = [SECRET if number % 3 else WRONG for number in range(500)]
-        lines = [f"n{at} verify ada {password}\n" for at, password in enumerate(passwords)]
+        lines, ought = [], []
+        for number in range(500):
+            is_right = number % 3 != 0
+            lines.append(f"n{number} verify ada {SECRET if is_right else WRONG}\n")
+            ought.append(b"n%d %s" % (number, b"yes" if is_right else b"no"))
         client.send("".join(lines))
         client.socket.shutdown(socket.SHUT_WR)
-        ought = [b"n%d %s" % (at, b"yes" if at % 3 else b"no") for at in range(500)]
         self.assertEqual(sorted(client.lines(500)), sorted(ought))
         self.assertTrue(client.is_ended(), "it goes on")
 
@@ -165,8 +167,18 @@ class Limits(Case):
             """
         )
         asked = {line.partition(" ")[0] for line in service.asked()[7:]}
-        without = "show list marks disable rename delete account load lock"
-        self.assertEqual(asked, set(without.split()), "what was asked beside full places")
+        without = {
+            "show",
+            "list",
+            "marks",
+            "disable",
+            "rename",
+            "delete",
+            "account",
+            "load",
+            "lock",
+        }
+        self.assertEqual(asked, without, "what was asked beside full places")
         service.process.kill()
 
     def test_shares_of_users(self) -> None:
@@ -174,8 +186,9 @@ class Limits(Case):
         the log one line."""
         need_root()
         room = self.room()
-        sockets = f"--socket a {room}/s 0666 - known --socket b {room}/t 0600 - all"
-        service = self.serving(*sockets.split())
+        first = ["--socket", "a", f"{room}/s", "0666", "-", "known"]
+        second = ["--socket", "b", f"{room}/t", "0600", "-", "all"]
+        service = self.serving(*first, *second)
         service.clients = clients = [Client(room / "s") for _ in range(600)]
         clients[511].talk("known ada -> noaccount")
         for client in clients[512:]:

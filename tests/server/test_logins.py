@@ -32,11 +32,11 @@ def install_stack(*more: str) -> None:
 def logged() -> Iterator[list[str]]:
     """The lines that programs log by syslog meanwhile."""
     lines: list[str] = []
-    with socket.socket(socket.AF_UNIX, socket.SOCK_DGRAM) as it:
-        it.bind("/dev/log")
+    with socket.socket(socket.AF_UNIX, socket.SOCK_DGRAM) as syslog:
+        syslog.bind("/dev/log")
 
         def read() -> None:
-            while line := it.recv(4096):
+            while line := syslog.recv(4096):
                 lines.append(line.decode().rstrip("\0\n"))
 
         reading = threading.Thread(target=read)
@@ -166,8 +166,9 @@ class Logins(Case):
         pathlib.Path("/etc/pam.d/su").write_text("\n".join(lines) + "\n")
 
         def tried(password: str) -> str:
-            words = "setpriv --reuid 4712 --regid 4711 --clear-groups su ada -c".split()
-            return ended([*words, "id -un"], f"{password}\n").written.strip()
+            other_user = ["setpriv", "--reuid", "4712", "--regid", "4711", "--clear-groups"]
+            words = [*other_user, "su", "ada", "-c", "id -un"]
+            return ended(words, f"{password}\n").written.strip()
 
         self.assertEqual([tried("secret"), tried("guess"), tried("unixword")], ["ada", "", ""])
         server.stop()
@@ -187,8 +188,8 @@ class Logins(Case):
         until(lambda: is_open(22), "sshd")
 
         def ssh(before: str, words: str, user: str = "ada") -> str:
-            common = "StrictHostKeyChecking=no UserKnownHostsFile=/dev/null LogLevel=ERROR"
-            common = " ".join(f"-o {it}" for it in f"{common} NumberOfPasswordPrompts=1".split())
+            common = "-o StrictHostKeyChecking=no -o UserKnownHostsFile=/dev/null"
+            common += " -o LogLevel=ERROR -o NumberOfPasswordPrompts=1"
             line = f"{before} ssh {common} {words} {user}@127.0.0.1 id -un"
             return ended(["sh", "-c", line]).written.strip()
 

@@ -206,8 +206,8 @@ class ManyKills(Case):
                 asking = [pool.submit(it.go) for it in (*owners, importer)]
                 time.sleep(0.05 + 0.3 * chance.random())
                 kill(service, ("server", "children", "both")[number % 3])
-                for it in asking:
-                    it.result()
+                for task in asking:
+                    task.result()
             service = given.begun().wait_until_started()
             answered += len(importer.answered)
             with Client(service.path("admin")) as admin:

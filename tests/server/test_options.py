@@ -49,8 +49,7 @@ MISTAKES = {
     f"{SOCKET} verify --audit /none/audit x.db": "/none/audit: No such file or directory",
     f"{SOCKET} verify --credkeep /none/credkeep x.db": "/none/credkeep: No such file",
 }
-NO_SOCKETS = "127.0.0.1:8080 8080 :80 0.0.0.0:80 localhost:80 [::1]:80 x.sock"
-for word in NO_SOCKETS.split():
+for word in ("127.0.0.1:8080", "8080", ":80", "0.0.0.0:80", "localhost:80", "[::1]:80", "x.sock"):
     said = f"--http needs the path of a Unix socket, not a port: '{word}'"
     MISTAKES[f"--http {word} x.db"] = said
 
@@ -108,10 +107,16 @@ class Mistakes(Case):
         until(lambda: has_book(first), "the first begins")
         os.kill(first.book_pid(), signal.SIGSTOP)
         words = (
-            f"--credkeep {FAST_BOOK} --socket login {folder}/login.sock 0660 - all {folder}/u.db"
+            "--credkeep",
+            str(FAST_BOOK),
+            "--socket",
+            "login",
+            f"{folder}/login.sock",
+            "0660",
+            "-",
         )
         said = f"credkeep-server: another server uses {folder}/login.sock\n"
-        self.assertEqual(ran(*words.split()), (1, "", said))
+        self.assertEqual(ran(*words, "all", f"{folder}/u.db"), (1, "", said))
         self.assertNotIn("start:", first.log())
         self.assertFalse(first.path().exists(), "the socket is there before the book answers")
         os.kill(first.book_pid(), signal.SIGCONT)

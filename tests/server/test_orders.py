@@ -41,11 +41,10 @@ LINES = (
 # Lines of which two at once are killed at each moment.
 KILLED = ("lock ada", "rename ada eve", f"verify ada {SECRET}", f"change ada {SECRET} {SECRET}")
 # Probes of the final state: the passwords that let a user in.
-PROBES = tuple(
-    line.format(name)
-    for name in ("ada", "eve", "zoe")
-    for line in ("known {}", *(f"verify {{}} {typed}" for typed in (SECRET, FRESH, ZOE)))
-)
+PROBES = list[str]()
+for name in ("ada", "eve", "zoe"):
+    PROBES.append(f"known {name}")
+    PROBES += [f"verify {name} {typed}" for typed in (SECRET, FRESH, ZOE)]
 # After a kill amid these lines no password may be right any more, or the password must be changed
 # once more.
 STRICTER = ("disable", "delete", "rename", "change", "reset")
@@ -220,14 +219,16 @@ ENDS_DUE = {"change", "reset", "disable", "delete", "rename"}
 def broken_law(beginning: Beginning, lines: tuple[str, ...], outcome: Outcome) -> str:
     """The facts that hold in each order of the lines: no login succeeds for a locked user, or with
     a password that must be changed, except after a line that ends that."""
-    operations = {it.split(" ")[0] for it in lines if not it.endswith(f"{SECRET} {SECRET}")}
+    others = [line for line in lines if not line.endswith(f"{SECRET} {SECRET}")]
+    operations = {line.split(" ")[0] for line in others}
     known, right = outcome.probes[:2]
     has_lock = (beginning.row or "").startswith("!")
     is_locked = has_lock or ("lock ada", b"locked") in outcome.answers
     if is_locked and not operations & ENDS_LOCK and {known, right} & {*RANKS}:
         return "a lock"
-    is_due = beginning.is_noted or beginning.fields == DUE
-    if (is_due or ("expire ada", b"expired") in outcome.answers) and not operations & ENDS_DUE:
+    was_due = beginning.is_noted or beginning.fields == DUE
+    is_due = was_due or ("expire ada", b"expired") in outcome.answers
+    if is_due and not operations & ENDS_DUE:
         return "a password that must be changed" if b"yes" in (known, right) else ""
     return ""
 
@@ -245,7 +246,7 @@ class Play:
         state = left.state()
         if state not in self.known:
             server = Server(self.path, left, NoSteps())
-            self.known[state] = tuple([await server.ask(it) for it in PROBES])
+            self.known[state] = tuple([await server.ask(line) for line in PROBES])
         return self.known[state]
 
     async def in_turn(self, lines: tuple[str, ...]) -> Outcome:
@@ -264,7 +265,7 @@ class Play:
         tasks = [server.begin(it) for it in lines]
         counts = await server.steps.finish(choices, most)
         await server.steps.settled()
-        answers = zip(lines, [it.result() if it.done() else None for it in tasks])
+        answers = zip(lines, [task.result() if task.done() else None for task in tasks])
         kept = left.copy()
         for task in tasks:
             task.cancel()

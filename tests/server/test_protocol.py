@@ -12,7 +12,7 @@ from served import TOP, Case
 from daemon.protocol import ANSWERS, OPERATIONS, Answer
 from tests.helpers import Peer, ended, manual, run
 
-sys.path[:0] = [str(TOP / "python"), str(TOP / "tools")]
+sys.path = [str(TOP / "python"), str(TOP / "tools"), *sys.path]
 protocol = importlib.import_module("protocol")  # that of tools
 ASK = str(TOP / "bin/credkeep-ask")
 # The server's manual, and the two that it names for operations and lines.
@@ -63,7 +63,7 @@ class Answers(Case):
             found.setdefault(operation, set()).update(words)
             before = told
         of_book = {
-            word.decode(): {*operation.answers.split()}
+            word.decode(): set(operation.answers)
             for word, operation in OPERATIONS.items()
             if not operation.is_own and not operation.is_transfer and word != b"known"
         }
@@ -77,7 +77,7 @@ class Answers(Case):
             fields, passwords, may_set = SHAPE_OF[word.decode()]
             with self.subTest(word):
                 self.assertEqual(may_set, operation.setting > 0)
-                self.assertEqual(fields, len(operation.fields.split()) - may_set)
+                self.assertEqual(fields, len(operation.fields) - may_set)
                 self.assertEqual(passwords, operation.tries + (operation.new > 0))
 
     def test_modules(self) -> None:
@@ -116,7 +116,7 @@ class Answers(Case):
         path = self.room() / "peer"
         for answer in ANSWERS.keys() - OF_OTHERS:
             with self.subTest(answer):
-                with Peer(path, lambda _, it: it.sendall(f"1 {answer}\n".encode())):
+                with Peer(path, lambda _, client: client.sendall(f"1 {answer}\n".encode())):
                     done = ended([ASK, "--server", str(path), "disable", "ada"])
                 path.unlink()
                 self.assertEqual(done.status, ANSWERS[answer].ask, done)

@@ -14,9 +14,8 @@ def mode_of(path: pathlib.Path) -> int:
 
 
 # Lines that the login socket denies.
-DENIED = (
-    "enrol account load show rename list reset disable delete login upgrade remove serve backup"
-)
+DENIED = ["enrol", "account", "load", "show", "rename", "list", "reset", "disable", "delete"]
+DENIED += ["login", "upgrade", "remove", "serve", "backup"]
 # Lines that take a setting behind them, and the answers where they may have one.
 TAKE_SETTINGS = {
     f"change ada {SECRET} {SECRET}": "replaced",
@@ -56,7 +55,7 @@ class Asking(Case):
         line = f"verify zoe {SECRET}"
         self.assertEqual(service.asked()[-1], line, "the book hashes for an unknown name")
         asked = len(service.asked())
-        for word in [*DENIED.split(), *NO_OPERATIONS]:
+        for word in [*DENIED, *NO_OPERATIONS]:
             self.assertEqual(login.ask(f"{word} ada {SECRET}"), "denied", word)
         self.assertEqual(login.ask("show"), "denied")
         self.assertEqual(len(service.asked()), asked, "a denied line came to the book")
@@ -66,9 +65,9 @@ class Asking(Case):
         """A line may set costs, high or low, only through a socket that may load records."""
         room = self.room()
         hashing = "verify,login,change,upgrade,remove,enrol,reset"
-        more = f"--socket hashing {room}/hashing 0600 - {hashing},account,show"
-        more += f" --socket loading {room}/loading 0600 - {hashing},load"
-        service = self.serving("--tries", "0", *more.split()).enrol(ada="secret")
+        to_hash = ["--socket", "hashing", f"{room}/hashing", "0600", "-", f"{hashing},account,show"]
+        to_load = ["--socket", "loading", f"{room}/loading", "0600", "-", f"{hashing},load"]
+        service = self.serving("--tries", "0", *to_hash, *to_load).enrol(ada="secret")
         service.talk("admin account bob -> ok")
         asked = len(service.asked())
         with Client(room / "hashing") as may_hash, Client(room / "loading") as may_load:
@@ -93,9 +92,9 @@ class Asking(Case):
     def test_sockets_of_its_own(self) -> None:
         """Each --socket has its path, mode, group and operations."""
         room = self.room()
-        more = f"--socket check {room}/check 0640 - verify".split()
-        more += f"--socket adding {room}/adding 0600 - account,enrol".split()
-        self.serving(*more).enrol(ada="secret")
+        to_check = ["--socket", "check", f"{room}/check", "0640", "-", "verify"]
+        to_add = ["--socket", "adding", f"{room}/adding", "0600", "-", "account,enrol"]
+        self.serving(*to_check, *to_add).enrol(ada="secret")
         with Client(room / "check") as check, Client(room / "adding") as adding:
             check.talk("verify ada {secret} -> yes\nknown ada -> denied")
             adding.talk("account bob -> ok\nverify ada {secret} -> denied")
@@ -133,8 +132,9 @@ class Asking(Case):
         """The login socket is for its group, the admin socket for its owner."""
         need_root()
         room, name = self.room(), grp.getgrgid(33).gr_name
-        more = f"--socket a {room}/login 0660 {name} verify,known".split()
-        service = self.serving(*more, *f"--socket b {room}/admin 0600 - all".split())
+        login = ["--socket", "a", f"{room}/login", "0660", name, "verify,known"]
+        admin = ["--socket", "b", f"{room}/admin", "0600", "-", "all"]
+        service = self.serving(*login, *admin)
         service.enrol(ada="secret")
         for gid, door, said in (
             (33, "login", "yes"),
@@ -147,7 +147,7 @@ class Asking(Case):
         """A dead socket is replaced; a file, or a socket that is listened at, ends the start, and
         stays."""
         path = self.room() / "s"
-        words = f"--socket a {path} 0600 - all".split()
+        words = ["--socket", "a", str(path), "0600", "-", "all"]
         with socket.socket(socket.AF_UNIX) as dead:
             dead.bind(str(path))
         service = self.serving(*words)

@@ -80,9 +80,13 @@ class Seen(Case):
         form = rf"credkeep_[a-z_]+\{{{book}(,answer=\"[a-z]+\")?\}} \d+(\.\d+)?"
         self.assertEqual([it for it in samples if not re.fullmatch(form, it)], [])
         typed = re.findall(r"^# TYPE (\S+) (counter|gauge)$", text, re.M)
-        names = dict.fromkeys(re.split("[ {]", it)[0] for it in samples)
-        kinds = ["counter" if it.endswith("_total") else "gauge" for it in names]
-        self.assertEqual(typed, list(zip(names, kinds)))
+        ought = list[tuple[str, str]]()
+        for sample in samples:
+            name = re.split("[ {]", sample)[0]
+            row = (name, "counter" if name.endswith("_total") else "gauge")
+            if row not in ought:
+                ought.append(row)
+        self.assertEqual(typed, ought)
         self.assertEqual(len(samples), len(service.stats()), "each count is a sample")
 
     def test_metrics_of_no_server(self) -> None:
@@ -90,7 +94,7 @@ class Seen(Case):
         counts."""
         odd = self.room() / "odd"
         said = [b"1 stats\n", b"1 stats yes\n", b"1 stats yes=1 yes=\xff\n", b"\n", b""]
-        with Peer(odd, lambda _, it: it.sendall(said.pop())):
+        with Peer(odd, lambda _, client: client.sendall(said.pop())):
             for path in (str(self.serving().path()), "/nonexistent", *[str(odd)] * len(said)):
                 status, text, faults = ran("--metrics", path)
                 self.assertEqual((status, text), (1, ""))
@@ -209,7 +213,7 @@ class Logs(Case):
         """mypy --strict takes its modules, and credkeep-ask's, by the oldest Python for them."""
         need("mypy")
         need_file("/usr/lib/python3/dist-packages/passlib-stubs")
-        words = f"mypy --strict --python-version=3.9 --cache-dir={self.room()}".split()
+        words = ("mypy", "--strict", "--python-version=3.9", f"--cache-dir={self.room()}")
         run(*words, "daemon", at=TOP / "python/rigzumal/server")
 
 
@@ -259,9 +263,11 @@ class Audited(Case):
     def test_lines(self) -> None:
         """Each change is a line of JSON, with who asked for it and the answer; right logins are
         too."""
-        path, rows = self.room() / "audit", [it.split(" | ") for it in AUDITED.strip().splitlines()]
+        path, rows = self.room() / "audit", AUDITED.strip().splitlines()
+        asked = [row.partition(" |")[0] for row in rows]
+        noted_as = [row.partition(" |")[2].strip() for row in rows]
         service = self.serving("--audit", str(path), "--tries", "0")
-        service.talk("\n".join(row[0].removesuffix(" |") for row in rows))
+        service.talk("\n".join(asked))
         self.assertEqual((service.stats()["changes"], service.stats()["yes"]), (13, 6))
         service.stop()
         lines = noted(path)
@@ -270,14 +276,19 @@ class Audited(Case):
         self.assertEqual((lines[0], path.stat().st_mode & 0o777), (whole, 0o600))
         self.assertEqual({it["uid"] for it in lines}, {os.getuid()})
         self.assertRegex(str(lines[0]["time"]), r"^\d{4}-\d\d-\d\dT\d\d:\d\d:\d\dZ$")
-        said = [f"{it['door']} {it['operation']} {it['name']} {it['answer']}" for it in lines]
-        ought = [" ".join([*row[0].split()[:2], row[1]]) for row in rows if row[1:]]
+        keys = ("door", "operation", "name", "answer")
+        said = [" ".join(str(line[key]) for key in keys) for line in lines]
+        ought = list[str]()
+        for row, name_and_answer in zip(asked, noted_as):
+            door, operation, *_ = row.split()
+            if name_and_answer:
+                ought.append(f"{door} {operation} {name_and_answer}")
         self.assertEqual(said, ought)
         self.assertEqual(lines[14]["new_name"], "bob")
         page = (TOP / "man/credkeep-server.8").read_text()
-        [keys] = re.findall(r"^A line has the keys (.*?)\.$", page, re.M | re.S)
-        named = {*re.findall(r"\\fB(\w+)\\fP", keys)}
-        self.assertEqual(named, {key for it in lines for key in it}, "the manual's keys")
+        [told] = re.findall(r"^A line has the keys (.*?)\.$", page, re.M | re.S)
+        named = {*re.findall(r"\\fB(\w+)\\fP", told)}
+        self.assertEqual(named, {key for line in lines for key in line}, "the manual's keys")
         for secret in (SECRET, WRONG, "secret", "guess", "$fast$", "hunter2"):
             self.assertNotIn(secret, path.read_text())
 

@@ -108,14 +108,14 @@ class Floods(Case):
             async with self.door(Service(Options())) as (door, stack):
                 made = (socket.socket(socket.AF_UNIX) for _ in range(100 + 2 * MOST_WAITING))
                 clients = [stack.enter_context(it) for it in made]
-                for it in clients[:100]:
-                    it.connect(door.path)
+                for client in clients[:100]:
+                    client.connect(door.path)
                     if is_flooded:
-                        it.close()
+                        client.close()
                 await self.all_let_in(door)
                 self.assertEqual(sum(door.counts.values()), 0 if is_flooded else 100)
-                for it in clients[100:]:
-                    it.setblocking(False)
+                for client in clients[100:]:
+                    client.setblocking(False)
                 return sum(it.connect_ex(door.path) == 0 for it in clients[100:])
 
         self.assertEqual(asyncio.run(waiting(is_flooded=True)), MOST_WAITING + 1)

@@ -169,9 +169,9 @@ class Endings(Case):
             words = f"systemd-socket-activate {option} --fdname=login:{name} -l {room}/a"
             before = (*words.split(), "-l", f"{room}/b")
             service = self.serving(before=before, folder=room, waits=False)
-            with socket.socket(socket.AF_UNIX, kind) as it:
-                until(lambda: it.connect_ex(f"{room}/a") == 0, "a socket")
-                it.send(b"a known ada\n")
+            with socket.socket(socket.AF_UNIX, kind) as client:
+                until(lambda: client.connect_ex(f"{room}/a") == 0, "a socket")
+                client.send(b"a known ada\n")
             status, log = service.ended()
             self.assertEqual((status, said in log), (1, True), log)
 
@@ -180,14 +180,14 @@ class Systemd(Case):
     def notices(self) -> tuple[dict[str, str], Callable[[], list[bytes]]]:
         """A socket as systemd's, in the environment, and what came so far."""
         path, came = self.room() / "notify", list[bytes]()
-        it = self.enterContext(socket.socket(socket.AF_UNIX, socket.SOCK_DGRAM))
-        it.bind(str(path))
-        it.setblocking(False)
+        systemd = self.enterContext(socket.socket(socket.AF_UNIX, socket.SOCK_DGRAM))
+        systemd.bind(str(path))
+        systemd.setblocking(False)
 
         def look() -> list[bytes]:
             with contextlib.suppress(BlockingIOError):
                 while True:
-                    came.append(it.recv(4096))
+                    came.append(systemd.recv(4096))
             return came
 
         return {"NOTIFY_SOCKET": str(path)}, look

@@ -22,7 +22,7 @@ from typing import Optional
 from served import CHEAP, FAST_BOOK, TOP, Case, Client, Given, Service, chosen_book, field_of
 from tests.needs import need_file
 
-sys.path[:0] = str(TOP / "python"), str(TOP / "python/tests/accounts")
+sys.path = [str(TOP / "python"), str(TOP / "python/tests/accounts"), *sys.path]
 need_file(os.environ["RIGZUMAL_LIBRARY"])
 from torture.history import Account, Attempt, Illegal, Operation, check  # noqa: E402
 
@@ -149,11 +149,11 @@ def judged(service: Service, log: Log) -> int:
         end = Operation.end(last, time.monotonic())
         check(Account(Operation.seed(None, None), end, operations))
         spans = surely_stood(operations)
-        for it in log.denials[name]:
-            first, last_moment = spans.get(record_of(it.password), (math.inf, 0.0))
-            if first < it.called and it.answered < last_moment:
+        for denial in log.denials[name]:
+            first, last_moment = spans.get(record_of(denial.password), (math.inf, 0.0))
+            if first < denial.called and denial.answered < last_moment:
                 stood = f"its password stood from {first:.3f} to {last_moment:.3f}"
-                raise Illegal(f"{it.id} was answered {it.reply}, and {stood}", [it])
+                raise Illegal(f"{denial.id} was answered {denial.reply}, and {stood}", [denial])
     return sum(map(len, (*log.operations.values(), *log.denials.values())))
 
 
@@ -171,8 +171,8 @@ def tortured(given: Given, seconds: float, kills: int) -> int:
                 time.sleep(seconds / kills * (0.5 + chance.random() / 2))
                 kill(service, ("book", "front", "both")[number % 3])
                 service = given.begun().wait_until_started()
-            for it in asking:
-                it.result()
+            for task in asking:
+                task.result()
         return judged(service, log)
     finally:
         service.end()

@@ -314,7 +314,7 @@ class Copies(TransferCase):
         path = self.room() / "peer"
         whole = b"1 ended 0 5 0\nada:\n"
         for said in (whole[:-1], whole.replace(b"5", b"x"), b"1 ended 0 5\nada:\n", b"1 ok\n"):
-            with Peer(path, lambda _, it: it.sendall(said)):
+            with Peer(path, lambda _, client: client.sendall(said)):
                 done = ended([ASK, "--server", str(path), "export"])
             path.unlink()
             self.assertEqual(done.status, 5, done)

@@ -131,7 +131,7 @@ class Changes(Case):
 
         async def run() -> None:
             loop, rounds, tasks = asyncio.get_running_loop(), self.rounds(), []
-            with mock.patch.object(loop, "call_later", lambda *it: self.rests.append(it)):
+            with mock.patch.object(loop, "call_later", lambda *given: self.rests.append(given)):
                 for come, ended, rest, ought in scene:
                     self.is_busy = self.is_busy and "-" not in come
                     letters = come.strip("-")
@@ -187,7 +187,7 @@ class Changes(Case):
                 self.at_book.popleft().set_result(b"")
                 await passes()
 
-            with mock.patch.object(loop, "call_later", lambda *it: self.rests.append(it)):
+            with mock.patch.object(loop, "call_later", lambda *given: self.rests.append(given)):
                 first = self.begin(rounds, "a")
                 await passes()
                 await end()

@@ -81,14 +81,14 @@ class Web(Case):
 
     def raw(self, service: Service, text: bytes) -> bytes:
         """The answer to these bytes, until the server closes."""
-        with socket.socket(socket.AF_UNIX) as it:
-            it.settimeout(30)
-            it.connect(str(service.path("http")))
-            it.sendall(text)
-            it.shutdown(socket.SHUT_WR)
+        with socket.socket(socket.AF_UNIX) as client:
+            client.settimeout(30)
+            client.connect(str(service.path("http")))
+            client.sendall(text)
+            client.shutdown(socket.SHUT_WR)
             found = b""
             with contextlib.suppress(ConnectionResetError):  # it was sent more than is read
-                while came := it.recv(65536):
+                while came := client.recv(65536):
                     found += came
             return found
 
@@ -220,11 +220,11 @@ class Web(Case):
         service = self.serving_web("--tries", "0", "--at-once", "2", faults="slow=0.5")
         service.enrol(ada="secret")
         clients = [socket.socket(socket.AF_UNIX) for _ in range(600)]
-        for it in clients:
-            it.connect(str(service.path("http")))
+        for client in clients:
+            client.connect(str(service.path("http")))
         self.assertTrue(clients[-1].recv(999).startswith(b"HTTP/1.1 503 "))
-        for it in clients:
-            it.close()
+        for client in clients:
+            client.close()
         until(lambda: service.stats()["clients"] == 1, "room")
         client = Connection(service.path("http"))
         self.addCleanup(client.close)
@@ -240,9 +240,9 @@ class Web(Case):
         service.enrol(ada="secret")
         head = b"GET / HTTP/1.1\r\nHost: a\r\nAuthorization: " + basic(b"left", b"") + b"\r\n\r\n"
         for _ in range(20):
-            with socket.socket(socket.AF_UNIX) as it:
-                it.connect(str(service.path("http")))
-                it.sendall(head * 3)
+            with socket.socket(socket.AF_UNIX) as left:
+                left.connect(str(service.path("http")))
+                left.sendall(head * 3)
         client = Connection(service.path("http"))
         self.addCleanup(client.close)
         self.assertEqual(client.got(basic(b"ada", b"secret"))[0], 200)

@@ -53,7 +53,8 @@ class Walk(Case):
     def start(self) -> None:
         """The book and its server, with its first account."""
         for line in block("Start it", "runuser"):
-            self.type(line, *["secret"] * 2 * (" add ada" in line))
+            passwords = ("secret", "secret") if " add ada" in line else ()
+            self.type(line, *passwords)
         with Client(RUN / "login.sock") as client:
             client.talk("verify ada {secret} -> yes")
 

@@ -44,6 +44,10 @@ def module(level="x86-64-v3", prefetch=EMPTY, inlined=INLINED):
     return "".join([prefetch, *functions, *attributes])
 
 
+def text_of(path):
+    return path.read_text() if path.exists() else None
+
+
 class Build(helpers.Case):
     def built(self, status=0, level="x86-64-v4", text=module(), **env):
         """The script's messages and its output, over a toolchain that behaves so."""
@@ -62,9 +66,7 @@ class Build(helpers.Case):
         }
         words = (TOP / "tools/compile_proved.py", level, room / "level.a")
         said = helpers.run(sys.executable, *words, env=env, status=status)
-        return said, *(
-            (room / it).read_text() if (room / it).exists() else None for it in ("asked", "level.a")
-        )
+        return said, text_of(room / "asked"), text_of(room / "level.a")
 
     def test_module(self):
         """The empty function is one that prefetches, and the functions are inlined: nothing else is

@@ -198,6 +198,5 @@ class Completions(Case):
             [sys.executable, self.top / "tools/completions.py", "--remove", *self.folders],
             check=True,
         )
-        self.assertEqual(
-            [[it.name for it in folder.iterdir()] for folder in self.folders], [["of-another"]] * 3
-        )
+        for folder in self.folders:
+            self.assertEqual([file.name for file in folder.iterdir()], ["of-another"])

@@ -149,7 +149,8 @@ class DefinitionsPage(Case):
     def test_changed(self, file: str, old: str, new: str, block: int) -> None:
         """The tool reports a changed definition by the block that has it."""
         self.write_and_change(file, old, new)
-        said = ["high.Boxes.IsBox", "high.Boxes.IsItem, low.Sizes.limit"][block]
+        blocks = ("high.Boxes.IsBox", "high.Boxes.IsItem, low.Sizes.limit")
+        said = blocks[block]
         self.assertEqual(self.told(), (1, [f"docs/DEFINITIONS.md: {said} {ANEW}"]))
 
     @each(

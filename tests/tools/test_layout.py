@@ -42,7 +42,12 @@ def scripts() -> list[pathlib.Path]:
     """The files for the shell, by their first lines."""
     found = [it for it in TOP.rglob("*") if not BUILT & {*it.relative_to(TOP).parts}]
     files = [it for it in found if it.is_file() and not it.is_symlink()]
-    return [it for it in files if it.open("rb").read(9) == b"#!/bin/sh"]
+    return [it for it in files if is_script(it)]
+
+
+def is_script(path: pathlib.Path) -> bool:
+    with path.open("rb") as file:
+        return file.read(9) == b"#!/bin/sh"
 
 
 class Others(unittest.TestCase):

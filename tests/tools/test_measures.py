@@ -8,7 +8,7 @@ from unittest import mock
 from tests.helpers import TOP, Case, each, run
 from tests.needs import lacking
 
-sys.path[:0] = [str(TOP / it) for it in ("bench/c", "bench")]
+sys.path = [str(TOP / "bench/c"), str(TOP / "bench"), *sys.path]
 import libraries  # noqa: E402
 import turns  # noqa: E402
 
@@ -58,7 +58,7 @@ class Pages(Case):
 
     MAPS = """
 import mmap, sys
-sys.path[:0] = {folders!r}
+sys.path = {folders!r} + sys.path
 import run
 run.have_pages({whose!r})
 room = mmap.mmap(-1, 1 << 24, flags=mmap.MAP_PRIVATE | mmap.MAP_ANONYMOUS)

@@ -32,9 +32,9 @@ def calls() -> Iterator[tuple[str, ast.Call]]:
     for folder in FOLDERS:
         for path in (TOP / folder).rglob("*.py"):
             if "out" not in path.relative_to(TOP).parts:
-                for it in ast.walk(ast.parse(path.read_text())):
-                    if isinstance(it, ast.Call):
-                        yield f"{path.relative_to(TOP)}:{it.lineno}", it
+                for node in ast.walk(ast.parse(path.read_text())):
+                    if isinstance(node, ast.Call):
+                        yield f"{path.relative_to(TOP)}:{node.lineno}", node
 
 
 def programs_of(call: ast.Call) -> list[str]:
@@ -50,8 +50,10 @@ def programs_of(call: ast.Call) -> list[str]:
     if words and ast.unparse(words[0]) in DRIVERS:
         words = words[2:]
     names: list[str] = []
-    for it in words:
-        names += [it.value] if isinstance(it, ast.Constant) else VARIED[ast.unparse(it)].split()
+    for word in words:
+        names += (
+            [word.value] if isinstance(word, ast.Constant) else VARIED[ast.unparse(word)].split()
+        )
     return names
 
 

@@ -35,7 +35,9 @@ class Pictures(Case):
         drawn = pictures.bars()
         widths = re.findall(r'<rect x="200"[^>]* width="(\d+)" height="16"', drawn)
         self.assertEqual([int(it) for it in widths], [160, 480, 240, 80, 241])
-        self.assertEqual(re.findall(r">([\d.]+) ms<", drawn), "80.0 240.0 120.0 40.0 120.5".split())
+        self.assertEqual(
+            re.findall(r">([\d.]+) ms<", drawn), ["80.0", "240.0", "120.0", "40.0", "120.5"]
+        )
         for words in ("64 MiB, t = 3, p = 1", "512 KiB, t = 384, p = 4", "Rigzumal", "libsodium"):
             self.assertIn(f">{words}</text>", drawn)
         self.assertIn("prefers-color-scheme: dark", drawn)

@@ -75,8 +75,8 @@ class Trusted(Case):
         """Libraries of libraries are reached, and those of tests alone aren't."""
         room = self.room()
         for name, low in BUILT_ON.items():
-            for it in low:
-                (room / f"{name}.rlib/below" / it).mkdir(parents=True)
+            for lower in low:
+                (room / f"{name}.rlib/below" / lower).mkdir(parents=True)
         with mock.patch.object(promises, "listed", lambda: LISTED):
             self.assertEqual(promises.reached(room), CRATES)
 

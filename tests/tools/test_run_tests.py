@@ -1,5 +1,6 @@
 """tools/run_tests.py: its counts, its failures, and the processes that it ends."""
 
+import functools
 import os
 import pathlib
 import re
@@ -116,6 +117,11 @@ FAILED = {
 }
 
 
+def has_ended(process: str) -> bool:
+    words = pathlib.Path("/proc", process, "cmdline")
+    return not words.exists() or not words.read_bytes()
+
+
 class RunTests(Case):
     def setUp(self) -> None:
         super().setUp()
@@ -184,8 +190,7 @@ class RunTests(Case):
         self.assertEqual(written, "tests: interrupted\n")
         self.assertEqual(run.returncode, 128 + number)
         for process in at_work.read_text().split():
-            words = pathlib.Path("/proc", process, "cmdline")
-            helpers.until(lambda it=words: not it.exists() or not it.read_bytes(), "it has ended")
+            helpers.until(functools.partial(has_ended, process), "it has ended")
         at_work.unlink()
 
     def test_first_failure(self) -> None:

@@ -335,9 +335,8 @@ class Statements(Case):
         self.replace(file, old, new)
         status, lines = self.told()
         self.assertEqual(status, 1)
-        self.assertEqual(
-            lines[:-1], [it if ": " in it else f"changed: {it}" for it in sorted(names)]
-        )
+        ought = [name if ": " in name else f"changed: {name}" for name in sorted(names)]
+        self.assertEqual(lines[:-1], ought)
         self.assertIn("python3 tools/statements.py --write", lines[-1])
         write_files(self.top, FILES)
 

@@ -70,7 +70,8 @@ def defined(file: str) -> set[str]:
     if file.endswith(".py"):
         return names | {it.name for it in ast.parse(text).body if isinstance(it, IN_PYTHON)}
     if not file.endswith(".rt"):
-        return names | {it for found in IN_C.findall(text) for it in found if it}
+        groups = [group for found in IN_C.findall(text) for group in found]
+        return names | {name for name in groups if name}
     names |= set(ITEM.findall(text))
     return names | {f"{crate_of(file)}::{it}" for it in names}
 
@@ -109,8 +110,9 @@ def extended(file: str) -> set[str]:
     """The types that the classes of a file extend."""
     if not file.endswith(".py"):
         return set()
-    classes = [it for it in ast.parse(text_of(file)).body if isinstance(it, ast.ClassDef)]
-    return {base.id for it in classes for base in it.bases if isinstance(base, ast.Name)}
+    nodes = ast.parse(text_of(file)).body
+    bases = [base for node in nodes if isinstance(node, ast.ClassDef) for base in node.bases]
+    return {base.id for base in bases if isinstance(base, ast.Name)}
 
 
 CLI, DAEMON = "crates/cred_cli/src", "python/rigzumal/server/daemon"

@@ -27,18 +27,23 @@ kept.write_text(str(before + 1))
 open(os.environ["ASKED"], "a").write(f"{before} " + " ".join(sys.argv) + chr(10))
 text = open("src/lib.rt").read()
 bodies = dict(re.findall(r"fn (\\w+)\\(\\) \\{ (.*) \\}", text))
-bad = lambda it: "wrong" in bodies[it] or "LIMIT" in bodies[it] and "LIMIT: u8 = 8" not in text
-waits = [it for it in bodies if any(f"{other}()" in bodies[it] and bad(other) for other in bodies)]
-for it in bodies:
-    said = "no proof: `search` did not prove `returns`" if bad(it) else "proved"
-    said = "no proof: it calls another, which is not proved" if it in waits else said
-    if error := re.match("lemma: (.*)", bodies[it]):
+is_limit_changed = "LIMIT: u8 = 8" not in text
+bad = {
+    name
+    for name, body in bodies.items()
+    if "wrong" in body or "LIMIT" in body and is_limit_changed
+}
+for name, body in bodies.items():
+    said = "no proof: `search` did not prove `returns`" if name in bad else "proved"
+    if any(f"{other}()" in body for other in bad):
+        said = "no proof: it calls another, which is not proved"
+    if error := re.match("lemma: (.*)", body):
         print(f"./proofs/Sums.antt:2:1: error: `sum`: {error[1]}")
         rests = "1 declaration that depends on `sum`, which was not admitted, was not checked"
-        print(f"./proofs/{it}/Answers.antt:3:1: error: {rests}: returns")
+        print(f"./proofs/{name}/Answers.antt:3:1: error: {rests}: returns")
         said = "not proved"
-    print(f"fn high::{it}: {said}")
-sys.exit(any(map(bad, bodies)))
+    print(f"fn high::{name}: {said}")
+sys.exit(len(bad) > 0)
 """
 SOURCE = """const LIMIT: u8 = 8;
 fn one() { 1 }

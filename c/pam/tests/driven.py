@@ -23,7 +23,7 @@ from tests import helpers  # noqa: E402
 ROOM = helpers.common_folder()
 SOURCES = ["pam_rigzumal.c", "../src/base64.c"]
 WARNINGS = os.environ.get("TEST_WARNINGS", "-Wall -Wextra -Wpedantic -Werror").split()
-SANITIZED = "-O1 -fsanitize=address,undefined -fno-sanitize-recover=all".split()
+SANITIZED = ["-O1", "-fsanitize=address,undefined", "-fno-sanitize-recover=all"]
 
 
 class Pam(enum.IntEnum):
@@ -169,14 +169,19 @@ def sends(answer: bytes) -> Callable[[bytes, socket.socket], None]:
 
 
 def answers(**words: bytes) -> Callable[[bytes, socket.socket], None]:
-    """Answers each operation as `ways` say, and others with yes."""
-    return lambda line, client: client.sendall(words.get(line.split()[1].decode(), b"1 yes\n"))
+    """Answers each operation with its words, and others with yes."""
+
+    def reply(line: bytes, client: socket.socket) -> None:
+        operation = line.split()[1].decode()
+        client.sendall(words.get(operation, b"1 yes\n"))
+
+    return reply
 
 
 def said_at(answer: bytes, question: Question) -> tuple[Said, list[bytes]]:
     """The result of a question if each line gets the same answer, and the lines."""
-    with peer(sends(answer)) as it:
-        return asked(question, it.path), it.lines
+    with peer(sends(answer)) as server:
+        return asked(question, server.path), server.lines
 
 
 def line_of(word: str, name: str, *passwords: bytes) -> bytes:

@@ -21,10 +21,10 @@ VERIFY, KNOWN = line_of("verify", "ada", b"secret"), line_of("known", "ada")
 EDITS = [(at, 0, new) for at in range(7) for new in (b" ", b"\0", b"1")]
 EDITS += [(at, 1, new) for at in range(6) for new in (b"", b"Y")]
 NO_ANSWERS = {YES[:at] + new + YES[at + cut :] for at, cut, new in EDITS} - {YES}
-LINES = b"|1|1 |yes|1 no yes|2 yes|1 yes\r|1 yes\0no|1 YES"
-LINES += b"|1 yes\n1 yes|1 no\n1 yes|2 no\n1 yes|1 replaced"
-LINES += b"|1 unavailable|* denied|1 denied|1 bad 14 busy|1 n|1 none|1 noyes"
-NO_ANSWERS |= {line + b"\n" for line in LINES.split(b"|")}
+LINES = [b"", b"1", b"1 ", b"yes", b"1 no yes", b"2 yes", b"1 yes\r", b"1 yes\0no", b"1 YES"]
+LINES += [b"1 yes\n1 yes", b"1 no\n1 yes", b"2 no\n1 yes", b"1 replaced", b"1 unavailable"]
+LINES += [b"* denied", b"1 denied", b"1 bad 14 busy", b"1 n", b"1 none", b"1 noyes"]
+NO_ANSWERS |= {line + b"\n" for line in LINES}
 NO_ANSWERS |= {b"1 " + b"y" * 62, b"1 " + b"y" * 61 + b"\n", b"1 yes" + b" " * 70 + b"\n", b""}
 NO_ANSWERS |= {b"x" * 1000000, bytes(range(256)), b"\xff" * 63 + b"\n"}
 
@@ -64,9 +64,9 @@ class Answers(Case):
         for answer in sorted(NO_ANSWERS):
             self.check(answer, Pam.AUTHINFO_UNAVAIL, VERIFY, options="debug timeout=2")
         for answer in (YES, b"1 no\n2 replaced\n", b"1 enrolled\n"):
-            with peer(answers(change=answer)) as it:
+            with peer(answers(change=answer)) as server:
                 question = Question(tasks="change", answers=(b"secret", b"fresh", b"fresh"))
-                self.assertEqual(asked(question, it.path).codes, [Pam.AUTHINFO_UNAVAIL], answer)
+                self.assertEqual(asked(question, server.path).codes, [Pam.AUTHINFO_UNAVAIL], answer)
 
     def test_passwords(self) -> None:
         """The module sends passwords of 1 to 256 bytes as they are, and no others."""
@@ -155,8 +155,8 @@ class Answers(Case):
                 client.sendall(bytes([byte]))
                 time.sleep(0.05)
 
-        with peer(drips) as it:
-            self.assertEqual(asked(Question(), it.path).codes, [Pam.SUCCESS])
+        with peer(drips) as server:
+            self.assertEqual(asked(Question(), server.path).codes, [Pam.SUCCESS])
 
     def check_deadline(self, path: pathlib.Path) -> None:
         """The call ends at its second, or a little after it on a machine that stalls, and not at
@@ -178,8 +178,8 @@ class Answers(Case):
                 time.sleep(0.2)
 
         for reply in (nothing, drips):
-            with peer(reply) as it:
-                self.check_deadline(it.path)
+            with peer(reply) as server:
+                self.check_deadline(server.path)
         self.check(YES, Pam.SUCCESS, VERIFY, environment={"JUMPS": "1"})  # the clock is set
         path, busy = ROOM / "busy", socket.socket(socket.AF_UNIX)
         busy.bind(str(path))
@@ -189,8 +189,8 @@ class Answers(Case):
             client.setblocking(False)
             client.connect_ex(str(path))
         self.check_deadline(path)
-        for it in (*waiting, busy):
-            it.close()
+        for client in (*waiting, busy):
+            client.close()
 
     def test_no_server(self) -> None:
         """Without a server the module returns PAM_AUTHINFO_UNAVAIL at once."""
@@ -212,51 +212,51 @@ class Answers(Case):
         time is up."""
 
         def has_room(line: bytes, client: socket.socket) -> None:
-            client.sendall(YES if len(it.lines) == 4 else NO_ROOM)
+            client.sendall(YES if len(server.lines) == 4 else NO_ROOM)
 
         for task, line in (("authenticate", VERIFY), ("account", KNOWN)):
-            with peer(has_room) as it:
-                self.assertEqual(asked(Question(tasks=task), it.path).codes, [Pam.SUCCESS])
-                self.assertEqual(it.lines, [line] * 4)
-        with peer(sends(NO_ROOM)) as it:
-            self.check_deadline(it.path)
-            self.assertLess(len(it.lines), 9)
+            with peer(has_room) as server:
+                self.assertEqual(asked(Question(tasks=task), server.path).codes, [Pam.SUCCESS])
+                self.assertEqual(server.lines, [line] * 4)
+        with peer(sends(NO_ROOM)) as server:
+            self.check_deadline(server.path)
+            self.assertLess(len(server.lines), 9)
 
     def test_no_room_at_once(self) -> None:
         """The module also asks again if the server reports no room, and closes before or amid the
         line."""
-        it = peer(sends(b""))
+        server = peer(sends(b""))
 
         def says_so() -> None:
             for reads in (0, 1, 9):
-                client, _ = it.socket.accept()
+                client, _ = server.socket.accept()
                 client.sendall(NO_ROOM)
                 client.recv(reads)
                 client.close()
-            client, _ = it.socket.accept()
+            client, _ = server.socket.accept()
             client.sendall(YES)
             with client, client.makefile("rb") as lines:
                 lines.readline()  # the whole line, in however many pieces it arrives
 
         for environment in ({}, {"PIECES": "1"}):
             threading.Thread(target=says_so, daemon=True).start()
-            said = asked(Question(environment=environment), it.path)
+            said = asked(Question(environment=environment), server.path)
             self.assertEqual(said.codes, [Pam.SUCCESS])
-        it.server_close()
+        server.server_close()
 
     def test_closes_amid(self) -> None:
         """If a server closes while the module sends the line, only the call ends."""
 
         def reads_a_byte() -> None:
-            client, _ = it.socket.accept()
+            client, _ = server.socket.accept()
             client.recv(1)
             client.close()
 
-        it = peer(sends(b""))
+        server = peer(sends(b""))
         threading.Thread(target=reads_a_byte, daemon=True).start()
-        said = asked(Question(answers=[b"x" * 256], environment={"PIECES": "1"}), it.path)
+        said = asked(Question(answers=[b"x" * 256], environment={"PIECES": "1"}), server.path)
         self.assertEqual(said.codes, [Pam.AUTHINFO_UNAVAIL])
-        it.server_close()
+        server.server_close()
 
     def test_falls_through(self) -> None:
         """A stack goes on to the next module if the server is down, and stops at a wrong

@@ -16,9 +16,9 @@ def changed(
     given: Sequence[bytes], verify: bytes = b"yes", change: bytes = b"replaced", **question: Any
 ) -> tuple[Said, list[bytes]]:
     """The results of a change at a peer that answers each operation as `ways` say."""
-    with peer(answers(verify=b"1 " + verify + b"\n", change=b"1 " + change + b"\n")) as it:
-        said = asked(Question(tasks="change", answers=given, **question), it.path)
-        return said, [line for line in it.lines if not line.startswith(b"1 known ")]
+    with peer(answers(verify=b"1 " + verify + b"\n", change=b"1 " + change + b"\n")) as server:
+        said = asked(Question(tasks="change", answers=given, **question), server.path)
+        return said, [line for line in server.lines if not line.startswith(b"1 known ")]
 
 
 LONG = "socket=/" + "x" * 107  # a letter more than a socket's path may have
@@ -144,10 +144,10 @@ class Changes(Case):
         for task, known in (("change", [KNOWN]), ("expired", [KNOWN, KNOWN])):
             for word, ought in ((b"replaced", Pam.SUCCESS), (b"expired", Pam.AUTHINFO_UNAVAIL)):
                 expired, changed_to = b"1 expired\n", b"1 " + word + b"\n"
-                with peer(answers(known=expired, verify=expired, change=changed_to)) as it:
-                    said = asked(Question(tasks=task, answers=FRESH), it.path)
+                with peer(answers(known=expired, verify=expired, change=changed_to)) as server:
+                    said = asked(Question(tasks=task, answers=FRESH), server.path)
                 self.assertEqual(said.codes, [ought], task)
-                self.assertEqual(it.lines, [*known, VERIFY, *known, change])
+                self.assertEqual(server.lines, [*known, VERIFY, *known, change])
 
     def test_refused_passwords(self) -> None:
         """The module tells the user why the server refuses a new password."""

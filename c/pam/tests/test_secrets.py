@@ -28,17 +28,17 @@ class Secrets(Case):
             question = Question(tasks=tasks, answers=given, build=PLAIN, looked_for=needles)
             looks = [asked(question, ROOM / "nothing-here").looks] if calls == 1 else []
             for answer in (b"1 yes\n", b"1 no\n", b"2 yes\n", b""):
-                with peer(answers(change=answer) if calls > 1 else sends(answer)) as it:
-                    looks.append(asked(question, it.path).looks)
+                with peer(answers(change=answer) if calls > 1 else sends(answer)) as server:
+                    looks.append(asked(question, server.path).looks)
             for found in looks:
                 self.assertEqual([it[:3] for it in found], [[0, 0, 0]] * (calls + 1), tasks)
                 self.assertEqual(found[-1], [0] * 4, tasks)
 
     def test_looking_finds(self) -> None:
         """The search above finds existing bytes: the socket's path."""
-        with peer(sends(b"1 yes\n")) as it:
-            question = Question(build=PLAIN, looked_for=[str(it.path).encode()])
-            inside, after = asked(question, it.path).looks
+        with peer(sends(b"1 yes\n")) as server:
+            question = Question(build=PLAIN, looked_for=[str(server.path).encode()])
+            inside, after = asked(question, server.path).looks
             self.assertTrue(inside > [0] and after > [0], f"{inside}, {after}")
 
     def test_logs(self) -> None:
@@ -83,22 +83,22 @@ class Secrets(Case):
         in_threads = {"THREADS": "16", "PIECES": "1"}
         question = Question(tasks="authenticate " * 5, environment=in_threads, options="timeout=60")
         names = [f"ada{i}" for i in range(16)] * 5
-        with peer(replies) as it:
-            codes = sorted(asked(question, it.path).codes)
+        with peer(replies) as server:
+            codes = sorted(asked(question, server.path).codes)
             self.assertEqual(codes, [Pam.SUCCESS] * 70 + [Pam.AUTH_ERR] * 10)
             lines = [line_of("verify", name, name.encode()) for name in names]
-            self.assertEqual(sorted(it.lines), sorted(lines))
+            self.assertEqual(sorted(server.lines), sorted(lines))
 
     def test_under_valgrind(self) -> None:
         """Valgrind watches the memory of a login, a wrong one, an account and a change."""
         helpers.need("valgrind")
         watched = {"build": VALGRIND, "options": "timeout=60 debug"}
         given = [b"secret", b"secret", b"fresh", b"fresh"]
-        with peer(answers(change=b"1 replaced\n")) as it:
+        with peer(answers(change=b"1 replaced\n")) as server:
             question = Question(
                 tasks="authenticate setcred account change", answers=given, **watched
             )
-            self.assertEqual(asked(question, it.path).codes, [Pam.SUCCESS] * 4)
+            self.assertEqual(asked(question, server.path).codes, [Pam.SUCCESS] * 4)
         said, _ = said_at(b"1 no\nxyz", Question(**watched))
         self.assertEqual(said.codes, [Pam.AUTHINFO_UNAVAIL])
 

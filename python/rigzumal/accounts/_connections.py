@@ -21,10 +21,18 @@ LOGGER: Final = logging.getLogger("rigzumal.accounts")
 _AT_ONCE: Final = 0.5  # seconds in which lost connections don't lengthen the pauses
 _LONGEST: Final = 400  # letters of a reason
 _AWAY: Final = 5.0  # seconds for which a replica that failed isn't asked
+# What stands before a password in a driver's text, and the password, in quotes or without.
 _DSN_PASSWORD: Final = re.compile(
-    r"""((?:password|passwd|pwd)\s*=\s*|//[^/@\s:]*:|invalid integer value |: (?="))"""
-    r"""('[^']*'|"[^"]*"|[^\s@;,]+)""",
-    re.I,
+    r"""
+    (
+        (?:password|passwd|pwd)\s*=\s*
+        | //[^/@\s:]*:
+        | invalid[ ]integer[ ]value[ ]
+        | :[ ](?=")
+    )
+    ('[^']*' | "[^"]*" | [^\s@;,]+)
+    """,
+    re.I | re.VERBOSE,
 )
 
 

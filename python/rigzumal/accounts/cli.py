@@ -193,7 +193,7 @@ class _Command:
         with self.record_judged(key):
             reply = accounts.verify(key, password)
         if reply is Reply.NO and len(password) < LONGEST_PASSWORD:
-            text = hint(password, lambda it: accounts.verify(key, it) is Reply.YES)
+            text = hint(password, lambda password: accounts.verify(key, password) is Reply.YES)
             if text:
                 say(text)
         return self.say(reply, Reply.YES)

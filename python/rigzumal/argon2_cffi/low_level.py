@@ -169,9 +169,10 @@ class Encoded:
 
     def text(self) -> bytes:
         """Returns the encoded hash."""
-        it = self.parameters
-        costs = f"m={it.memory_cost},t={it.time_cost},p={it.parallelism}"
-        front = f"$argon2{it.type.name.lower()}$v={it.version}${costs}"
+        kind, version = self.parameters.type, self.parameters.version
+        memory, passes = self.parameters.memory_cost, self.parameters.time_cost
+        costs = f"m={memory},t={passes},p={self.parameters.parallelism}"
+        front = f"$argon2{kind.name.lower()}$v={version}${costs}"
         return f"{front}${encoded(self.salt)}${encoded(self.tag)}".encode()
 
     @classmethod
@@ -189,8 +190,8 @@ class Encoded:
         except ValueError:
             return None
         sizes = len(data[0]), len(data[1])
-        it = Parameters(Type[kind.upper()], version, *sizes, time, memory, lanes)
-        return cls(it, *data)
+        parameters = Parameters(Type[kind.upper()], version, *sizes, time, memory, lanes)
+        return cls(parameters, *data)
 
 
 def extract_parameters(hash: Union[str, bytes]) -> Parameters:
@@ -234,24 +235,24 @@ def error_to_str(error: int) -> str:
     return _MESSAGES[-error] if known else "Unknown error code"
 
 
-def _first_fault(it: Parameters) -> Optional[int]:
+def _first_fault(parameters: Parameters) -> Optional[int]:
     """Returns libargon2's number for the first parameter that is too small, in libargon2's order of
     checks, or None if all are large enough."""
     faults = (
-        (it.hash_len < 4, -2),
-        (it.salt_len < 8, -6),
-        (it.memory_cost < max(8, 8 * it.parallelism), -14),
-        (it.time_cost < 1, -12),
-        (it.parallelism < 1, -16),
+        (parameters.hash_len < 4, -2),
+        (parameters.salt_len < 8, -6),
+        (parameters.memory_cost < max(8, 8 * parameters.parallelism), -14),
+        (parameters.time_cost < 1, -12),
+        (parameters.parallelism < 1, -16),
     )
     return next((number for is_fault, number in faults if is_fault), None)
 
 
-def _tag(it: Parameters, secret: bytes, salt: bytes) -> bytes:
+def _tag(parameters: Parameters, secret: bytes, salt: bytes) -> bytes:
     """Computes the tag for these parameters, with up to one thread for each lane."""
-    numbers: dict[str, Any] = {**vars(it), "type": rigzumal.Type(it.type.value)}
+    numbers: dict[str, Any] = {**vars(parameters), "type": rigzumal.Type(parameters.type.value)}
     del numbers["salt_len"]
-    return rigzumal.argon2(secret, salt, threads=it.parallelism, **numbers)
+    return rigzumal.argon2(secret, salt, threads=parameters.parallelism, **numbers)
 
 
 @hidden

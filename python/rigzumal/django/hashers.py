@@ -135,10 +135,11 @@ class Argon2PasswordHasher(_RecordHasher):
     _scheme = "Argon2"
     _numbers = ("memory_cost", "time_cost", "parallelism")
     _form = re.compile(
-        r"(?P<variety>argon2(?:id|i|d))\$(?:v=(?P<version>16|19)\$)?"
-        rf"m=(?P<memory_cost>{_NUMBER}),t=(?P<time_cost>{_NUMBER})"
-        rf",p=(?P<parallelism>{_NUMBER})"
-        r"\$(?P<salt>[A-Za-z0-9+/]+)\$(?P<hash>[A-Za-z0-9+/]+)",
+        r"(?P<variety>argon2(?:id|i|d))\$"
+        r"(?:v=(?P<version>16|19)\$)?"
+        rf"m=(?P<memory_cost>{_NUMBER}),t=(?P<time_cost>{_NUMBER}),p=(?P<parallelism>{_NUMBER})\$"
+        r"(?P<salt>[A-Za-z0-9+/]+)\$"
+        r"(?P<hash>[A-Za-z0-9+/]+)",
         re.ASCII,
     )
 
@@ -206,9 +207,11 @@ class ScryptPasswordHasher(_RecordHasher):
     _scheme = "scrypt"
     _numbers = ("work_factor", "block_size", "parallelism")
     _form = re.compile(
-        rf"(?P<work_factor>{_NUMBER})\$(?P<salt>[^$]+)"
-        rf"\$(?P<block_size>{_NUMBER})\$(?P<parallelism>{_NUMBER})"
-        r"\$(?P<hash>[A-Za-z0-9+/]+={0,2})",
+        rf"(?P<work_factor>{_NUMBER})\$"
+        r"(?P<salt>[^$]+)\$"
+        rf"(?P<block_size>{_NUMBER})\$"
+        rf"(?P<parallelism>{_NUMBER})\$"
+        r"(?P<hash>[A-Za-z0-9+/]+={0,2})",
         re.ASCII,
     )
 
@@ -223,7 +226,9 @@ class ScryptPasswordHasher(_RecordHasher):
     ) -> str:
         """Returns a new record of the password."""
         _check_salt(salt)
-        n, r, p = n or self.work_factor, r or self.block_size, p or self.parallelism
+        n = n or self.work_factor
+        r = r or self.block_size
+        p = p or self.parallelism
         parts = {"work_factor": n, "block_size": r, "parallelism": p, "salt": salt}
         key = encoded(self._key(password, parts, _KEY_SIZE))
         return f"{self.algorithm}${n}${salt}${r}${p}${key}=="

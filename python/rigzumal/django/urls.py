@@ -17,7 +17,12 @@ _OURS: dict[str, Any] = {
     "password_reset_confirm": views.PasswordResetConfirmView,
 }
 
-urlpatterns = [
-    (path(str(url.pattern), _OURS[url.name].as_view(), name=url.name) if url.name in _OURS else url)
-    for url in urls.urlpatterns
-]
+
+def _ours(url: Any) -> Any:
+    """Returns a URL of Django's, with our view if we have one of that name."""
+    if url.name not in _OURS:
+        return url
+    return path(str(url.pattern), _OURS[url.name].as_view(), name=url.name)
+
+
+urlpatterns = [_ours(url) for url in urls.urlpatterns]

@@ -199,8 +199,10 @@ def comparing(model: Any) -> Iterator[None]:
 def own_methods(classes: Any, *names: str) -> list[str]:
     """Returns the methods with these names that belong neither to Django nor to the mixin."""
     known = (AbstractBaseUser, CompareAndSetMixin)
-    having = [(of, name) for name in names for of in classes if name in vars(of)]
-    return [f"{of.__qualname__}.{name}" for of, name in having if of not in known]
+    others = [each for each in classes if each not in known]
+    return [
+        f"{each.__qualname__}.{name}" for name in names for each in others if name in vars(each)
+    ]
 
 
 def unreached_methods(model: Any) -> list[str]:

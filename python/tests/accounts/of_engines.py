@@ -24,11 +24,11 @@ enrol bob one noaccount; reset bob one noaccount; change bob one x noaccount"""
 UPGRADED = "upgrade ann one upgraded; login ann one yes; login ann two no"
 # Costs of new records, the record in the row, the call, and the reply.
 TABLE = ("low", "one", AT_ONE), ("low", None, AT_NONE), ("high", "one", UPGRADED)
-CALLS = [
-    (costs, stands, *call.rsplit(" ", 1))
-    for costs, stands, calls in TABLE
-    for call in re.split("; |\n", calls)
-]
+CALLS = []
+for of_new_records, of_row, texts in TABLE:
+    for line in re.split("; |\n", texts):
+        call, _, answer = line.rpartition(" ")
+        CALLS.append((of_new_records, of_row, call, answer))
 
 
 class Operations:
@@ -79,7 +79,10 @@ class Operations:
         accounts = self.accounts(self.high)
         slow = self.worked(accounts, kind, password, new)
         self.assertEqual(slow.reply.makes_change, kind is not Kind.VERIFY)
-        for stands in ("another", "one", *[None][: stood is not None]):
+        others = ["another", "one"]
+        if stood is not None:
+            others.append(None)
+        for stands in others:
             record = self.give(stands)
             self.assertEqual(accounts.commit(slow), Answer(Reply.CHANGED, record, record))
             self.assertEqual(self.stands(), record)
@@ -102,8 +105,8 @@ class LostAnswers:
     def test_what_stands_tells(self, stands, text, undone, done):
         """A new record in the row shows that it was stored; NULL shows nothing, so nothing is sent
         again."""
-        for is_done, error, times in itertools.product((0, 1), self.unknown, (1, 3)):
-            reply, is_record = (undone, done)[is_done]
+        for is_done, error, times in itertools.product((False, True), self.unknown, (1, 3)):
+            reply, is_record = done if is_done else undone
             record = self.give(stands)
             accounts = self.losing(not is_done, times, error, hasher=self.high)
             with self.subTest(done=is_done, error=error, times=times):
@@ -199,7 +202,9 @@ class AtOnce:
         """`_before_commit` runs before the statement, for a log of attempts; the table then has the
         answer's record."""
         accounts, seen = self.accounts(), []
-        accounts._table.before_commit = lambda it: seen.append((it.reply, self.is_right("one")))
+        accounts._table.before_commit = lambda worked: seen.append(
+            (worked.reply, self.is_right("one"))
+        )
         answer = accounts.commit(self.worked(accounts, Kind.CHANGE, "one", "two"))
         self.assertIs(answer.reply, Reply.REPLACED)
         self.assertEqual(seen, [(Reply.REPLACED, True)])
@@ -256,7 +261,12 @@ class OnServers:
         """The call raises a refusal of the server at once, instead of after the whole patience."""
         self.execute("ALTER TABLE users ADD CHECK (record LIKE '%m=64,%')")
         dialect = losing(self.another_dialect(), True, 99, ConnectionError("planted"), ["undo"])
-        made, connect = [], lambda: made.append(self.connect()) or made[-1]
+        made = []
+
+        def connect():
+            made.append(self.connect())
+            return made[-1]
+
         accounts = self.accounts(self.high, dialect, connect, patience=60.0)
         self.assertRaises(StoreFault, accounts.change, "ann", "one", "two")
         self.assertLess(len(made), 5)

@@ -121,8 +121,9 @@ class Connections:
         the same hash. After that it raises Unavailable, and nothing is stored. A login succeeds."""
         settings = {self.lock_timeout, self.statement_timeout}
         for setting, stands in itertools.product(settings, ("one", None)):
-            connect, made, record = self.setting(setting), [], self.give(stands)
-            patient = self.accounts(connect=lambda: made.append(1) or connect(), patience=60.0)
+            connect, record = self.setting(setting), self.give(stands)
+            counted, made = counting(connect)
+            patient = self.accounts(connect=counted, patience=60.0)
             impatient = self.accounts(self.high, connect=connect, patience=0.8)
             holder = self.another()
             self.execute(self.dialect.begin, conn=holder)
@@ -137,6 +138,17 @@ class Connections:
                 self.assert_replies(f"reset ann two {reply}", patient)
             timer.join()
             self.assertEqual(len(made), 1)
+
+
+def counting(connect):
+    """A function that connects, and a list that gets an element at each call."""
+    made = []
+
+    def counted():
+        made.append(1)
+        return connect()
+
+    return counted, made
 
 
 class Tables:

@@ -96,10 +96,9 @@ class WithoutLog(servers.MariaServer):
 
 
 # Each engine's server, which starts at its first use, and its URL.
-postgres, maria, maria_without_log = (
-    functools.partial(server, it)
-    for it in (servers.PostgresServer, servers.MariaServer, WithoutLog)
-)
+postgres = functools.partial(server, servers.PostgresServer)
+maria = functools.partial(server, servers.MariaServer)
+maria_without_log = functools.partial(server, WithoutLog)
 # With Galera's defaults, since a node is killed.
 galera = functools.cache(lambda: Galera("galera", 3, silence=5).start())
 SQLITE = lambda: servers.SqliteFile().url
@@ -113,7 +112,10 @@ def killed_servers(run, node, pause=1.5):
     count = 0
     time.sleep(1.5)
     while run.process.is_alive():
-        node.end(signal.SIGQUIT) if count % 2 else node.kill()
+        if count % 2:
+            node.end(signal.SIGQUIT)
+        else:
+            node.kill()
         node.start()
         count += 1
         run.process.join(pause)

@@ -191,7 +191,10 @@ class PostgresServer(OfPostgres):
         self.bin = pathlib.Path(sorted(glob.glob(INITDB))[-1]).parent
         super().__init__(name)
         self.port = free_port()
-        self.make() if of is None else self.copy(of)
+        if of is None:
+            self.make()
+        else:
+            self.copy(of)
         with open(self.folder / "postgresql.conf", "a") as file:
             file.write(
                 f"port = {self.port}\nlisten_addresses = '127.0.0.1'\n"
@@ -202,7 +205,7 @@ class PostgresServer(OfPostgres):
 
     def make(self):
         ROOM.chmod(0o777)
-        arguments = "-A trust -U store --no-sync --locale=C.UTF-8 -E UTF8".split()
+        arguments = ["-A", "trust", "-U", "store", "--no-sync", "--locale=C.UTF-8", "-E", "UTF8"]
         self.run(self.bin / "initdb", "-D", self.folder, *arguments)
         with open(self.folder / "pg_hba.conf", "a") as file:
             file.write("host replication store 127.0.0.1/32 trust\n")

@@ -15,7 +15,7 @@ import warnings
 from unittest import mock
 
 PACKAGE = pathlib.Path(__file__).resolve().parents[2]
-sys.path[:0] = str(PACKAGE), str(PACKAGE.parent)
+sys.path = [str(PACKAGE), str(PACKAGE.parent), *sys.path]
 os.environ["PYTHONPATH"] = f"{PACKAGE}:{os.environ.get('PYTHONPATH', '')}".rstrip(":")
 
 import servers
@@ -27,10 +27,9 @@ from tests.helpers import each  # noqa: F401: of each test
 from tests.needs import lacking
 
 # The codes of sqlite3's errors, which have names from Python 3.11 on.
-CHECK_FAILED, FOREIGN_KEY_FAILED = (
-    f"SQLITE_CONSTRAINT_{it}" if sys.version_info >= (3, 11) else ""
-    for it in ("CHECK", "FOREIGNKEY")
-)
+CHECK_FAILED = FOREIGN_KEY_FAILED = ""
+if sys.version_info >= (3, 11):
+    CHECK_FAILED, FOREIGN_KEY_FAILED = "SQLITE_CONSTRAINT_CHECK", "SQLITE_CONSTRAINT_FOREIGNKEY"
 warnings.simplefilter("ignore", LowMemoryWarning)
 # The patience, in seconds, of an operation that must succeed even on a slow machine.
 PATIENCE = 60.0
@@ -38,7 +37,7 @@ LOW = PasswordHasher(time_cost=1, memory_cost=64, parallelism=1)
 HIGH = PasswordHasher(time_cost=1, memory_cost=128, parallelism=1)
 # Made by the reference program, of the older version.
 OLDER = "$argon2i$m=256,t=2,p=1$c29tZXNhbHQ$/U3YPXYsSb3q9XxHvc0MLxur+GP960kN9j7emXX8zwY"
-COSTS = "--memory 64K --passes 1 --lanes 1".split()
+COSTS = ["--memory", "64K", "--passes", "1", "--lanes", "1"]
 FOREIGN = "$2y$05$" + "a" * 53
 RECORD, TWO = LOW.hash("one"), LOW.hash("two")
 # The answers of the command that have status 4.
@@ -261,7 +260,10 @@ class Commands(Base):
         """Each row has the words, the input (a list is typed), and the answer, or a status with its
         message."""
         for words, given, answer in rows:
-            status = answer if isinstance(answer, int) else 4 * (answer in NO)
+            if isinstance(answer, int):
+                status = answer
+            else:
+                status = 4 if answer in NO else 0
             given = {"typed" if isinstance(given, list) else "given": given}
             with self.subTest(words=words, **given):
                 said, error = self.streams(*words.split(" "), **given, **more, status=status)

@@ -244,13 +244,14 @@ class Faults(Commands):
     def test_its_connection_is_closed(self, words, status):
         """The command closes its connection, however the command ends."""
         made, connect = [], Database.connect
+        given = "x" * 257 if status == 6 else "x"  # too long, or a password
 
         def noted(database):
             made.append(connect(database))
             return made[-1]
 
         with mock.patch.object(Database, "connect", noted):
-            self.streams(*words.split(), given="x" * 257 * (status == 6) or "x", status=status)
+            self.streams(*words.split(), given=given, status=status)
         self.assertEqual(len(made), 1)
         self.assertRaises(sqlite3.ProgrammingError, made[0].execute, "SELECT 1")
 

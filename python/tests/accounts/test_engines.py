@@ -37,6 +37,6 @@ class TheCommandOnMySQL(engines.OnMySQL, Base):
         """The command creates a table, and a torture of the table is legal."""
         given = ("--database", self.server.url)
         commanded(cli.main, *given, "--table", "made", "init")
-        words = "--seconds 3 --processes 4 --kill".split()
+        words = ["--seconds", "3", "--processes", "4", "--kill"]
         self.assertIn("legal: ", commanded(torture.main, *given, *words))
         self.execute("DROP TABLE made")

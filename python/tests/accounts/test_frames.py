@@ -12,12 +12,14 @@ from rigzumal.accounts.types import Kind, Request
 from tests.frames import shown
 
 TYPED, NEWER, PEPPER = "HUNTER22", "HUNTER23", "PEPPER99"
-CALLS = (
-    *(f"{it} ann {TYPED}" for it in ("enrol", "verify", "login", "upgrade", "remove", "reset")),
-    f"change ann {TYPED} {NEWER}",
-)
-# The operations that read the record, and those that write one.
-READ, MAKE = CALLS[1:5] + CALLS[6:], (CALLS[0], *CALLS[2:4], *CALLS[5:])
+ENROL, VERIFY, LOGIN = f"enrol ann {TYPED}", f"verify ann {TYPED}", f"login ann {TYPED}"
+UPGRADE, REMOVE, RESET = f"upgrade ann {TYPED}", f"remove ann {TYPED}", f"reset ann {TYPED}"
+CHANGE = f"change ann {TYPED} {NEWER}"
+CALLS = (ENROL, VERIFY, LOGIN, UPGRADE, REMOVE, RESET, CHANGE)
+# The operations that read the record.
+READ = (VERIFY, LOGIN, UPGRADE, REMOVE, CHANGE)
+# Those that change an account with a record of other costs, except `login`.
+ALWAYS_CHANGE = (UPGRADE, REMOVE, RESET, CHANGE)
 PARTS = (Kind.CHANGE, "ann", TYPED, NEWER)
 
 
@@ -59,7 +61,7 @@ class Frames:
         for name in ("step", "check", "record"):
             setattr(library, f"rigzumal_{name}_from", lambda *given: _library.MEMORY)
         with mock.patch.object(_library, "_library", library):
-            self.assert_all_hidden(OutOfMemoryError, accounts, READ + CALLS[5:6])
+            self.assert_all_hidden(OutOfMemoryError, accounts, (*READ, RESET))
             self.assert_parts_hidden(OutOfMemoryError, accounts)
             self.assert_hidden(OutOfMemoryError, accounts.new_record, TYPED)
             self.put(None)
@@ -82,15 +84,14 @@ class Frames:
         self.give(TYPED)
         accounts = self.accounts(self.high)
         self.execute(engines.AFTER_UPDATE + " BEGIN SELECT RAISE(ABORT, 'refused'); END")
-        makes = [it for it in MAKE if it.split()[0] not in ("enrol", "login")]
-        self.assert_all_hidden(StoreFault, accounts, makes)
+        self.assert_all_hidden(StoreFault, accounts, (UPGRADE, RESET, CHANGE))
         self.assert_parts_hidden(StoreFault, accounts)
         self.execute("DROP TABLE users")
         self.assert_all_hidden(StoreFault, accounts)
         self.assert_parts_hidden(StoreFault, accounts)
 
     def test_commits_without_an_answer(self):
-        for text in CALLS[3:]:
+        for text in ALWAYS_CHANGE:
             self.give(TYPED)
             accounts = self.losing(True, 9999, hasher=self.high, patience=0.0)
             self.assert_all_hidden(OutcomeUnknown, accounts, [text])
@@ -133,7 +134,7 @@ class Frames:
         self.give(TYPED)
         accounts = self.accounts(self.high)
         accounts._table.compare = mock.Mock(side_effect=KeyboardInterrupt)
-        self.assert_all_hidden(KeyboardInterrupt, accounts, CALLS[3:])
+        self.assert_all_hidden(KeyboardInterrupt, accounts, ALWAYS_CHANGE)
 
 
 class OfThreads(Frames, Base):

@@ -63,11 +63,13 @@ class FullDisk(Base):
         self.folder = small_disk(self, "32m")
         self.begin(mode)
         accounts = self.accounts(dialect=self.another_dialect(table="MAIN.users"))
-        others = {"WAL": [], "DELETE": ["no-wal"]}[mode]
+        is_logged = mode == "WAL"
+        others = [] if is_logged else ["no-wal"]
         self.assertEqual([it.code for it in accounts.examine()], others)
         with full(self.folder):
             found = {it.code: it for it in accounts.examine()}
-        others += ["no-update"] * (mode == "DELETE")
+        if not is_logged:
+            others.append("no-update")
         self.assertEqual({*found}, {*others, "disk-full"})
         said = "the disk has 0 KiB free: changes may fail"
         self.assertEqual((str(found["disk-full"]), found["disk-full"].is_error), (said, False))

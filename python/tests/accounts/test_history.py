@@ -36,12 +36,11 @@ def whole(op, state, fresh):
         return ("no" if op.kind == "verify" else "wrong"), state
     if op.kind == "upgrade" and costs >= op.costs:
         return "kept", state
-    return {
-        "verify": ("yes", state),
-        "change": ("replaced", put),
-        "upgrade": ("upgraded", put),
-        "remove": ("removed", (None, None, 0)),
-    }[op.kind]
+    if op.kind == "verify":
+        return "yes", state
+    if op.kind == "remove":
+        return "removed", (None, None, 0)
+    return ("replaced" if op.kind == "change" else "upgraded"), put
 
 
 def after(op, state, claim):
@@ -49,7 +48,9 @@ def after(op, state, claim):
     before, stands, _ = claim
     reply, new = whole(op, state, stands)
     is_put = reply in ("enrolled", "replaced", "upgraded")
-    if claim != (state[0], new[0], reply) or is_put and stands in (None, before):
+    if claim != (state[0], new[0], reply):
+        return None
+    if is_put and stands in (None, before):
         return None
     return new
 
@@ -57,24 +58,27 @@ def after(op, state, claim):
 def some_order(account):
     """Whether a legal order exists, by trying each one; operations without an answer may be left
     out."""
-    ops = [it for it in account.operations if it.reply not in ("failed", "changed")]
-    ops, seen = [it for it in ops if it.reply or it.attempts], set()
+    ops = [op for op in account.operations if op.reply not in ("failed", "changed")]
+    ops, seen = [op for op in ops if op.reply or op.attempts], set()
 
     def go(state, stood, left):
         if (state, stood, left) in seen:
             return False
         seen.add((state, stood, left))
-        todo = [it for it in ops if it.id in left]
-        if state[0] == account.end.before and not any(it.reply for it in todo):
+        todo = [op for op in ops if op.id in left]
+        answered = [op.answered for op in todo if op.reply]
+        if state[0] == account.end.before and not answered:
             return True
-        bound = min((it.answered for it in todo if it.reply), default=math.inf)
-        for it in todo:
-            claim = (it.before, it.after, it.reply) if it.reply else it.attempts[-1]
-            new = after(it, state, claim) if it.called <= bound else None
+        bound = min(answered, default=math.inf)
+        for op in todo:
+            if op.called > bound:
+                continue
+            claim = (op.before, op.after, op.reply) if op.reply else op.attempts[-1]
+            new = after(op, state, claim)
             # Each record is written once.
             if new is None or (new[0] != state[0] and new[0] in stood):
                 continue
-            if go(new, stood | {new[0]} - {None}, left - {it.id}):
+            if go(new, stood | {new[0]} - {None}, left - {op.id}):
                 return True
         return False
 
@@ -90,8 +94,7 @@ def made(rng):
     state = (first, "one" if first else None, 1)
     for number in range(rng.randint(1, 7)):
         kind = rng.choice(KINDS)
-        words = rng.choice("12"), rng.choice("12")
-        password, new = ("one" if it == "1" else "two" for it in words)
+        password, new = rng.choice(["one", "two"]), rng.choice(["one", "two"])
         costs = rng.choice([1, 2]) if kind == "upgrade" else 1
         op = Operation(f"o{number}", kind, password, 0.0, new, costs)
         op.reply, new = whole(op, state, f"r{number + 1}")
@@ -180,8 +183,8 @@ class Small(unittest.TestCase):
             found[verdict] += 1
             if part and history.conflict(part):
                 found["part"] += 1
-                for it in part:
-                    rest = [other for other in part if other is not it]
+                for operation in part:
+                    rest = [other for other in part if other is not operation]
                     self.assertIsNone(history.conflict(rest), shown)
         self.assertGreater(found[True], HISTORIES // 4)
         self.assertGreater(found[False], HISTORIES // 5)
@@ -199,14 +202,24 @@ def written(text):
         made = Operation(name, kind, "one", float(called), "one", 2)
         if answered:
             made.answered, made.reply = float(answered), rest.pop(0)
-        ways = [[None if it == "." else it for it in way.split(">")] for way in rest]
-        if ways[-1][1] and ways[-1][1].isupper():
+        ways = [way.split(">") for way in rest]
+        attempts = [attempt(record_of(before), record_of(put)) for before, put in ways]
+        last = attempts[-1].after
+        if last and last.isupper():
             made.new_password = "two"
         if answered:
-            ((made.before, made.after),) = ways
+            ((made.before, made.after, _),) = attempts
         else:
-            made.attempts = [Attempt(*it, "replaced" if it[1] else "removed") for it in ways]
+            made.attempts = attempts
         yield made
+
+
+def record_of(word):
+    return None if word == "." else word
+
+
+def attempt(before, put):
+    return Attempt(before, put, "replaced" if put else "removed")
 
 
 def account(first, last, text):
@@ -277,9 +290,12 @@ class Said(unittest.TestCase):
 
     def test_every_account_is_judged(self):
         good, bad = account("x", "x", ""), account("x", "y", "")
-        for names in ("good bad", "bad good", "good1 good2 bad"):
-            found = history.verdict({it: bad if it == "bad" else good for it in names.split()})
-            self.assertIn("'bad'", found.reason)
+        for accounts in (
+            {"good": good, "bad": bad},
+            {"bad": bad, "good": good},
+            {"good1": good, "good2": good, "bad": bad},
+        ):
+            self.assertIn("'bad'", history.verdict(accounts).reason)
         self.assertIsNone(history.verdict({"good": good}))
 
 

@@ -226,7 +226,7 @@ class Json(Commands):
             ("check eve", "x", "noaccount"),
             ("change dan", "one\ntwo", "replaced"),
         ):
-            status = 4 * (reply == "noaccount")
+            status = 4 if reply == "noaccount" else 0
             self.assertEqual(self.told(words, given, status), [{"reply": reply}])
         (kept,) = self.told("disable --show dan")
         self.assertEqual((kept["reply"], parts(kept["record"]).memory), ("disabled", 64))
@@ -247,9 +247,10 @@ class Json(Commands):
         self.assertIn(("error", "key-not-unique"), found)
 
     def test_a_report_counts_what_a_login_makes_of_records(self):
-        records = (HIGH.hash("x"), f"$argon2i${SAME.replace(' ', '$')}$c29tZXNhbHQ$AAAAAA", FOREIGN)
-        records += ("pbkdf2_sha256$1000$x$y", "hunter2", "$argon2id$v=19$m=64", None)
-        self.insert({**dict.fromkeys("abc", RECORD), **dict(zip("defghij", records))})
+        of_i = f"$argon2i${SAME.replace(' ', '$')}$c29tZXNhbHQ$AAAAAA"
+        records = [RECORD, RECORD, RECORD, HIGH.hash("x"), of_i, FOREIGN]
+        records += ["pbkdf2_sha256$1000$x$y", "hunter2", "$argon2id$v=19$m=64", None]
+        self.insert({f"user{number}": record for number, record in enumerate(records)})
         lines = [
             ("current", 1, "argon2id", "v=19 m=128,t=1,p=1"),
             ("current", 1, "argon2i", SAME),
@@ -259,14 +260,17 @@ class Json(Commands):
             ("absent", 1, "", ""),
         ]
         # An upgrade goes to higher costs of one scheme alone.
-        dear = "report --memory 128K"
-        said = self.run_command(*dear.split()).splitlines()
+        dear = ("report", "--memory", "128K")
+        said = self.run_command(*dear).splitlines()
         wanted = [f"{count} {state} {scheme} {costs}" for state, count, scheme, costs in lines]
-        self.assertCountEqual([it.split() for it in said], [it.split() for it in wanted])
+        self.assertCountEqual([line.split() for line in said], [line.split() for line in wanted])
         names = ("state", "count", "scheme", "costs")
-        self.assertCountEqual(self.told(dear), [dict(zip(names, it)) for it in lines])
-        about, kind, *said = self.run_command(*dear.split(), "--prometheus").splitlines()
+        self.assertCountEqual(self.told(" ".join(dear)), [dict(zip(names, row)) for row in lines])
+        about, kind, *said = self.run_command(*dear, "--prometheus").splitlines()
         self.assertEqual((about[:7], kind), ("# HELP ", "# TYPE rigzumal_accounts gauge"))
-        label = 'rigzumal_accounts{{state="{}",scheme="{}",costs="{}"}} {}'
-        self.assertCountEqual(said, [label.format(it[0], *it[2:], it[1]) for it in lines])
+        wanted = [
+            f'rigzumal_accounts{{state="{state}",scheme="{scheme}",costs="{costs}"}} {count}'
+            for state, count, scheme, costs in lines
+        ]
+        self.assertCountEqual(said, wanted)
         self.assertNotIn("hunter2", "".join(said))

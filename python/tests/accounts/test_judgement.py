@@ -174,7 +174,8 @@ class Foreign(Base):
             return False, None  # passlib's verify_and_update
 
         answers = (0, 1, "", "no", b"", (), [], object())
-        hooks = (pair, awaited, *(lambda text, password, it=it: it for it in answers))
+        hooks = [pair, awaited]
+        hooks += [lambda text, password, answer=answer: answer for answer in answers]
         texts = ("verify ann x", "login ann x", "change ann x new", "remove ann x")
         for hook, text in itertools.product(hooks, texts):
             with self.subTest(hook=hook, text=text):

@@ -146,16 +146,25 @@ class InPython(Base):
             accounts.login("ann", "one")
 
     @each(
-        (lambda it: PerThread(it.conn), r"PerThread needs a function that .*, not a Connection"),
-        (lambda it: PerThread("sqlite:///users.db"), "opens a connection, not a str"),
-        (lambda it: PerUse(it.conn), r"PerUse needs a function that .*, not a Connection"),
-        (lambda it: of_engine("sqlite:///users.db"), "an engine of SQLAlchemy, not a str"),
-        (lambda it: it.over(use()), r"not a _GeneratorContextManager: PerThread\(connect\)"),
-        (lambda it: AsyncAccounts(of_task(), it.dialect, LOW), r"Manager: PerUse\(connect\)"),
-        (lambda it: it.accounts(patience="10"), "patience must be a number of seconds, not a str"),
-        (lambda it: it.accounts(patience=None), "patience must be a number of seconds, not a None"),
-        (lambda it: it.accounts(executor=THREAD), "only AsyncAccounts uses an executor"),
-        (lambda it: it.accounts(upgrade_from=LOW.costs), "a list of costs, not a str"),
+        (
+            lambda case: PerThread(case.conn),
+            r"PerThread needs a function that .*, not a Connection",
+        ),
+        (lambda case: PerThread("sqlite:///users.db"), "opens a connection, not a str"),
+        (lambda case: PerUse(case.conn), r"PerUse needs a function that .*, not a Connection"),
+        (lambda case: of_engine("sqlite:///users.db"), "an engine of SQLAlchemy, not a str"),
+        (lambda case: case.over(use()), r"not a _GeneratorContextManager: PerThread\(connect\)"),
+        (lambda case: AsyncAccounts(of_task(), case.dialect, LOW), r"Manager: PerUse\(connect\)"),
+        (
+            lambda case: case.accounts(patience="10"),
+            "patience must be a number of seconds, not a str",
+        ),
+        (
+            lambda case: case.accounts(patience=None),
+            "patience must be a number of seconds, not a None",
+        ),
+        (lambda case: case.accounts(executor=THREAD), "only AsyncAccounts uses an executor"),
+        (lambda case: case.accounts(upgrade_from=LOW.costs), "a list of costs, not a str"),
     )
     def test_what_stands_in_the_place_of_another(self, act, words):
         self.assertRaisesRegex(TypeError, words, act, self)
@@ -203,11 +212,15 @@ class InPython(Base):
 
     @each(
         (
-            lambda it: Accounts(PerThread(it.connect), Postgres("users", "name", "record"), LOW),
+            lambda case: Accounts(
+                PerThread(case.connect), Postgres("users", "name", "record"), LOW
+            ),
             "psycopg 3",
         ),
         (
-            lambda it: Accounts(PerThread(lambda: it.connect(autocommit=False)), it.dialect, LOW),
+            lambda case: Accounts(
+                PerThread(lambda: case.connect(autocommit=False)), case.dialect, LOW
+            ),
             "autocommit",
         ),
     )

@@ -123,10 +123,10 @@ class Rules(Base):
             return accounts.commit(accounts.work(ticket))
 
         return (
-            lambda it: accounts.enrol("ben", it),
-            lambda it: accounts.change("ann", "one", it),
-            lambda it: accounts.reset("ann", it),
-            lambda it: accounts.perform(Request(Kind.RESET, "ann", "", it)),
+            lambda password: accounts.enrol("ben", password),
+            lambda password: accounts.change("ann", "one", password),
+            lambda password: accounts.reset("ann", password),
+            lambda password: accounts.perform(Request(Kind.RESET, "ann", "", password)),
             accounts.new_record,
             part,
         )

@@ -221,7 +221,12 @@ class Operations(Base):
     def test_a_connection_that_is_not_rolled_back_is_given_up(self):
         """The server undid the transaction, but ROLLBACK fails: the connection is closed."""
         made = []
-        accounts = self.accounts(connect=lambda: made.append(self.connect()) or made[-1])
+
+        def connect():
+            made.append(self.connect())
+            return made[-1]
+
+        accounts = self.accounts(connect=connect)
         busy, table = sqlite3.OperationalError("database is locked"), accounts._table
         table.compare = mock.AsyncMock(wraps=table.compare, side_effect=[busy, mock.DEFAULT])
         self.dialect.undo = mock.AsyncMock(side_effect=busy)

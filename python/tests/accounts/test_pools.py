@@ -276,7 +276,11 @@ class OnePerThread(Base):
         """After an interrupt at any instruction the thread's next use works, on a connection
         without an open transaction, and no other connection stays open."""
         made, kept = [], []
-        connect = lambda: made.append(self.connect()) or made[-1]
+
+        def connect():
+            made.append(self.connect())
+            return made[-1]
+
         pool, is_over = PerThread(connect), False
 
         def use():

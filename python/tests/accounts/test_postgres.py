@@ -186,7 +186,12 @@ class OnPostgres(engines.OnPostgres, Base):
     def test_rows_are_read_as_they_are_sent(self):
         """After the first row the statement isn't at its end, so nothing stores all rows."""
         self.execute("INSERT INTO users SELECT 'user' || it FROM generate_series(1, 9) AS it")
-        made, connect = [], lambda: made.append(self.connect()) or made[-1]
+        made = []
+
+        def connect():
+            made.append(self.connect())
+            return made[-1]
+
         rows = _import.Rows(PerThread(connect), self.dialect).every()
         self.assertEqual(next(rows)[0], "ann")
         self.assertEqual(made[0].info.transaction_status.name, "ACTIVE")
@@ -305,7 +310,7 @@ class OnPostgres(engines.OnPostgres, Base):
         """Whether a COMMIT waited, and was cancelled: a new setting reaches the server's processes
         one by one."""
         notices, conn = [], self.another()
-        conn.add_notice_handler(lambda it: notices.append(it.severity))
+        conn.add_notice_handler(lambda notice: notices.append(notice.severity))
         self.execute("CREATE TABLE IF NOT EXISTS waits ()", conn=conn)
         self.execute("DROP TABLE waits", conn=conn)
         return "WARNING" in notices

@@ -55,9 +55,9 @@ class ThreeServers(unittest.TestCase):
         self.assertTrue(third.log_in(ADA, "one"))
         self.assertFalse(third.change(ADA, "other", "two"))
         self.assertTrue(second.change(ADA, "one", "two"))
-        for it in all_three:
-            self.assertFalse(it.log_in(ADA, "one"))
-            self.assertTrue(it.log_in(ADA, "two"))
+        for site in all_three:
+            self.assertFalse(site.log_in(ADA, "one"))
+            self.assertTrue(site.log_in(ADA, "two"))
         self.assertFalse(first.log_in("nobody@example.org", "two"))
 
     def test_accounts_without_a_record(self):

@@ -103,8 +103,9 @@ class Tortures(Base):
         unknown = lambda accounts: losing(accounts._dialect, before=False, times=10**6)
         mix = {"enrol": 1, "remove": 2, "reset": 1}
         accounts = self.run_one(alter=unknown, mix=mix, patience=0.0)
-        lines = [it for one in self.lines() for it in one if it["event"] == "answer"]
-        self.assertIn("unknown", {it["reply"] for it in lines})
+        events = [event for log in self.lines() for event in log]
+        answers = [event for event in events if event["event"] == "answer"]
+        self.assertIn("unknown", {answer["reply"] for answer in answers})
         self.assertIsNone(torture.verdict(accounts))
         self.assertTrue(any(it.found_out for it in self.operations(accounts)))
 

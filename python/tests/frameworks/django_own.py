@@ -11,7 +11,7 @@ import pathlib
 import sys
 
 FOLDER = pathlib.Path(sys.argv[1]) / "tests"
-sys.path[:0] = [str(FOLDER)]
+sys.path.insert(0, str(FOLDER))
 
 import django
 from django.conf import global_settings, settings

@@ -9,7 +9,7 @@ HERE = pathlib.Path(__file__).resolve().parent
 PACKAGE = HERE.parent.parent
 TOP = PACKAGE.parent
 
-sys.path[:0] = [str(PACKAGE), str(HERE), str(TOP)]
+sys.path = [str(PACKAGE), str(HERE), str(TOP), *sys.path]
 _NAMED = os.environ.get("PYTHONPATH")
 os.environ["PYTHONPATH"] = os.pathsep.join(filter(None, (str(PACKAGE), str(HERE), _NAMED)))
 

@@ -91,9 +91,9 @@ class Checks(unittest.TestCase):
 
     def found(self):
         found = [it for it in run_checks(tags=["security"]) if it.id.startswith("rigzumal.")]
-        for it in found:
-            self.assertIs(it.is_serious(), it.id.startswith("rigzumal.E"))
-            self.assertTrue(it.hint)
+        for message in found:
+            self.assertIs(message.is_serious(), message.id.startswith("rigzumal.E"))
+            self.assertTrue(message.hint)
         return [it for it in found if it.id != "rigzumal.W007"]
 
     def ids(self, **settings):
@@ -112,11 +112,11 @@ class Checks(unittest.TestCase):
         with comparing():
             self.assertEqual(self.ids(AUTHENTICATION_BACKENDS=listed), of_comparing)
         with override_settings(AUTHENTICATION_BACKENDS=listed):
-            for it in self.found():
-                if "W001" in it.id:
-                    self.assertIn("a CompareAndSetBackend", it.msg)
+            for message in self.found():
+                if "W001" in message.id:
+                    self.assertIn("a CompareAndSetBackend", message.msg)
                 elif listed and not isinstance(listed, str):
-                    self.assertIn(listed[-1], it.msg)
+                    self.assertIn(listed[-1], message.msg)
 
     @each(*HASHERS)
     def test_hashers(self, listed, said):

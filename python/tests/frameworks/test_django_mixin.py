@@ -137,14 +137,16 @@ class Compared(Written):
             lambda ann: passwords.change_password(ann, "old", "old"),
             lambda ann: passwords.set_password(ann, "old"),
         )
-        copies = (copy.copy, copy.deepcopy, lambda ann: pickle.loads(pickle.dumps(ann)))
+        saved = after(acts[0])
         return [
             self.again,
             self.lazy,
             made,
             lambda: self.model.objects.defer("password").get(),
             lambda: self.model.objects.only("email").get(),
-            *(lambda copied=copied: copied(after(acts[0])()) for copied in copies),
+            lambda: copy.copy(saved()),
+            lambda: copy.deepcopy(saved()),
+            lambda: pickle.loads(pickle.dumps(saved())),
             *(after(act, got) for act in acts for got in (self.again, self.lazy)),
         ]
 

@@ -84,7 +84,8 @@ class Walk(Served):
         shown = [it for it in self.browser.find_elements(CSS, ".error") if it.is_displayed()]
         self.assertEqual([it.get_attribute("id") for it in shown], [f"{it}-error" for it in errors])
         focused = self.browser.switch_to.active_element.get_attribute("id")
-        self.assertEqual(focused, [*errors, fields[0].get_attribute("id")][0])
+        first = errors[0] if errors else fields[0].get_attribute("id")
+        self.assertEqual(focused, first)
         self.picture(name)
 
     def test_a_walk(self):

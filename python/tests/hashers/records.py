@@ -9,7 +9,7 @@ import sys
 from unittest import mock
 
 HERE = pathlib.Path(__file__).resolve().parent
-sys.path[:0] = str(HERE.parents[1]), str(HERE.parents[2])
+sys.path = [str(HERE.parents[1]), str(HERE.parents[2]), *sys.path]
 os.environ["PYTHONPATH"] = f"{HERE.parents[1]}:{os.environ.get('PYTHONPATH', '')}".rstrip(":")
 
 import rigzumal

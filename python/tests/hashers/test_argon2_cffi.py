@@ -60,7 +60,9 @@ class LowLevel(Same):
                 "version": draw.choice((16, 19)),
             }
             for name in ("hash_secret", "hash_secret_raw"):
-                call = lambda it: getattr(it.low_level, name)(type=it.Type[kind], **named)
+                call = lambda module: getattr(module.low_level, name)(
+                    type=module.Type[kind], **named
+                )
                 self.same(call, named)
 
     def test_verdicts_are_theirs(self):
@@ -70,7 +72,7 @@ class LowLevel(Same):
                 self.same_verdict(given, password, kind)
 
     def same_verdict(self, hashed, password=b"x", kind="ID"):
-        verify = lambda it: it.low_level.verify_secret(hashed, password, it.Type[kind])
+        verify = lambda module: module.low_level.verify_secret(hashed, password, module.Type[kind])
         self.same(verify, hashed, password, kind)
 
     def test_long_hashes_are_verified(self):
@@ -96,7 +98,7 @@ class LowLevel(Same):
 
     @each(*range(-60, 20))
     def test_messages_are_theirs(self, number):
-        self.same(lambda it: it.low_level.error_to_str(number), number)
+        self.same(lambda module: module.low_level.error_to_str(number), number)
 
     @each("x", 5, None)
     def test_types(self, wrong):
@@ -125,11 +127,11 @@ class Hashers(Same):
         *(f"{OLD}\n", OLD.replace("2i", "2x"), OLD.replace("$c29", "$ c29")),
     )
     def test_answers_are_theirs(self, given):
-        self.same(lambda it: it.PasswordHasher(**COSTS).verify(given, "password"), given)
+        self.same(lambda module: module.PasswordHasher(**COSTS).verify(given, "password"), given)
 
     @each({"time_cost": "1"}, {"type": "ID"}, {"hash_len": 1.0, "salt_len": None})
     def test_wrong_types_are_named(self, named):
-        self.same(lambda it: it.PasswordHasher(**named), named)
+        self.same(lambda module: module.PasswordHasher(**named), named)
 
     @each(
         ({"parallelism": 256, "memory_cost": 4096}, "Too many lanes"),
@@ -174,8 +176,12 @@ class Hashers(Same):
     )
     def test_signatures_are_theirs(self, place, names):
         for name in names:
-            signature = lambda it: inspect.signature(getattr(getattr(it, place), name))
-            self.same(lambda it: list(signature(it).parameters), name)
+
+            def parameters(module):
+                call = getattr(getattr(module, place), name)
+                return list(inspect.signature(call).parameters)
+
+            self.same(parameters, name)
 
 
 class Parameters(Same):
@@ -189,8 +195,9 @@ class Parameters(Same):
         names = [it.name for it in dataclasses.fields(ours.Parameters)]
         for text in texts:
 
-            def values(it):
-                found = (getattr(it.extract_parameters(text), name) for name in names)
+            def values(module):
+                parameters = module.extract_parameters(text)
+                found = [getattr(parameters, name) for name in names]
                 return [getattr(value, "name", value) for value in found]
 
             self.same(values, text)
@@ -219,9 +226,11 @@ class Parameters(Same):
         hashed = ours.PasswordHasher().hash("x")
         self.assertTrue(hashed.startswith("$argon2id$v=19$m=65536,t=3,p=4$"), hashed)
         self.assertEqual(ours.profiles.get_default_parameters(), ours.extract_parameters(hashed))
-        names = "TIME_COST MEMORY_COST PARALLELISM HASH_LENGTH RANDOM_SALT_LENGTH"
-        found = [getattr(ours, f"DEFAULT_{name}") for name in names.split()]
-        self.assertEqual(found, [3, 65536, 4, 32, 16])
+        self.assertEqual(ours.DEFAULT_TIME_COST, 3)
+        self.assertEqual(ours.DEFAULT_MEMORY_COST, 65536)
+        self.assertEqual(ours.DEFAULT_PARALLELISM, 4)
+        self.assertEqual(ours.DEFAULT_HASH_LENGTH, 32)
+        self.assertEqual(ours.DEFAULT_RANDOM_SALT_LENGTH, 16)
         self.assertEqual(ours.low_level.ARGON2_VERSION, 19)
         self.assertEqual(ours.PasswordHasher().encoding, "utf-8")
 

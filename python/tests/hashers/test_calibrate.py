@@ -19,17 +19,17 @@ EACH_WORD = "--target-ms 70 --memory 32M --lanes 3 --threads 2 --below"
 
 def linear(rate):
     """A machine whose threads share the work: milliseconds a KiB of a pass."""
-    return lambda it: it.time_cost * it.memory_cost * rate / it.threads
+    return lambda hasher: hasher.time_cost * hasher.memory_cost * rate / hasher.threads
 
 
 def with_dear_passes(rate):
     """A machine on which each pass takes longer than the one before."""
-    return lambda it: it.time_cost**1.5 * it.memory_cost * rate
+    return lambda hasher: hasher.time_cost**1.5 * hasher.memory_cost * rate
 
 
-def with_a_slow_start(it):
+def with_a_slow_start(hasher):
     """A machine on which the first pass takes much longer than each other one."""
-    return 50 + 10 * it.time_cost
+    return 50 + 10 * hasher.time_cost
 
 
 def tried(machine, target, memory, lanes, threads=1, below=True):
@@ -48,7 +48,7 @@ class Trials(unittest.TestCase):
         (linear(1 / 512), 256, 65536, 1, (65536, 2)),
         (linear(1 / 1024), 1000, 65536, 1, (65536, 15)),
         (linear(0.01), 40, 16, 1, (16, 250)),
-        *((linear(1000), 1, 65536, it, (8 * it, 1)) for it in (1, 2, 255)),
+        *((linear(1000), 1, 65536, lanes, (8 * lanes, 1)) for lanes in (1, 2, 255)),
         (linear(1 / 64), 250, 65536, 4, (16000, 1)),
         (with_a_slow_start, 250, 65536, 1, (65536, 19)),
         (with_a_slow_start, 59.9, 65536, 1, (8, 1)),
@@ -117,7 +117,11 @@ class Shell(unittest.TestCase):
     def asked(self, *words):
         """The shell's command: its costs, its output and its messages."""
         out, err, argv = io.StringIO(), io.StringIO(), ["rigzumal", "calibrate", *words]
-        asked = mock.Mock(side_effect=lambda *given: iter(tried(linear(1 / 1024), *given)))
+
+        def found(*given):
+            return iter(tried(linear(1 / 1024), *given))
+
+        asked = mock.Mock(side_effect=found)
         with mock.patch.object(__main__, "trials", asked), mock.patch.object(sys, "argv", argv):
             with contextlib.redirect_stdout(out), contextlib.redirect_stderr(err):
                 self.assertEqual(__main__.main(), 0)

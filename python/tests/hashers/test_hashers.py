@@ -117,7 +117,10 @@ class Inputs(unittest.TestCase):
         self.assertEqual(LEAST.hash(holds, salt=holds), wanted)
         self.assertTrue(LEAST.verify(wanted, holds))
         self.assertEqual(scrypt.hash(holds, salt=holds), scrypt.hash(data, salt=data))
-        tag = lambda it: rigzumal.argon2(it, it, secret=it, associated=it, **LEAST_COSTS)
+
+        def tag(data):
+            return rigzumal.argon2(data, data, secret=data, associated=data, **LEAST_COSTS)
+
         self.assertEqual(tag(holds), tag(data))
         made = LEAST.replace(secret=holds).hash("x", salt=data)
         self.assertTrue(LEAST.replace(secret=data).verify(made, "x"))
@@ -126,7 +129,8 @@ class Inputs(unittest.TestCase):
         secret = bytearray(b"pepper")
         hasher = LEAST.replace(secret=secret)
         made = hasher.hash("x")
-        secret[:] = b"salted"
+        secret.clear()
+        secret.extend(b"salted")
         self.assertTrue(hasher.verify(made, "x"))
         self.assertTrue(LEAST.replace(secret=b"pepper").verify(made, "x"))
 
@@ -141,9 +145,10 @@ class Inputs(unittest.TestCase):
         """scrypt equals hashlib's, for keys, passwords and salts of every length, and in a
         record."""
         lengths = (0, 1, 63, 64, 65, 127, 128, 129, 255, 256, 257, 300, 1000, 5000, 100_000)
-        inputs = [bytes(it * 37 % 251 for it in range(length)) for length in lengths]
-        given = [(it, b"salt", 32) for it in inputs] + [(b"password", it, 32) for it in inputs]
-        given += [(b"password", b"s", it) for it in (*range(1, 8), *range(62, 101), 1000)]
+        inputs = [some_bytes(length) for length in lengths]
+        given = [(password, b"salt", 32) for password in inputs]
+        given += [(b"password", salt, 32) for salt in inputs]
+        given += [(b"password", b"s", length) for length in (*range(1, 8), *range(62, 101), 1000)]
         for password, salt, length in given:
             with self.subTest(password=password, salt=salt):
                 key = rigzumal.scrypt(password, salt, log2_n=2, r=1, p=3, length=length)
@@ -152,6 +157,10 @@ class Inputs(unittest.TestCase):
         record = ScryptHasher(log2_n=4, block_size=2, parallelism=3).hash("password", salt=b"s")
         wanted = hashlib.scrypt(b"password", salt=b"s", n=16, r=2, p=3, dklen=32)
         self.assertEqual(record, f"$scrypt$ln=4,r=2,p=3$cw${unpadded(wanted)}")
+
+
+def some_bytes(length):
+    return bytes(at * 37 % 251 for at in range(length))
 
 
 class Parts(unittest.TestCase):

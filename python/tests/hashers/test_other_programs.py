@@ -40,10 +40,12 @@ def salt_of(size):
 
 
 def by_program(kind, version, numbers, password):
-    m, t, p, salt, tag = numbers
-    line = f"argon2 {'somesalt' * 64:.{salt}} -{kind} -v {version:x} -e -k {m} -t {t} -p {p}"
-    words, given = [*line.split(), "-l", str(tag)], {"input": password, "check": True}
-    return subprocess.run(words, stdout=subprocess.PIPE, **given).stdout.decode().strip()
+    memory, passes, lanes, salt, tag = numbers
+    salt_text = ("somesalt" * 64)[:salt]
+    words = ["argon2", salt_text, f"-{kind}", "-v", f"{version:x}", "-e"]
+    words += ["-k", str(memory), "-t", str(passes), "-p", str(lanes), "-l", str(tag)]
+    done = subprocess.run(words, input=password, stdout=subprocess.PIPE, check=True)
+    return done.stdout.decode().strip()
 
 
 def argon2_by_passlib(kind, version, numbers, password):
@@ -51,11 +53,12 @@ def argon2_by_passlib(kind, version, numbers, password):
     `v=`."""
     from passlib.hash import argon2
 
-    m, t, p, salt, tag = numbers
+    memory, passes, lanes, salt, tag = numbers
     if version == 0x10:
-        numbers = f"m={m},t={t},p={p}${unpadded(salt_of(salt))}${unpadded(bytes(tag))}"
-        return argon2.genhash(password, f"$argon2{kind}${numbers}")
-    costs = {"memory_cost": m, "time_cost": t, "parallelism": p}
+        costs = f"m={memory},t={passes},p={lanes}"
+        setting = f"${costs}${unpadded(salt_of(salt))}${unpadded(bytes(tag))}"
+        return argon2.genhash(password, f"$argon2{kind}{setting}")
+    costs = {"memory_cost": memory, "time_cost": passes, "parallelism": lanes}
     handler = argon2.using(type=kind, salt=salt_of(salt), **costs)
     handler.checksum_size = tag
     return handler.hash(password)
@@ -112,10 +115,10 @@ class Further(Judged):
         for text in texts:
             bare = text[text.index("$") :]
             self.check_read(bare, b"correct horse")
-            it = rigzumal.parts(bare)
-            sizes = {"hash_len": it.tag_size, "salt_len": it.salt_size}
-            kind = Type[it.scheme.removeprefix("argon2").upper()]
-            hasher = PasswordHasher(it.passes, it.memory, it.lanes, **sizes, type=kind)
+            parts = rigzumal.parts(bare)
+            sizes = {"hash_len": parts.tag_size, "salt_len": parts.salt_size}
+            kind = Type[parts.scheme.removeprefix("argon2").upper()]
+            hasher = PasswordHasher(parts.passes, parts.memory, parts.lanes, **sizes, type=kind)
             made, tried = hasher.hash(b"correct horse"), (b"correct horse", other(b"correct horse"))
             # That program accepts our string.
             self.assertEqual([says(made, password) for password in tried], [True, False])

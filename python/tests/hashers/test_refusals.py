@@ -51,7 +51,11 @@ class Refusals(unittest.TestCase):
     def test_texts(self, text, word, message=None):
         """The message names a number out of its range, with the range, and nothing else of the
         text."""
-        for call in (lambda it: SMALL.verify(it, "x"), SMALL.check_needs_rehash, rigzumal.parts):
+        for call in (
+            lambda record: SMALL.verify(record, "x"),
+            SMALL.check_needs_rehash,
+            rigzumal.parts,
+        ):
             self.refused(rigzumal.InvalidRecordError, word, call, text, message=message)
 
     @each(
@@ -102,8 +106,8 @@ class Refusals(unittest.TestCase):
 
     def test_numbers(self):
         bad, call = rigzumal.InvalidNumbersError, rigzumal.argon2
-        for name, it, word in (("time_cost", 0, "passes"), ("version", 18, "noversion")):
-            self.refused(bad, word, call, "x", b"somesalt", **{**LEAST_COSTS, name: it})
+        for name, number, word in (("time_cost", 0, "passes"), ("version", 18, "noversion")):
+            self.refused(bad, word, call, "x", b"somesalt", **{**LEAST_COSTS, name: number})
         self.refused(bad, "tagsize", call, "x", b"somesalt", **LEAST_COSTS, hash_len=3)
         self.refused(bad, "scryptcost", rigzumal.scrypt, "x", b"", log2_n=0, r=8, p=1)
         self.assertRaises(OverflowError, rigzumal.scrypt, "x", b"", log2_n=2**32 + 4, r=8, p=1)
@@ -118,12 +122,12 @@ class Refusals(unittest.TestCase):
             self.assertRaises(TypeError, SMALL.hash, wrong)
         for wrong in (16, "somesalt", [1] * 16, (b"somesalt",)):
             for call in (
-                lambda it: SMALL.hash("x", salt=it),
-                lambda it: ScryptHasher(log2_n=1).hash("x", salt=it),
-                lambda it: rigzumal.scrypt("x", it, log2_n=1, r=1, p=1),
+                lambda salt: SMALL.hash("x", salt=salt),
+                lambda salt: ScryptHasher(log2_n=1).hash("x", salt=salt),
+                lambda salt: rigzumal.scrypt("x", salt, log2_n=1, r=1, p=1),
                 tag,
-                lambda it: tag(associated=it),
-                lambda it: PasswordHasher(secret=it),
+                lambda data: tag(associated=data),
+                lambda secret: PasswordHasher(secret=secret),
             ):
                 with self.subTest(wrong=wrong, call=call):
                     self.assertRaises(TypeError, call, wrong)

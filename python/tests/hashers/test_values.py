@@ -45,7 +45,7 @@ class Defaults(unittest.TestCase):
     def test_modules_that_take_long_are_not_imported(self, name):
         """Apart from ctypes and enum only small modules are imported: the time is at most twice
         argon2-cffi's."""
-        front = f"import sys; sys.path[:0] = [{str(PYTHON)!r}]"
+        front = f"import sys; sys.path.insert(0, {str(PYTHON)!r})"
         script = f"{front}; import {name}; print(*sys.modules)"
         found = set(python("-I", "-S", "-c", script).split())
         self.assertIn(name, found)

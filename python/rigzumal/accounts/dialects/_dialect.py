@@ -108,20 +108,21 @@ class Dialect:
             raise TypeError(f"keys here are of {names}, not {found}")
         self.table_name, self.key_name, self.record_name = table, key, record
         self.key_type = key_type
-        self.table = t = ".".join(map(self.quoted, table.split(".")))
-        self.key, self.record = k, r = self.quoted(key), self.quoted(record)
-        m = self.mark
-        same = self._same.format(r=r, m=m)
-        self.select = f"SELECT {r} FROM {t} WHERE {k} = {m}"
+        self.table = ".".join(map(self.quoted, table.split(".")))
+        self.key, self.record = self.quoted(key), self.quoted(record)
+        has_key = f"WHERE {self.key} = {self.mark}"
+        same = self._same.format(record=self.record, mark=self.mark)
+        self.select = f"SELECT {self.record} FROM {self.table} {has_key}"
         self.locked = self.select + self._lock
-        self.update = f"UPDATE {t} SET {r} = {m} WHERE {k} = {m} AND {same}"
+        self.update = f"UPDATE {self.table} SET {self.record} = {self.mark} {has_key} AND {same}"
         if self.returns:
-            self.update += f" RETURNING {r}"
-        self.at_once = self._at_once(t, k, r)
-        self.insert = f"INSERT INTO {t} ({k}) VALUES ({m})"
-        self.every = self.alone(f"SELECT {k}, {r} FROM {t} ORDER BY {k}")
+            self.update += f" RETURNING {self.record}"
+        self.at_once = self._at_once()
+        self.insert = f"INSERT INTO {self.table} ({self.key}) VALUES ({self.mark})"
+        columns = f"{self.key}, {self.record}"
+        self.every = self.alone(f"SELECT {columns} FROM {self.table} ORDER BY {self.key}")
 
-    def _at_once(self, t: str, k: str, r: str) -> str:
+    def _at_once(self) -> str:
         return ""
 
     # ---- statements of many rows, each with its values
@@ -130,14 +131,14 @@ class Dialect:
         """Adds accounts with their records, except accounts that exist."""
         rows = ", ".join([f"({self.mark}, {self.mark})"] * len(lines))
         sql = f"INSERT INTO {self.table} ({self.key}, {self.record}) VALUES {rows}"
-        return (sql + self._unless_exists.format(k=self.key), *itertools.chain(*lines))
+        return (sql + self._unless_exists.format(key=self.key), *itertools.chain(*lines))
 
     def enrolling(self, lines: Sequence[Line]) -> Sequence[Any]:
         """Writes records into rows without a record."""
-        k, r, m = self.key, self.record, self.mark
-        record = f"CASE {k}{f' WHEN {m} THEN {m}' * len(lines)} END"
-        keys = ", ".join([m] * len(lines))
-        sql = f"UPDATE {self.table} SET {r} = {record} WHERE {k} IN ({keys}) AND {r} IS NULL"
+        cases = f" WHEN {self.mark} THEN {self.mark}" * len(lines)
+        keys = ", ".join([self.mark] * len(lines))
+        sql = f"UPDATE {self.table} SET {self.record} = CASE {self.key}{cases} END"
+        sql += f" WHERE {self.key} IN ({keys}) AND {self.record} IS NULL"
         return (sql, *itertools.chain(*lines), *(key for key, _ in lines))
 
     def standing(self, keys: Sequence[Key]) -> Sequence[Any]:

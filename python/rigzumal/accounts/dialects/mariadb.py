@@ -61,8 +61,8 @@ class MariaDB(Dialect):
     # caller's transaction.
     _lock = " FOR UPDATE"
     # INSERT IGNORE would store a truncated record.
-    _unless_exists = " ON DUPLICATE KEY UPDATE {k} = {k}"
-    _same = "CAST({r} AS BINARY) <=> CAST({m} AS BINARY)"
+    _unless_exists = " ON DUPLICATE KEY UPDATE {key} = {key}"
+    _same = "CAST({record} AS BINARY) <=> CAST({mark} AS BINARY)"
 
     def __init__(self, table: str, key: str, record: str, key_type: type = str) -> None:
         super().__init__(table, key, record, key_type)
@@ -86,9 +86,9 @@ class MariaDB(Dialect):
             raise StoreFault(UNCOMMITTED)
         self._prepared.add(session.conn)
 
-    def _at_once(self, t: str, k: str, r: str) -> str:
+    def _at_once(self) -> str:
         # The transaction of several statements, as one statement that the server runs.
-        look = f"SELECT {r} INTO stands FROM {t} WHERE {k} = %s"
+        look = f"SELECT {self.record} INTO stands FROM {self.table} WHERE {self.key} = %s"
         is_put = "CAST(stands AS BINARY) <=> CAST(%s AS BINARY)"
         return (
             "BEGIN NOT ATOMIC DECLARE touched INT; DECLARE stands LONGTEXT;"
@@ -186,27 +186,30 @@ class MariaDB(Dialect):
         return str(raised.args[1]) if is_missing else ""
 
     async def examine(self, session: Session) -> Findings:
-        schema, _, t = self.table_name.rpartition(".")
-        found = await session.execute(_COLUMNS, schema, t)
+        schema, _, table = self.table_name.rpartition(".")
+        found = await session.execute(_COLUMNS, schema, table)
         columns = {name: more for name, *more in found.rows}
         missing = self.missing(columns)
         if missing:
             return Findings(missing, is_usable=False)
-        unique = await session.execute(_UNIQUE, schema, t, self.key_name)
-        *record, nullable = columns[self.record_name]
-        faults = [*self.common_faults(nullable == "YES", [it for (it,) in unique.rows])]
-        key, _, charset, _ = columns[self.key_name]
-        faults += self._type_faults(key, *record)
-        ((engine,),) = (await session.execute(_ENGINE, schema, t)).rows
+        unique = await session.execute(_UNIQUE, schema, table, self.key_name)
+        kind, length, charset, nullable = columns[self.record_name]
+        faults = [*self.common_faults(nullable == "YES", [text for (text,) in unique.rows])]
+        kind_of_key, _, charset_of_key, _ = columns[self.key_name]
+        faults += self._type_faults(kind_of_key, kind, length, charset)
+        ((engine,),) = (await session.execute(_ENGINE, schema, table)).rows
         if engine is None:
-            faults.append(error("not-a-table", f"{t} is no table"))
+            faults.append(error("not-a-table", f"{table} is no table"))
         elif engine != "InnoDB":
-            text = f"{t} is of {engine}, which has no transactions"
+            text = f"{table} is of {engine}, which has no transactions"
             said = "a failed change, or the rows of a hook, may remain"
             faults.append(error("no-transactions", f"{text}: {said}"))
         rows = (await session.execute("SHOW SESSION VARIABLES")).rows
         seen = {name: value for name, value in rows}
-        for name in dict.fromkeys((charset, seen["character_set_client"])):
+        charsets = [charset_of_key]
+        if seen["character_set_client"] != charset_of_key:
+            charsets.append(seen["character_set_client"])
+        for name in charsets:
             faults += self.alphabet_faults(name or "utf8mb4", _UNICODE)
         faults += [*of_server(seen), *await self.folded_names(session)]
         return Findings(faults, engine == "InnoDB", shown_early(seen))
@@ -234,7 +237,7 @@ class MySQL(MariaDB):
 
     key_sql = "VARCHAR(255) CHARACTER SET utf8mb4 COLLATE utf8mb4_0900_bin"
 
-    def _at_once(self, t: str, k: str, r: str) -> str:
+    def _at_once(self) -> str:
         return ""
 
 

@@ -56,7 +56,7 @@ class Postgres(Dialect):
     execute_options = {"prepare": False}
     # With this lock, other tables' rows may still refer to the account.
     _lock = " FOR NO KEY UPDATE"
-    _same = '{r}::text COLLATE "C" IS NOT DISTINCT FROM {m}::text'
+    _same = '{record}::text COLLATE "C" IS NOT DISTINCT FROM {mark}::text'
 
     def mode(self, conn: Any) -> Mode:
         # SQLAlchemy's own connections have a different `info`.
@@ -92,13 +92,13 @@ class Postgres(Dialect):
         # later.
         raise ConnectionError("the server is a standby") from caught
 
-    def _at_once(self, t: str, k: str, r: str) -> str:
+    def _at_once(self) -> str:
         # If the row has another value than the statement wrote, the statement divides by zero, and
         # the server undoes it.
-        same = f'{r}::text COLLATE "C" = %s::text'
-        size = f"octet_length({r}) = octet_length(%s::text)"
+        same = f'{self.record}::text COLLATE "C" = %s::text'
+        size = f"octet_length({self.record}) = octet_length(%s::text)"
         update = self.update.rpartition(" RETURNING ")[0]
-        one = f"(SELECT count(*) FROM {t} WHERE {k} = %s) = 1"
+        one = f"(SELECT count(*) FROM {self.table} WHERE {self.key} = %s) = 1"
         # If a trigger has set the record to NULL, neither comparison is true or false.
         is_put = f"COALESCE({same} AND {size}, false)"
         return f"{update} AND {one} RETURNING 1 / {is_put}::int"
@@ -173,15 +173,20 @@ class Postgres(Dialect):
     def _put_all(self) -> str:
         """Builds the statement that stores each name's first record in a row without a record, in
         the order of the names."""
-        t, k, r = self.table, self.key, self.record
         came = "SELECT DISTINCT ON (name) * FROM rigzumal_came ORDER BY name, number"
-        add = f"INSERT INTO {t} ({k}, {r}) SELECT name, made FROM came ON CONFLICT DO NOTHING"
-        where = f"kept.{k} = came.name AND kept.{r} IS NULL"
-        enrol = f"UPDATE {t} AS kept SET {r} = came.made FROM came WHERE {where}"
+        add = (
+            f"INSERT INTO {self.table} ({self.key}, {self.record})"
+            f" SELECT name, made FROM came ON CONFLICT DO NOTHING RETURNING {self.key} AS name"
+        )
+        enrol = (
+            f"UPDATE {self.table} AS kept SET {self.record} = came.made FROM came"
+            f" WHERE kept.{self.key} = came.name AND kept.{self.record} IS NULL"
+            " RETURNING came.number"
+        )
         found = "SELECT number FROM came JOIN added USING (name) UNION ALL SELECT * FROM enrolled"
         return self.alone(
-            f"WITH came AS ({came}), added AS ({add} RETURNING {k} AS name),"
-            f" enrolled AS ({enrol} RETURNING came.number) INSERT INTO rigzumal_put {found}"
+            f"WITH came AS ({came}), added AS ({add}), enrolled AS ({enrol})"
+            f" INSERT INTO rigzumal_put {found}"
         )
 
     @property
@@ -243,22 +248,22 @@ class Postgres(Dialect):
         return str(getattr(getattr(raised, "diag", None), "message_primary", None) or "")
 
     async def examine(self, session: Session) -> Findings:
-        t = self.table.replace("%%", "%")
+        table = self.table.replace("%%", "%")
         if session.conn.info.encoding == "ascii":
             text = "client_encoding is SQL_ASCII: the driver returns text as bytes"
             return Findings([error("encoding", text)], is_usable=False)
-        found = await session.execute(_COLUMNS, t)
+        found = await session.execute(_COLUMNS, table)
         columns = {name: more for name, *more in found.rows}
         missing = self.missing(columns)
         if missing:
             return Findings(missing, is_usable=False)
-        unique = (await session.execute(_UNIQUE, self.key_name, t)).rows
+        unique = (await session.execute(_UNIQUE, self.key_name, table)).rows
         kind, bound = columns[self.record_name]
-        faults = [*self.common_faults(not bound, [it for (it,) in unique])]
+        faults = [*self.common_faults(not bound, [text for (text,) in unique])]
         faults += self._type_faults(columns[self.key_name][0], kind)
-        triggers = await session.execute(_TRIGGERS, t)
+        triggers = await session.execute(_TRIGGERS, table)
         faults += self.after_triggers(triggers.rows)
-        kinds = await session.execute(_TABLE, t)
+        kinds = await session.execute(_TABLE, table)
         ((is_table, secured, sees_none, is_logged, has_heirs),) = kinds.rows
         if has_heirs:
             text = f"no index of {self.table_name} holds the keys of its child tables"
@@ -285,7 +290,8 @@ class Postgres(Dialect):
 
     def _type_faults(self, key: str, record: str) -> Iterator[Fault]:
         # The name of an extension's type begins with its schema, if that isn't on the search path.
-        key, record = (it.rpartition(".")[2] for it in (key, record))
+        key = key.rpartition(".")[2]
+        record = record.rpartition(".")[2]
         if record.startswith("character varying("):
             yield from self.length_faults(record, int(record[18:-1]))
         elif record not in ("text", "character varying", "citext"):

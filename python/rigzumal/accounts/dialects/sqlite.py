@@ -31,7 +31,7 @@ class Sqlite(Dialect):
     # writes, if another has written since.
     begin = "BEGIN IMMEDIATE"
     key_sql = "TEXT"
-    _same = "{r} COLLATE BINARY IS {m}"
+    _same = "{record} COLLATE BINARY IS {mark}"
 
     def mode(self, conn: Any) -> Mode:
         # SQLAlchemy's own connections have a method of this name.
@@ -79,10 +79,12 @@ class Sqlite(Dialect):
         return text if text.startswith(("no such table: ", "no such column: ")) else ""
 
     async def examine(self, session: Session) -> Findings:
-        schema, _, t = self.table_name.rpartition(".")
-        of = (t, schema) if schema else (t,)
-        info = f"pragma_table_xinfo({', '.join('?' * len(of))})"  # with generated columns
-        found = await session.execute(f'SELECT name, type, "notnull", pk FROM {info}', *of)
+        schema, _, table = self.table_name.rpartition(".")
+        in_schema = (schema,) if schema else ()
+        mark = ", ?" if schema else ""  # for the schema
+        info = f"pragma_table_xinfo(?{mark})"  # with generated columns
+        columns_of = f'SELECT name, type, "notnull", pk FROM {info}'
+        found = await session.execute(columns_of, table, *in_schema)
         # SQLite ignores the case of column names.
         spelled = {name.lower(): name for name in (self.record_name, self.key_name)}
         columns = {spelled.get(row[0].lower(), row[0]): row[1:] for row in found.rows}
@@ -92,32 +94,35 @@ class Sqlite(Dialect):
         kind, _, _ = columns[self.key_name]
         nullable = not columns[self.record_name][1]
         master = f"{self.quoted(schema or 'main')}.sqlite_master"
-        sql = _UNIQUE.format(master=master, of=", ?" if schema else "")
-        found = await session.execute(sql, *of, *of[1:])
-        name = self.key_name.lower()
-        unique = ["" if of_column == name else text for of_column, text in found.rows]
-        if [name for name, row in columns.items() if row[2]] == [self.key_name]:
+        sql = _UNIQUE.format(master=master, of=mark)
+        found = await session.execute(sql, table, *in_schema, *in_schema)
+        key = self.key_name.lower()
+        unique = ["" if column == key else text for column, text in found.rows]
+        if [name for name, (_, _, is_primary) in columns.items() if is_primary] == [self.key_name]:
             unique.append("")  # INTEGER PRIMARY KEY has no index
         faults = [*self._type_faults(kind)]
         faults += self.common_faults(nullable, unique)
         view = f"SELECT 1 FROM {master} WHERE type = 'view' AND lower(name) = lower(?)"
-        if (await session.execute(view, t)).rows:
+        if (await session.execute(view, table)).rows:
             faults.append(error("not-a-table", f"{self.table_name} is no table"))
         for (found_type,) in (await session.execute(self._others())).rows:
             faults.append(self.record_fault(f"a {found_type} in some row, not text"))
         triggers = await session.execute(
             f"SELECT name FROM {master} WHERE type = 'trigger'"
             " AND lower(tbl_name) = lower(?) AND upper(sql) LIKE '%AFTER%'",
-            t,
+            table,
         )
         faults += self.after_triggers(triggers.rows)
         seen = {}
         for name in _PRAGMAS:
-            ((seen[name],),) = (await session.execute(f"PRAGMA {name}")).rows
+            ((value,),) = (await session.execute(f"PRAGMA {name}")).rows
+            seen[name] = value
         faults += [*of_connection(seen), *await self.folded_names(session)]
         listed = (await session.execute("PRAGMA database_list")).rows
-        paths = [path for _, name, path in listed if name.lower() == (schema or "main").lower()]
-        return Findings(faults + [it for path in paths for it in of_disk(path)])
+        for _, name, path in listed:
+            if name.lower() == (schema or "main").lower():
+                faults += of_disk(path)
+        return Findings(faults)
 
     def _others(self) -> str:
         """Builds a query that finds records other than text in the first rows. SQLite allows such

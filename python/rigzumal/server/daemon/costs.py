@@ -7,10 +7,14 @@ from typing import Optional
 
 USUAL = "$argon2id$v=19$m=65536,t=3,p=4"  # credkeep's new records, if --setting isn't given
 TIMES = 16  # a line's costs may be this many times those of new records
+SALT_AND_TAG = r"(?:\$.*)?"  # which a setting may lack
 ARGON2 = re.compile(
-    r"\$argon2(?:d|i|id)\$v=19\$m=([0-9]{1,7}),t=([0-9]{1,10}),p=[0-9]{1,3}(?:\$.*)?"
+    r"\$argon2(?:d|i|id)\$v=19\$m=(?P<memory>[0-9]{1,7}),t=(?P<passes>[0-9]{1,10}),p=[0-9]{1,3}"
+    + SALT_AND_TAG
 )
-SCRYPT = re.compile(r"\$scrypt\$ln=([0-9]{1,2}),r=([0-9]{1,3}),p=([0-9]{1,3})(?:\$.*)?")
+SCRYPT = re.compile(
+    r"\$scrypt\$ln=(?P<log2_n>[0-9]{1,2}),r=(?P<r>[0-9]{1,3}),p=(?P<p>[0-9]{1,3})" + SALT_AND_TAG
+)
 MOST = 2**32 - 1  # of a size's number
 GIB = 2**20  # in KiB
 
@@ -27,11 +31,11 @@ class Costs:
 def costs_of(setting: str) -> Optional[Costs]:
     """Returns the costs of a setting, with or without its salt, or None for any other text."""
     if argon2 := ARGON2.fullmatch(setting):
-        memory, passes = int(argon2[1]), int(argon2[2])
-        return Costs(memory, memory * passes)
+        memory = int(argon2["memory"])
+        return Costs(memory, memory * int(argon2["passes"]))
     if scrypt := SCRYPT.fullmatch(setting):
-        log2, size, pieces = int(scrypt[1]), int(scrypt[2]), int(scrypt[3])
-        memory = math.ceil(128 * size * pieces * 2**log2 / 1024)
+        blocks = int(scrypt["r"]) * int(scrypt["p"]) * 2 ** int(scrypt["log2_n"])
+        memory = math.ceil(128 * blocks / 1024)  # blocks of 128 bytes
         return Costs(memory, 2 * memory)
     return None
 

@@ -19,7 +19,11 @@ log = logging.getLogger("credkeep-server")
 SELDOM = 3600.0  # seconds
 MOST_KEYS = 65536  # the most keys of logged messages to remember
 logged_at = dict[Hashable, float]()  # the times at which log_seldom logged each key
-MARKED = re.compile(rb"([!-~]+)(?: ([a-z]+))? \d{4}-\d\d-\d\dT\d\d:\d\d:\d\dZ")
+MARKED = re.compile(
+    rb"(?P<name>[!-~]+)"
+    rb"(?: (?P<mark>[a-z]+))?"
+    rb" \d{4}-\d\d-\d\dT\d\d:\d\d:\d\dZ"  # the time, as `utc` writes it
+)
 MOST_LINES = 4096  # lines of a journal that may wait for its disk
 UNDOES = {b"unlock": b"lock", b"renew": b"expire"}  # each of these marks ends another
 
@@ -160,7 +164,7 @@ class Marks(Journal):
         with suppress(FileNotFoundError), open(path, "rb", opener=private) as file:
             for line in file.read().split(b"\n"):
                 if found := MARKED.fullmatch(line):
-                    self.apply(found[1], found[2] or b"")
+                    self.apply(found["name"], found["mark"] or b"")
 
     def apply(self, name: bytes, mark: bytes) -> None:
         """Counts a mark of a name, or one that ends another mark."""

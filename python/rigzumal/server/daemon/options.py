@@ -131,9 +131,9 @@ def parser() -> Parser:
     words = ("NAME", "PATH", "MODE", "GROUP", "OPERATIONS")
     text = "a socket instead of the login and the admin socket; repeat the option for more"
     made.add_argument("--socket", nargs=5, action="append", metavar=words, help=text)
-    for it in fields(Options):
-        if it.metadata:
-            made.add_argument("--" + it.name.replace("_", "-"), **it.metadata)
+    for each in fields(Options):
+        if each.metadata:
+            made.add_argument("--" + each.name.replace("_", "-"), **each.metadata)
     return made
 
 
@@ -153,11 +153,12 @@ def parse(words: Sequence[str]) -> Options:
         ["login", f"{folder}/login.sock", "0660", "rigzumal", "verify,change,known"],
         ["admin", f"{folder}/admin.sock", "0600", "-", "all"],
     ]
-    options.doors = [door(*it) for it in given]
+    options.doors = [door(*words) for words in given]
     if options.http:
         _, _, mode, group, _ = given[0]
         options.doors.append(web_door(options.http, mode, group))
-    named = Counter(word for it in options.doors for word in (it.name, it.path))
-    if twice := [word for word, count in named.items() if count > 1]:
-        raise Problem(f"two sockets have the name {twice[0]}")
+    names = Counter(word for made in options.doors for word in (made.name, made.path))
+    for name, count in names.items():
+        if count > 1:
+            raise Problem(f"two sockets have the name {name}")
     return options

@@ -162,7 +162,7 @@ ANSWERS = {
         http=401,
     ),
     "bad 18 costly": refused(
-        "the record or the setting needs more than `--most-memory`" " or `--most-work` allows"
+        "the record or the setting needs more than `--most-memory` or `--most-work` allows"
     ),
     "bad 19 disk": Answer(
         "the disk of the book or of the audit log is too full for a change; logins continue",
@@ -198,9 +198,9 @@ class Operation:
     a guess. A line may lack SETTING.
     """
 
-    fields: str = "NAME"
+    fields: tuple[str, ...] = ()
     # The book's answers, without those to any line or any try, and without other texts.
-    answers: str = ""
+    answers: tuple[str, ...] = ()
     hashes: bool = False
     changes: bool = False
     is_own: bool = False  # the server answers, and not the book
@@ -215,7 +215,7 @@ class Operation:
     @cached_property
     def names(self) -> int:
         """The number of names among the operation's fields; the names come first."""
-        return sum(field in ("NAME", "OTHER") for field in self.fields.split())
+        return sum(field in ("NAME", "OTHER") for field in self.fields)
 
     @cached_property
     def new(self) -> int:
@@ -230,125 +230,128 @@ class Operation:
     @cached_property
     def wrong(self) -> bytes:
         """The answer to a wrong password."""
-        return b"wrong" if "wrong" in self.answers.split() else b"no"
+        return b"wrong" if "wrong" in self.answers else b"no"
 
     def place(self, field: str) -> int:
-        fields = self.fields.split()
-        return 1 + fields.index(field) if field in fields else 0
+        return 1 + self.fields.index(field) if field in self.fields else 0
 
 
 # The server's own answers to a new password, before it asks the book.
 TO_NEW_PASSWORDS = ("short",)
-LOOK = "yes expired absent noaccount"
+LOOK = ("yes", "expired", "absent", "noaccount")
+TRY = ("no", *LOOK)
 OPERATIONS = {
-    b"verify": Operation("NAME PW", f"no {LOOK}", hashes=True),
-    b"login": Operation("NAME PW", f"no {LOOK}", hashes=True),
+    b"verify": Operation(("NAME", "PW"), TRY, hashes=True),
+    b"login": Operation(("NAME", "PW"), TRY, hashes=True),
     b"change": Operation(
-        "NAME PW NEW [SETTING]",
-        "replaced wrong same absent noaccount",
+        ("NAME", "PW", "NEW", "[SETTING]"),
+        ("replaced", "wrong", "same", "absent", "noaccount"),
         hashes=True,
         changes=True,
     ),
     b"upgrade": Operation(
-        "NAME PW [SETTING]",
-        "upgraded kept wrong expired absent noaccount",
+        ("NAME", "PW", "[SETTING]"),
+        ("upgraded", "kept", "wrong", "expired", "absent", "noaccount"),
         hashes=True,
         changes=True,
     ),
     b"remove": Operation(
-        "NAME PW", "removed wrong expired absent noaccount", hashes=True, changes=True
+        ("NAME", "PW"),
+        ("removed", "wrong", "expired", "absent", "noaccount"),
+        hashes=True,
+        changes=True,
     ),
     b"enrol": Operation(
-        "NAME NEW [SETTING]", "enrolled exists noaccount", hashes=True, changes=True
+        ("NAME", "NEW", "[SETTING]"), ("enrolled", "exists", "noaccount"), hashes=True, changes=True
     ),
     b"reset": Operation(
-        "NAME NEW [SETTING]",
-        "replaced enrolled noaccount",
+        ("NAME", "NEW", "[SETTING]"),
+        ("replaced", "enrolled", "noaccount"),
         hashes=True,
         changes=True,
         command=Command("NAME", "ask for a new password, twice"),
     ),
-    b"account": Operation("NAME", "ok", changes=True),
+    b"account": Operation(("NAME",), ("ok",), changes=True),
     b"load": Operation(
-        "NAME RECORD",
-        "ok",
+        ("NAME", "RECORD"),
+        ("ok",),
         changes=True,
         command=Command("NAME", "store the record on standard input"),
     ),
     b"disable": Operation(
-        "NAME",
-        "disabled absent noaccount",
+        ("NAME",),
+        ("disabled", "absent", "noaccount"),
         changes=True,
         command=Command("NAME", "remove the record; the name stays"),
     ),
     b"delete": Operation(
-        "NAME",
-        "deleted noaccount",
+        ("NAME",),
+        ("deleted", "noaccount"),
         changes=True,
         command=Command("NAME", "remove the account"),
     ),
     b"rename": Operation(
-        "NAME OTHER",
-        "renamed exists noaccount",
+        ("NAME", "OTHER"),
+        ("renamed", "exists", "noaccount"),
         changes=True,
         command=Command("NAME NEW", "give an account another name"),
     ),
     b"lock": Operation(
-        "NAME",
-        "locked noaccount",
+        ("NAME",),
+        ("locked", "noaccount"),
         changes=True,
         command=Command("NAME", "refuse every password; the record stays"),
     ),
     b"unlock": Operation(
-        "NAME",
-        "unlocked none noaccount",
+        ("NAME",),
+        ("unlocked", "none", "noaccount"),
         changes=True,
         command=Command("NAME", "end a lock"),
     ),
     b"expire": Operation(
-        "NAME",
-        "expired absent noaccount",
+        ("NAME",),
+        ("expired", "absent", "noaccount"),
         changes=True,
         command=Command("NAME", "require another password"),
     ),
-    b"known": Operation("NAME", LOOK),
+    b"known": Operation(("NAME",), LOOK),
     b"show": Operation(
-        "NAME",
-        "none",
+        ("NAME",),
+        ("none",),
         command=Command("[--record] NAME", "print the costs of a record, or the whole record"),
     ),
-    b"list": Operation("FROM COUNT", command=Command("", "print all names")),
+    b"list": Operation(("FROM", "COUNT"), command=Command("", "print all names")),
     b"marks": Operation(
-        "FROM COUNT",
+        ("FROM", "COUNT"),
         command=Command("[NAME]", "print who is locked, and who must change the password"),
     ),
     b"forgive": Operation(
-        "NAME",
-        "forgiven noaccount",
+        ("NAME",),
+        ("forgiven", "noaccount"),
         command=Command("NAME", "end the wait after failed tries"),
     ),
     b"import": Operation(
-        "SIZE [OPTION]..",
+        ("SIZE", "[OPTION].."),
         changes=True,
         is_transfer=True,
         command=Command("[OPTION]..", "add the accounts of the lines on standard input"),
     ),
     b"export": Operation(
-        "", is_transfer=True, command=Command("", "print a line NAME:RECORD for each account")
+        (), is_transfer=True, command=Command("", "print a line NAME:RECORD for each account")
     ),
     b"backup": Operation(
-        "", is_transfer=True, command=Command("FILE", "write a copy of the whole book")
+        (), is_transfer=True, command=Command("FILE", "write a copy of the whole book")
     ),
     b"last": Operation(
-        "NAME",
-        "none",
+        ("NAME",),
+        ("none",),
         is_own=True,
         command=Command("NAME", "print the time of the last right password"),
     ),
     b"waits": Operation(
-        "", is_own=True, command=Command("", "print the names that must wait, with the seconds")
+        (), is_own=True, command=Command("", "print the names that must wait, with the seconds")
     ),
-    b"stats": Operation("", is_own=True, command=Command("", "print the counts of answers")),
+    b"stats": Operation((), is_own=True, command=Command("", "print the counts of answers")),
 }
 # The options of an import, as credkeep has them.
 ONLY_TRIED = "--dry-run"

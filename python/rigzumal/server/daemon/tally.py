@@ -134,15 +134,15 @@ class Tally:
     def waits(self) -> list[str]:
         """Returns the names whose wait isn't over, each as NAME:SECONDS with the remaining seconds.
         A try at that name was too early, and no login or `forgive` has ended its wait."""
-        early = self.early.items()
-        return [f"{name}:{rest}" for name, wait in early if (rest := wait.rest())]
+        rests = {name: wait.rest() for name, wait in self.early.items()}
+        return [f"{name}:{rest}" for name, rest in rests.items() if rest > 0]
 
     def stats(self) -> str:
         now: dict[str, object] = {**self.counts, "waited": f"{self.waited:.3f}"}
         now["waits"] = len(self.waits())
         now["clients"] = sum(sum(door.counts.values()) for door in self.doors)
         now["book"] = re.sub("[^A-Za-z0-9_.-]", "_", self.book)
-        return " ".join(["stats", *(f"{it}={now.get(it, 0)}" for it in COUNTED)])
+        return " ".join(["stats", *(f"{name}={now.get(name, 0)}" for name in COUNTED)])
 
     def answer(self, operation: bytes, name: str) -> str:
         """Returns the server's own answers; `last` is the time of a right password."""
@@ -158,11 +158,11 @@ class Tally:
 def metrics(path: str) -> str:
     """Returns the counts of the server at an admin socket, in Prometheus' text format."""
     try:
-        with socket.socket(socket.AF_UNIX) as it:
-            it.settimeout(10)
-            it.connect(path)
-            it.sendall(b"1 stats\n")
-            answer = it.makefile(errors="replace").readline(LONGEST_STATS)
+        with socket.socket(socket.AF_UNIX) as admin:
+            admin.settimeout(10)
+            admin.connect(path)
+            admin.sendall(b"1 stats\n")
+            answer = admin.makefile(errors="replace").readline(LONGEST_STATS)
     except OSError as fault:
         raise Problem(f"{path}: {fault.strerror or fault}") from None
     found = dict(re.findall(r" (\w+)=([\w.-]+)", answer))

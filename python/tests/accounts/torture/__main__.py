@@ -8,7 +8,7 @@ import shutil
 import sys
 
 FOLDER = pathlib.Path(__file__).resolve().parent
-sys.path[:0] = str(FOLDER.parent), str(FOLDER.parents[2])
+sys.path = [str(FOLDER.parent), str(FOLDER.parents[2]), *sys.path]
 
 from rigzumal._commands import Words, positive, say  # noqa: E402
 import torture  # noqa: E402

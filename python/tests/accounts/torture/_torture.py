@@ -110,6 +110,12 @@ class Torture:
         is_last = number % self.every == self.every - 1
         return self.url.startswith("postgres") and self.tasks > 0 and is_last
 
+    def risk_of(self, number):
+        """The risk that a process is killed at a change: the first process surely is."""
+        if not self.kill:
+            return 0.0
+        return 1.0 if number == 0 else RISK
+
     def _fill(self, names, top):
         conn = Database(self.url).connect()
         if self.url.startswith("sqlite"):
@@ -137,8 +143,7 @@ class Torture:
         """
         end, faults, running = time.monotonic() + self.seconds, 0, {}
         for number in range(self.processes):
-            risk = (1.0 if number == 0 else RISK) if self.kill else 0.0
-            running[number] = self._start(number, names, end, risk)
+            running[number] = self._start(number, names, end, self.risk_of(number))
         while running:
             time.sleep(0.02)
             if self.kill and random.random() < 0.05:

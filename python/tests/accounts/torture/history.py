@@ -111,20 +111,20 @@ def conflict(events):
     return None
 
 
-def possible(it, record, maker):
+def possible(operation, record, maker):
     """The replies that an operation may have for a record that `maker` wrote."""
     if record is None:
-        return {"enrolled" if it.kind in ("enrol", "reset") else "absent"}
-    if it.kind in ("enrol", "reset"):
-        return {"exists" if it.kind == "enrol" else "replaced"}
-    wrong = "no" if it.kind == "verify" else "wrong"
+        return {"enrolled" if operation.kind in ("enrol", "reset") else "absent"}
+    if operation.kind in ("enrol", "reset"):
+        return {"exists" if operation.kind == "enrol" else "replaced"}
+    wrong = "no" if operation.kind == "verify" else "wrong"
     rights = {"verify": "yes", "change": "replaced", "remove": "removed"}
-    right = rights.get(it.kind)
+    right = rights.get(operation.kind)
     if maker is None:
         return {wrong, right} if right else {wrong, "kept", "upgraded"}
-    if maker.password_after != it.password:
+    if maker.password_after != operation.password:
         return {wrong}
-    return {right or ("upgraded" if it.costs > maker.costs else "kept")}
+    return {right or ("upgraded" if operation.costs > maker.costs else "kept")}
 
 
 class _Span(NamedTuple):
@@ -146,36 +146,45 @@ class _Records:
         self.maker, self.replacer, self.at_none = {}, {}, []
         self.looks = collections.defaultdict(list)
         events = list(events)
-        for it in events:
-            if it.makes_change:
-                self._note_change(it)
-            elif it.before is None:
-                self.at_none.append(it)
+        for event in events:
+            if event.makes_change:
+                self._note_change(event)
+            elif event.before is None:
+                self.at_none.append(event)
             else:
-                self.looks[it.before].append(it)
-        for it in events:
-            self._judge(it)
+                self.looks[event.before].append(event)
+        for event in events:
+            self._judge(event)
 
-    def _note_change(self, it):
-        sides = ((it.after, self.maker, "put"), (it.before, self.replacer, "replaced"))
+    def _note_change(self, operation):
+        sides = (
+            (operation.after, self.maker, "put"),
+            (operation.before, self.replacer, "replaced"),
+        )
         for record, known, word in sides:
-            other = it if record is None else known.setdefault(record, it)
-            if other is not it:
-                raise _Conflict(f"{other.id} and {it.id} both {word} {record}")
+            other = operation if record is None else known.setdefault(record, operation)
+            if other is not operation:
+                raise _Conflict(f"{other.id} and {operation.id} both {word} {record}")
 
-    def _judge(self, it):
+    def _judge(self, operation):
         """Refuses a reply that isn't that of the whole operation on the record."""
-        record, by = it.before or "no record", self.replacer.get(it.before or "")
-        if it.kind == "end" and by is not None:
+        record, by = operation.before or "no record", self.replacer.get(operation.before or "")
+        if operation.kind == "end" and by is not None:
             raise _Conflict(f"{by.id} replaced {record}, which stands at the end")
-        if it.kind in ("seed", "end"):
+        if operation.kind in ("seed", "end"):
             return
-        if it.reply not in possible(it, it.before, self.maker.get(it.before or "")):
-            raise _Conflict(f"{it.id} ({it.kind}) was answered {it.reply} at {record}")
-        ends_with = it.after is not None if it.reply != "removed" else it.after is None
-        if it.makes_change and (not ends_with or it.after == it.before):
-            put = it.after or "no record"
-            raise _Conflict(f"{it.id} was answered {it.reply}, and put {put}")
+        if operation.reply not in possible(
+            operation, operation.before, self.maker.get(operation.before or "")
+        ):
+            raise _Conflict(
+                f"{operation.id} ({operation.kind}) was answered {operation.reply} at {record}"
+            )
+        ends_with = (
+            operation.after is not None if operation.reply != "removed" else operation.after is None
+        )
+        if operation.makes_change and (not ends_with or operation.after == operation.before):
+            put = operation.after or "no record"
+            raise _Conflict(f"{operation.id} was answered {operation.reply}, and put {put}")
 
     def spans(self):
         """The spans of the chains, and of operations at accounts without a record."""
@@ -203,15 +212,15 @@ class _Records:
             length += 1
             by = self.replacer.get(current)
             for group in (self.looks.get(current, ()), [by] if by else []):
-                for it in group:
-                    if it.answered < moment:
+                for operation in group:
+                    if operation.answered < moment:
                         name = late.id if late else "another"
-                        said = f"{it.id} was answered before {name} was called"
+                        said = f"{operation.id} was answered before {name} was called"
                         raise _Conflict(f"{said}, and can come after it alone")
-                for it in group:
-                    first, latest = min(first, it.answered), max(latest, it.called)
-                    if it.called > moment:
-                        moment, late = it.called, it
+                for operation in group:
+                    first, latest = min(first, operation.answered), max(latest, operation.called)
+                    if operation.called > moment:
+                        moment, late = operation.called, operation
             current = by.after if by else None
         return _Span(first, latest, f"the chain from {start}"), length
 
@@ -221,12 +230,12 @@ def _one_after_another(spans):
 
     If each two spans have an order, the order of their midpoints is an order of all.
     """
-    spans.sort(key=lambda it: it.first + it.last)
+    spans.sort(key=lambda span: span.first + span.last)
     latest = _Span(-math.inf, -math.inf, "")
-    for it in spans:
-        if latest.last > it.first:
-            raise _Conflict(f"{latest.name} and {it.name} stand at a time")
-        latest = max(latest, it, key=lambda span: span.last)
+    for span in spans:
+        if latest.last > span.first:
+            raise _Conflict(f"{latest.name} and {span.name} stand at a time")
+        latest = max(latest, span, key=lambda each: each.last)
 
 
 @dataclass
@@ -284,36 +293,44 @@ def _settle(account):
     no known operation replaced it, operations without an answer led from it to a removal.
     """
     end, putting, at = account.end.called, {}, collections.defaultdict(list)
-    for it in account.operations:
-        if not it.reply and it.attempts:
-            at[it.attempts[-1].before].append(it)
-            putting[it.attempts[-1].after] = it
+    for operation in account.operations:
+        if not operation.reply and operation.attempts:
+            at[operation.attempts[-1].before].append(operation)
+            putting[operation.attempts[-1].after] = operation
     todo = [account.end.before, *(it.before for it in _effective(account.operations))]
     while todo:
         record = todo.pop()
-        it = putting.get(record)
-        if record is not None and it is not None and not it.reply:
-            it.took_place(end)
-            todo.append(it.before)
+        writer = putting.get(record)
+        if record is not None and writer is not None and not writer.reply:
+            writer.took_place(end)
+            todo.append(writer.before)
     for record, maker in _unreplaced(account).items():
         # If several chains lead to a removal, the one whose last call is first counts: no answer
         # named a record between.
         ways = _ways_out(record, maker, at)
-        for it in min(ways, key=lambda way: max(it.called for it in way), default=()):
-            it.took_place(end)
+        for operation in min(ways, key=last_call, default=()):
+            operation.took_place(end)
+
+
+def last_call(operations):
+    return max(operation.called for operation in operations)
 
 
 def _ways_out(record, maker, at, way=()):
     """Each chain of operations without an answer from a record to none, by the records at which
     they were tried."""
-    for it in at[record]:
-        last = it.attempts[-1]
-        if it in way or it.reply or last.reply not in possible(it, record, maker):
+    for operation in at[record]:
+        last = operation.attempts[-1]
+        if (
+            operation in way
+            or operation.reply
+            or last.reply not in possible(operation, record, maker)
+        ):
             continue
         if last.after is None:
-            yield (*way, it)
+            yield (*way, operation)
         else:
-            yield from _ways_out(last.after, it, at, (*way, it))
+            yield from _ways_out(last.after, operation, at, (*way, operation))
 
 
 def _unreplaced(account):
@@ -326,9 +343,9 @@ def _unreplaced(account):
 def _complete(account, events):
     """Refuses a record that no operation wrote, and a missing one that none replaced."""
     put = {it.after for it in events if it.makes_change}
-    for it in events:
-        if it.before is not None and it.before not in put:
-            raise Illegal(f"nobody put the record {it.before}", [it])
+    for event in events:
+        if event.before is not None and event.before not in put:
+            raise Illegal(f"nobody put the record {event.before}", [event])
     for record, maker in _unreplaced(account).items():
         reason = f"the record {record} is gone, and nothing replaced it"
         raise Illegal(reason, [maker, account.end])

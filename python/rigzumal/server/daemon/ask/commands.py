@@ -123,8 +123,10 @@ class Commands:
             if said == "noaccount":
                 return said
             found = {names[0]: marks_of(said)}
-        told = [(name, mark) for name, marks in found.items() for mark in MARKS if mark in marks]
-        return "\n".join(f"{name}:{MARKS[mark]}" for name, mark in told)
+        lines = list[str]()
+        for name, marks in found.items():
+            lines += [f"{name}:{word}" for mark, word in MARKS.items() if mark in marks]
+        return "\n".join(lines)
 
     def show(self, name: str, is_whole: bool) -> str:
         """Returns the marks, followed by the costs of a record or by the whole record."""
@@ -133,7 +135,10 @@ class Commands:
         if said in ("none", marks):
             return "absent"
         is_record = said[len(marks) :].startswith("$")
-        return "$".join(said.split("$")[:-2]) if is_record and not is_whole else said
+        if is_whole or not is_record:
+            return said
+        costs = said.split("$")[:-2]  # without the salt and the tag
+        return "$".join(costs)
 
     def load(self, name: str) -> str:
         """Loads a record, or a line NAME:RECORD, from standard input."""

@@ -33,11 +33,14 @@ def meaning_of(words: list[str]) -> Words:
     for word in rest:
         name, equals, value = word.partition("=")
         if name in VALUED:
-            value = value if equals else next(rest, "")
-            wait = value if name == "--wait" else wait
+            if not equals:
+                value = next(rest, "")
+            if name == "--wait":
+                wait = value
         elif not word.startswith("-"):
             plain.append(word)
-    file, command, account = [*plain, "", "", ""][:3]
+    plain += ["", "", ""]  # in place of missing words
+    file, command, account = plain[:3]
     return Words(file, command, account, wait)
 
 
@@ -88,9 +91,10 @@ def status_without_asking(meant: Words) -> Optional[int]:
         return 4
     if status == 0:
         return None
-    has_no_record = status == 4 and (meant.command == "reset" and said == b"absent")
-    if has_no_record or status == 4 and meant.command == "add":
+    if status != 4:
+        return status
+    makes_first_record = meant.command == "add"
+    if makes_first_record or (meant.command == "reset" and said == b"absent"):
         return None
-    if status == 4:
-        print(said.decode())
+    print(said.decode())
     return status
