@@ -2,12 +2,12 @@ use Rattle.std.proofs.Common.{rules}
 use Rattle.cred_keep.proofs.book_command.perform.Goals as goal
 
 pub returns-in-Password-clause-done : goal.returns-in-Password-clause-done
-returns-in-Password-clause-done g c = λ basis fits. rw c.in-Account.is (c.carry_out.result, c.carry_out.ensures.done basis fits, c.command_end.ensures)
+returns-in-Password-clause-done g c = λ basis fits. rw c.in-Password.is (c.carry_out.result, c.carry_out.ensures.done basis fits, c.command_end.ensures)
 
 -- ---- commands that read nothing
 
 pub returns-in-Account-clause-done : goal.returns-in-Account-clause-done
-returns-in-Account-clause-done g c = λ basis fits. search (rules, c.carry_out.ensures basis)
+returns-in-Account-clause-done g c = λ basis fits. search (rules, c.carry_out-in-Account.ensures basis)
 
 pub returns-in-DisableShown-clause-done : goal.returns-in-DisableShown-clause-done
 returns-in-DisableShown-clause-done g c = λ basis fits. search (rules, c.disable_shown.ensures basis)
