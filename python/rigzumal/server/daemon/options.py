@@ -131,9 +131,9 @@ def parser() -> Parser:
     words = ("NAME", "PATH", "MODE", "GROUP", "OPERATIONS")
     text = "a socket instead of the login and the admin socket; repeat the option for more"
     made.add_argument("--socket", nargs=5, action="append", metavar=words, help=text)
-    for each in fields(Options):
-        if each.metadata:
-            made.add_argument("--" + each.name.replace("_", "-"), **each.metadata)
+    for attribute in fields(Options):
+        if attribute.metadata:
+            made.add_argument("--" + attribute.name.replace("_", "-"), **attribute.metadata)
     return made
 
 
@@ -153,12 +153,14 @@ def parse(words: Sequence[str]) -> Options:
         ["login", f"{folder}/login.sock", "0660", "rigzumal", "verify,change,known"],
         ["admin", f"{folder}/admin.sock", "0600", "-", "all"],
     ]
-    options.doors = [door(*words) for words in given]
+    options.doors = [door(*values) for values in given]
     if options.http:
         _, _, mode, group, _ = given[0]
         options.doors.append(web_door(options.http, mode, group))
-    names = Counter(word for made in options.doors for word in (made.name, made.path))
-    for name, count in names.items():
+    counts = Counter[str]()
+    for socket in options.doors:
+        counts.update((socket.name, socket.path))
+    for name, count in counts.items():
         if count > 1:
             raise Problem(f"two sockets have the name {name}")
     return options
