@@ -48,21 +48,21 @@ class Rows:
 
     def delete(self, key: Key) -> bool:
         """Deletes the account with its row. Returns False if the account doesn't exist."""
-        return self._changed("DELETE FROM {t} WHERE {k} = {m}", key)
+        return self._changed("DELETE FROM {table} WHERE {key} = {mark}", key)
 
     def rename(self, key: Key, new: Key) -> bool:
         """Renames the account. Returns False if the account doesn't exist.
 
         Raises the driver's IntegrityError if another account has the name.
         """
-        return self._changed("UPDATE {t} SET {k} = {m} WHERE {k} = {m}", new, key)
+        return self._changed("UPDATE {table} SET {key} = {mark} WHERE {key} = {mark}", new, key)
 
     def _changed(self, form: str, *values: Key) -> bool:
         """Runs a statement in its own transaction. Returns whether the statement changed a row."""
         dialect = self.dialect
         if not all(map(dialect.can_stand, values)):
             return False
-        sql = form.format(t=dialect.table, k=dialect.key, m=dialect.mark)
+        sql = form.format(table=dialect.table, key=dialect.key, mark=dialect.mark)
         with self.pool() as conn:
             session = Session(conn)
             run(dialect.start(session))

@@ -110,11 +110,11 @@ class Dialect:
         self.key_type = key_type
         self.table = ".".join(map(self.quoted, table.split(".")))
         self.key, self.record = self.quoted(key), self.quoted(record)
-        has_key = f"WHERE {self.key} = {self.mark}"
+        of_key = f"WHERE {self.key} = {self.mark}"
         same = self._same.format(record=self.record, mark=self.mark)
-        self.select = f"SELECT {self.record} FROM {self.table} {has_key}"
+        self.select = f"SELECT {self.record} FROM {self.table} {of_key}"
         self.locked = self.select + self._lock
-        self.update = f"UPDATE {self.table} SET {self.record} = {self.mark} {has_key} AND {same}"
+        self.update = f"UPDATE {self.table} SET {self.record} = {self.mark} {of_key} AND {same}"
         if self.returns:
             self.update += f" RETURNING {self.record}"
         self.at_once = self._at_once()
