@@ -18,11 +18,11 @@ _OURS: dict[str, Any] = {
 }
 
 
-def _ours(url: Any) -> Any:
+def _comparing(url: Any) -> Any:
     """Returns a URL of Django's, with our view if we have one of that name."""
     if url.name not in _OURS:
         return url
     return path(str(url.pattern), _OURS[url.name].as_view(), name=url.name)
 
 
-urlpatterns = [_ours(url) for url in urls.urlpatterns]
+urlpatterns = [_comparing(url) for url in urls.urlpatterns]

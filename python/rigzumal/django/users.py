@@ -199,10 +199,8 @@ def comparing(model: Any) -> Iterator[None]:
 def own_methods(classes: Any, *names: str) -> list[str]:
     """Returns the methods with these names that belong neither to Django nor to the mixin."""
     known = (AbstractBaseUser, CompareAndSetMixin)
-    others = [each for each in classes if each not in known]
-    return [
-        f"{each.__qualname__}.{name}" for name in names for each in others if name in vars(each)
-    ]
+    others = [cls for cls in classes if cls not in known]
+    return [f"{cls.__qualname__}.{name}" for name in names for cls in others if name in vars(cls)]
 
 
 def unreached_methods(model: Any) -> list[str]:
