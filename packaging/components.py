@@ -93,13 +93,11 @@ def package(about: dict[str, Any]) -> dict[str, Any]:
 
 def file_of(number: int, name: str, data: bytes) -> dict[str, Any]:
     """Returns the entry of a file in an SPDX document."""
-    sums = {"SHA1": hashlib.sha1(data), "SHA256": hashlib.sha256(data)}
+    sums = {"SHA1": hashlib.sha1(data).hexdigest(), "SHA256": hashlib.sha256(data).hexdigest()}
     return {
         "SPDXID": f"SPDXRef-file-{number}",
         "fileName": f"./{name.removeprefix('./')}",
-        "checksums": [
-            {"algorithm": kind, "checksumValue": sum_.hexdigest()} for kind, sum_ in sums.items()
-        ],
+        "checksums": [{"algorithm": kind, "checksumValue": value} for kind, value in sums.items()],
         "licenseConcluded": NOBODY,
         "copyrightText": NOBODY,
     }

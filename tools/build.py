@@ -222,8 +222,8 @@ def is_built(program, level):
     built, seal = files_of(program, level)
     if not (built.is_file() and seal.is_file()):
         return False
-    makers = [""] if has_rt() else ["", LINKED]
-    return seal.read_text() in [sum_of(program, level, maker) for maker in makers]
+    linkers = [""] if has_rt() else ["", LINKED]
+    return seal.read_text() in [sum_of(program, level, linker) for linker in linkers]
 
 
 def best_level(program):

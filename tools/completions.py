@@ -87,8 +87,8 @@ class Program:
 
     def filled(self, template):
         """Fills a template with the program's words."""
-        each = [*self.commands, self.top]
-        options = [option for command in each for option in command.options]
+        commands = [*self.commands, self.top]
+        options = [option for command in commands for option in command.options]
         valued = {f"--{name}" for name, value, _ in options if value}
         fields = {
             "NAME": self.name,
@@ -96,7 +96,7 @@ class Program:
             "ALIASES": "credkeep credkeep-ask" if self.name == "credkeep" else self.name,
             "COUNT": str(1 - self.file_first),
             "VALUED": " | ".join(sorted(valued)),
-            "OPTIONS": "\n".join(f"        {it.word or '*'}) {it.offered()} ;;" for it in each),
+            "OPTIONS": "\n".join(f"        {it.word or '*'}) {it.offered()} ;;" for it in commands),
             "COMMANDS": printed((it.word, it.text) for it in self.commands),
             "SERVER": printed(server_commands() if self.name == "credkeep" else ()),
             "ACCOUNTS": self.after("NAME"),

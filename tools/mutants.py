@@ -120,10 +120,10 @@ class Tokens:
         while 0 <= at + step < len(self.texts):
             beside = at + step
             text = self.texts[beside]
-            is_bracket = text in (OPENING if step < 0 else OPENING.values())
-            if text in ends or not is_bracket and self.within[beside] != self.within[at]:
+            begins_group = text in (OPENING if step < 0 else OPENING.values())
+            if text in ends or not begins_group and self.within[beside] != self.within[at]:
                 break
-            at = self.pair.get(beside, beside) if is_bracket else beside
+            at = self.pair.get(beside, beside) if begins_group else beside
         return at
 
     def parts(self, opening):

@@ -133,8 +133,8 @@ def verdicts(top, file, mutants, asked):
             for number in range(min(asked.jobs, len(mutants)))
         ]
         free, began = queue.Queue(), time.monotonic()
-        verdicts = pool.map(lambda copy: copy.verdict(copy.original, asked, asked.limit), made)
-        if {*verdicts} != {"survived"}:
+        unchanged = pool.map(lambda copy: copy.verdict(copy.original, asked, asked.limit), made)
+        if {*unchanged} != {"survived"}:
             sys.exit("the tests fail with nothing changed")
         took = time.monotonic() - began
         print(

@@ -157,8 +157,8 @@ def in_minutes(elapsed: str) -> str:
     """`7 min 23 s to 15 min 47 s` in the form of README: `7 to 16`."""
     times = []
     for hours, minutes, seconds in re.findall(r"(?:(\d+) h )?(\d+) min(?: (\d+) s)?", elapsed):
-        whole = int(hours or 0) * 60 + int(minutes) + int(seconds or 0) / 60
-        times.append(f"{whole:.0f}")
+        total = int(hours or 0) * 60 + int(minutes) + int(seconds or 0) / 60
+        times.append(f"{total:.0f}")
     return " to ".join(times)
 
 

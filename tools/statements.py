@@ -144,8 +144,8 @@ def imports_of(item: Item) -> list[tuple[str, Place]]:
     path = item.head[item.head.index("use") + 1 :]
     if "*" in path:
         raise ValueError(f"an import of unknown names: {''.join(path)}")
-    as_in_definitions = ["." if word == "::" else word for word in path]
-    return [*definitions.imported(as_in_definitions)]
+    words = ["." if word == "::" else word for word in path]
+    return [*definitions.imported(words)]
 
 
 def stated(item: Item, owner: Item | None, is_run: bool) -> list[str]:
