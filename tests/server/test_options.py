@@ -106,17 +106,10 @@ class Mistakes(Case):
         first = self.serving(folder=folder, faults="opens=3", waits=False)
         until(lambda: has_book(first), "the first begins")
         os.kill(first.book_pid(), signal.SIGSTOP)
-        words = (
-            "--credkeep",
-            str(FAST_BOOK),
-            "--socket",
-            "login",
-            f"{folder}/login.sock",
-            "0660",
-            "-",
-        )
-        said = f"credkeep-server: another server uses {folder}/login.sock\n"
-        self.assertEqual(ran(*words, "all", f"{folder}/u.db"), (1, "", said))
+        path = f"{folder}/login.sock"
+        words = ["--credkeep", str(FAST_BOOK), "--socket", "login", path, "0660", "-", "all"]
+        said = f"credkeep-server: another server uses {path}\n"
+        self.assertEqual(ran(*words, f"{folder}/u.db"), (1, "", said))
         self.assertNotIn("start:", first.log())
         self.assertFalse(first.path().exists(), "the socket is there before the book answers")
         os.kill(first.book_pid(), signal.SIGCONT)
