@@ -173,16 +173,13 @@ class _Records:
             raise _Conflict(f"{by.id} replaced {record}, which stands at the end")
         if operation.kind in ("seed", "end"):
             return
-        if operation.reply not in possible(
-            operation, operation.before, self.maker.get(operation.before or "")
-        ):
-            raise _Conflict(
-                f"{operation.id} ({operation.kind}) was answered {operation.reply} at {record}"
-            )
-        ends_with = (
-            operation.after is not None if operation.reply != "removed" else operation.after is None
-        )
-        if operation.makes_change and (not ends_with or operation.after == operation.before):
+        maker = self.maker.get(operation.before or "")
+        if operation.reply not in possible(operation, operation.before, maker):
+            said = f"{operation.id} ({operation.kind}) was answered {operation.reply}"
+            raise _Conflict(f"{said} at {record}")
+        is_removed = operation.after is None
+        is_right = is_removed == (operation.reply == "removed")
+        if operation.makes_change and (not is_right or operation.after == operation.before):
             put = operation.after or "no record"
             raise _Conflict(f"{operation.id} was answered {operation.reply}, and put {put}")
 
