@@ -15,7 +15,7 @@ LONGEST = (b"x" * 256, b"y" * 256, b"y" * 256)
 def changed(
     given: Sequence[bytes], verify: bytes = b"yes", change: bytes = b"replaced", **question: Any
 ) -> tuple[Said, list[bytes]]:
-    """The results of a change at a peer that answers each operation as `ways` say."""
+    """The results of a change at a peer with these answers to `verify` and to `change`."""
     with peer(answers(verify=b"1 " + verify + b"\n", change=b"1 " + change + b"\n")) as server:
         said = asked(Question(tasks="change", answers=given, **question), server.path)
         return said, [line for line in server.lines if not line.startswith(b"1 known ")]
