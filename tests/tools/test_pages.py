@@ -1,4 +1,5 @@
-"""tools/pages.py: README's times beside BUILDING's, and the order of crates in ARCHITECTURE."""
+"""tools/pages.py: README's times beside BUILDING's, the order of crates in ARCHITECTURE, shared
+clauses, and wrong bodies."""
 
 import subprocess
 import sys
@@ -47,6 +48,8 @@ impl Other {
     }
 }
 """
+SHARED = "clauses that two functions share"
+AGAIN = "lines of longer clauses that stand again"
 
 
 class Pages(Case):
@@ -109,11 +112,18 @@ class Pages(Case):
         write_files(room, {"low/src/lib.rt": SHARING, "example_of_use/src/lib.rt": SHARING})
         with mock.patch.object(contracts, "CRATES", room):
             found = contracts.shared_clauses()
-        again = "lines of longer clauses that stand again"
-        self.assertEqual(found, {"clauses that two functions share": 2, again: 4})
+        self.assertEqual(found, {SHARED: 2, AGAIN: 4})
+
+    def test_limits_of_shared_clauses(self) -> None:
+        """The tool complains of more shared clauses than the limits allow."""
+        counts = {SHARED: pages.MOST[SHARED] + 1, AGAIN: pages.MOST[AGAIN]}
+        with mock.patch.object(contracts, "shared_clauses", return_value=counts):
+            found = [it for it in pages.house() if it]
+        self.assertEqual(found, [f"8 {SHARED}: the limit is 7"])
 
     def test_wrong_bodies(self) -> None:
-        """A wrong body applies if its old text is once in its crate."""
+        """A wrong body applies if its old text is once in its crate, and the tool looks at each."""
+        self.assertIn(pages.applied, pages.OF_TREE)
         edit = "fn: one\nold: {}\nnew: {{ 2 }}\n"
         texts = {"low/src/lib.rt": "fn one() { 1 }\nfn two() { 3 } // { 3 }\n"}
         for name, old in (("once", "{ 1 }"), ("twice", "{ 3 }"), ("none", "{ 4 }")):
