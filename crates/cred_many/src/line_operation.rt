@@ -43,7 +43,7 @@ pub(crate) enum QuickOperation {
     ListMarks(Name, u16),
     /// Changes an account without asking for its password.
     OnAccount(AccountOperation),
-    /// Removes an account's record, and shows the account's line with it.
+    /// Removes an account's record, and asks for its line.
     DisableShown(Name),
     /// A line that is refused.
     Bad(Refusal),
