@@ -112,8 +112,9 @@ class Programs(unittest.TestCase):
             run(*VALGRIND, built(name, [*FAST, *JOBS], ALL))
 
     def test_calls(self):
-        """Texts, records, steps, salts and threads, good and bad, under the sanitizers."""
-        run_sanitized("-m", "unittest", "texts", "records", "steps", "with_threads")
+        """Texts, records, steps, salts, threads and hashes, good and bad, under the sanitizers."""
+        modules = ("texts", "records", "steps", "with_threads", "hashes")
+        run_sanitized("-m", "unittest", *modules)
 
     @each(
         (None, "16 32 64 60 64"),
