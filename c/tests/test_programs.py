@@ -31,6 +31,7 @@ PROGRAMS = (
     ("interrupted", FAST, SOURCES),
     ("interrupted", SANITIZED, SOURCES),
     ("threads", RACES, SOURCES),
+    ("early", FAST, SOURCES),
 )
 
 MIB = 1024 * 1024
