@@ -32,6 +32,7 @@ PROGRAMS = (
     ("interrupted", SANITIZED, SOURCES),
     ("threads", RACES, SOURCES),
     ("early", FAST, SOURCES),
+    ("refused_moves", FAST, SOURCES),
 )
 
 MIB = 1024 * 1024
@@ -81,7 +82,7 @@ def of_program(name, flags, linked, *words):
     """The test that builds a program and runs it."""
 
     def test(_):
-        if name == "forked_lanes":
+        if name in ("forked_lanes", "refused_moves"):
             need_native()
         run(built(name, flags, linked), *words)
 
