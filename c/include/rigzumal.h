@@ -263,6 +263,7 @@ enum rigzumal_reply {
  * SQLite before 3.39 writes IS. With = alone an ENROL would never find its copy. Compare bytes,
  * whatever the column's collation.
  *
+ * A wrong password costs as many hashes as a right one, so that the time doesn't tell them apart.
  * Without a copy a step computes no hash, except an ENROL. Make a record then, and discard it, so
  * that the answer takes as long as with a copy.
  *

@@ -157,16 +157,20 @@ static void give_area(area it, size_t used) {
         heap_trim();
 }
 
-/* Moves the pages of a kept area to the beginning of a new, larger one. If that fails, the system
+/* Moves the pages of a kept area to the beginning of a new, larger one. If the system fails to, it
  * may have unmapped the pages to be replaced, and another thread may have mapped others there
- * since: the heap leaves that range as it is, and maps another area. */
+ * since: the heap leaves that range as it is, and maps another area. If a filter of system calls
+ * refuses the move, nothing has changed. */
 static area grown_area(area it, area kept_one) {
     unsigned char *start = start_of(it);
     size_t size = size_of(it), moved = size_of(kept_one);
     if (mremap(start_of(kept_one), moved, moved, MREMAP_MAYMOVE | MREMAP_FIXED, start) !=
         MAP_FAILED)
         return it;
+    int fault = errno;
     unmap_area(kept_one);
+    if (fault == ENOSYS || fault == EPERM || fault == EACCES) /* of a filter */
+        return it;
     munmap(start + moved, size - moved);
     return map_area(size);
 }

@@ -12,16 +12,26 @@
 enum { LARGEST_PAGE = 64 * 1024 }; /* of any system */
 
 static unsigned char room[2 * LARGEST_PAGE]; /* has that page, wherever it begins */
-static _Atomic(uint32_t) *wiped;             /* the page's start: 0 before the first call */
 static _Atomic(uint32_t) latest;             /* the last number, which a child has too */
 
-__attribute__((constructor)) static void have_page_wiped(void) {
+/* Returns the page, which is 0 before the first call, or null on a system without such pages. The
+ * first call asks the system, since a program's own constructor may hash before one of this file
+ * runs. The first answer holds for each thread. */
+static _Atomic(uint32_t) *wiped_page(void) {
+    enum { UNKNOWN, WIPED, KEPT };
+    static _Atomic(int) known = UNKNOWN;
     void *page = room + (LARGEST_PAGE - (uintptr_t)room % LARGEST_PAGE) % LARGEST_PAGE;
-    if (madvise(page, LARGEST_PAGE, MADV_WIPEONFORK) == 0)
-        wiped = page;
+    int state = atomic_load(&known);
+    if (state == UNKNOWN) {
+        int answer = madvise(page, LARGEST_PAGE, MADV_WIPEONFORK) == 0 ? WIPED : KEPT;
+        if (atomic_compare_exchange_strong(&known, &state, answer))
+            state = answer;
+    }
+    return state == WIPED ? page : NULL;
 }
 
 static uint32_t wiped_number(void) {
+    _Atomic(uint32_t) *wiped = wiped_page();
     if (wiped == NULL)
         return 0;
     uint32_t number = atomic_load(wiped);

@@ -1,5 +1,5 @@
-/* A step with a secret or with threads: the replies of the proved step, with the calls that check a
- * record and write one. After a wrong password this file writes no record. */
+/* A step with a secret or with threads: the replies and hashes of the proved step, with the calls
+ * that check a record and write one. After a wrong password this file writes no record. */
 #include "builds.h"
 #include "inputs.h"
 #include "secrets.h"
@@ -54,6 +54,12 @@ static bool has_costs_of_setting(const struct rigzumal_step_inputs *inputs) {
            has_same_costs(&copy, &setting);
 }
 
+/* Whether the operation stores a new record after a right password. */
+static bool makes_record(const struct rigzumal_step_inputs *step) {
+    return step->operation == RIGZUMAL_CHANGE ||
+           (step->operation == RIGZUMAL_UPGRADE && !has_costs_of_setting(step));
+}
+
 /* Writes the new record, and sets the reply if the record fits. */
 static int make(char *text, size_t text_size, uint32_t *reply, uint32_t replied,
                 const struct rigzumal_step_inputs *step) {
@@ -62,6 +68,12 @@ static int make(char *text, size_t text_size, uint32_t *reply, uint32_t replied,
     if (fault == RIGZUMAL_OK)
         *reply = replied;
     return fault;
+}
+
+/* Computes the tag of the new record, and discards it: the text gets no room. */
+static int discard(const struct rigzumal_step_inputs *step) {
+    int fault = make(NULL, 0, NULL, 0, step);
+    return fault == RIGZUMAL_NO_ROOM ? RIGZUMAL_OK : fault;
 }
 
 /* Sets the reply, and writes no record. */
@@ -77,10 +89,12 @@ static int step_at_record(char *text, size_t text_size, uint32_t *reply,
     if (step->operation == RIGZUMAL_ENROL)
         return answer(text, text_size, reply, RIGZUMAL_REPLY_EXISTS);
     struct rigzumal_inputs inputs = inputs_of(step, false);
-    int verdict = rigzumal_check_from(step->copy, &inputs);
-    if (verdict != RIGZUMAL_OK && verdict != RIGZUMAL_MISMATCH)
-        return verdict;
-    bool is_right = verdict == RIGZUMAL_OK;
+    int fault = rigzumal_check_from(step->copy, &inputs);
+    bool is_right = fault == RIGZUMAL_OK, makes = makes_record(step);
+    if (fault == RIGZUMAL_MISMATCH) /* as many hashes: the time must not tell it from a right one */
+        fault = makes ? discard(step) : RIGZUMAL_OK;
+    if (fault != RIGZUMAL_OK)
+        return fault;
     if (step->operation == RIGZUMAL_VERIFY)
         return answer(text, text_size, reply, is_right ? RIGZUMAL_REPLY_YES : RIGZUMAL_REPLY_NO);
     if (!is_right)
@@ -89,7 +103,7 @@ static int step_at_record(char *text, size_t text_size, uint32_t *reply,
         return answer(text, text_size, reply, RIGZUMAL_REPLY_REMOVED);
     if (step->operation == RIGZUMAL_CHANGE)
         return make(text, text_size, reply, RIGZUMAL_REPLY_REPLACED, step);
-    if (has_costs_of_setting(step))
+    if (!makes)
         return answer(text, text_size, reply, RIGZUMAL_REPLY_KEPT);
     return make(text, text_size, reply, RIGZUMAL_REPLY_UPGRADED, step);
 }

@@ -126,7 +126,7 @@ def run_sanitized(*words):
     library = ROOM / "sanitized.so"
     if not library.exists():
         flags = [*WARNINGS, *SANITIZED, IN_THREADS, "-fPIC", "-shared", "-Wl,-Bsymbolic"]
-        sources = ["tests/given_system.c", *LIBARGON2, *SOURCES]
+        sources = ["tests/given_system.c", "tests/tables.c", *LIBARGON2, *SOURCES]
         run(COMPILER, *flags, *wraps(sources), *sources, "-o", library)
     env = {"LIBRARY": str(library)}
     if SANITIZED:

@@ -301,22 +301,31 @@ static void test_replaced_areas(void) {
     CHECK(heap_trim() == 50 * MIB && mapped == 0);
 }
 
-/* The kept pages of a larger block are the first pages of the next one: cleared, and with one
- * mapping for all. If the system can't move them, the block is a new one. */
+/* Takes a block larger than the bound, which this many kept bytes begin: cleared. */
+static void grow(size_t wanted) {
+    moved = 0;
+    unsigned char *start = heap_take_zeros(100 * MIB);
+    CHECK(moved == wanted);
+    CHECK(is_all(start, 0, 100 * MIB) && (uintptr_t)start % HUGE_PAGE == 0);
+    CHECK(is_hidden(start) && is_hidden(start + 99 * MIB));
+    memset(start, 1, 100 * MIB);
+    rattle_dealloc(start);
+}
+
+/* The kept pages of a larger block are the first pages of the next one, with one mapping for all.
+ * If the system can't move them, the block is a new one. The pages that weren't replaced stay
+ * mapped, unless a filter refused the call. */
 static void test_grown_areas(void) {
-    for (int turn = 0; turn < 4; turn++) {
-        moved = 0;
-        is_refusing_moves = turn == 3;
-        unsigned char *start = heap_take_zeros(100 * MIB);
-        CHECK(moved == (turn == 1 || turn == 2 ? KEPT : 0));
-        CHECK(is_all(start, 0, 100 * MIB) && (uintptr_t)start % HUGE_PAGE == 0);
-        CHECK(is_hidden(start) && is_hidden(start + 99 * MIB));
-        memset(start, 1, 100 * MIB);
-        rattle_dealloc(start);
-        CHECK(mapped == (turn == 3 ? 2 * KEPT : KEPT)); /* pages that weren't moved stay */
+    static const int faults[] = {ENOSYS, EPERM, EACCES, ENOMEM, EAGAIN, EFAULT, EINVAL};
+    for (int turn = 0; turn < 3; turn++)
+        grow(turn == 0 ? 0 : KEPT);
+    for (size_t i = 0; i < COUNT(faults); i++) {
+        fault_of_moves = faults[i];
+        grow(0);
+        CHECK(mapped == (i < 3 ? KEPT : 2 * KEPT));
+        mapped = KEPT;
     }
-    is_refusing_moves = false;
-    mapped -= KEPT;
+    fault_of_moves = 0;
 }
 
 /* A program may keep more memory, less, or none. A change of the bound frees the kept memory. */

@@ -204,6 +204,7 @@ JOB(libargon2_verify,
 #define DONE RIGZUMAL_OK, NO_TROUBLE, 0
 #define DONE_WITH(number) RIGZUMAL_OK, NO_TROUBLE, number
 #define OF_ANOTHER RIGZUMAL_MISMATCH, OTHER_PASSWORD, 0
+#define WRONG(operation) RIGZUMAL_MISMATCH, OTHER_PASSWORD, operation
 #define WITH_ANOTHER RIGZUMAL_MISMATCH, OTHER_SECRET, 0
 #define OF_A_BAD_RECORD RIGZUMAL_SHAPE, BAD_RECORD, 0
 #define WITHOUT_ROOM RIGZUMAL_NO_ROOM, LITTLE_ROOM, 0
@@ -255,6 +256,8 @@ const struct job jobs[] = {
     {"rigzumal_step at a bad record", step, RIGZUMAL_COPY, BAD_RECORD, RIGZUMAL_VERIFY},
     {"rigzumal_step_from of a verify", step_from, DONE_WITH(RIGZUMAL_VERIFY)},
     {"rigzumal_step_from of a change", step_from, DONE_WITH(RIGZUMAL_CHANGE)},
+    {"rigzumal_step_from of a wrong change", step_from, WRONG(RIGZUMAL_CHANGE)},
+    {"rigzumal_step_from of a wrong upgrade", step_from, WRONG(RIGZUMAL_UPGRADE)},
     {"argon2_ctx", libargon2_ctx, DONE_WITH(2)},
     {"argon2_ctx on one thread", libargon2_ctx, DONE_WITH(1)},
     {"argon2_ctx that clears", libargon2_clearing_ctx, DONE_WITH(2)},

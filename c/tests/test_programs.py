@@ -31,6 +31,8 @@ PROGRAMS = (
     ("interrupted", FAST, SOURCES),
     ("interrupted", SANITIZED, SOURCES),
     ("threads", RACES, SOURCES),
+    ("early", FAST, SOURCES),
+    ("refused_moves", FAST, SOURCES),
 )
 
 MIB = 1024 * 1024
@@ -80,7 +82,7 @@ def of_program(name, flags, linked, *words):
     """The test that builds a program and runs it."""
 
     def test(_):
-        if name == "forked_lanes":
+        if name in ("forked_lanes", "refused_moves"):
             need_native()
         run(built(name, flags, linked), *words)
 
@@ -112,8 +114,9 @@ class Programs(unittest.TestCase):
             run(*VALGRIND, built(name, [*FAST, *JOBS], ALL))
 
     def test_calls(self):
-        """Texts, records, steps, salts and threads, good and bad, under the sanitizers."""
-        run_sanitized("-m", "unittest", "texts", "records", "steps", "with_threads")
+        """Texts, records, steps, salts, threads and hashes, good and bad, under the sanitizers."""
+        modules = ("texts", "records", "steps", "with_threads", "hashes")
+        run_sanitized("-m", "unittest", *modules)
 
     @each(
         (None, "16 32 64 60 64"),

@@ -16,8 +16,10 @@ static size_t mapped;                 /* bytes */
 static size_t most_mapped = SIZE_MAX; /* beyond these, mmap fails */
 static size_t moved;                  /* bytes that all calls moved by mremap */
 
-/* The refused requests: blocks of the C library, the table of blocks, moves. */
-static bool is_refusing, is_refusing_tables, is_refusing_moves;
+/* The refused requests: blocks of the C library, the table of blocks. */
+static bool is_refusing, is_refusing_tables;
+
+static int fault_of_moves; /* of mremap, or 0 */
 
 /* The last advice of each kind, and the number of them. */
 static struct advised {
@@ -77,8 +79,10 @@ WRAP(void *, mmap, void *at, size_t size, int protection, int flags, int file, o
 
 WRAP(void *, mremap, void *old, size_t size, size_t new_size, int flags, void *to) {
     CHECK(new_size == size && is_all(old, 0, PAGE));
-    if (is_refusing_moves)
+    if (fault_of_moves != 0) {
+        errno = fault_of_moves;
         return MAP_FAILED;
+    }
     mapped -= size; /* the moved pages replace as many others */
     moved += size;
     return __real_mremap(old, size, new_size, flags, to);

@@ -122,31 +122,44 @@ class _Hasher(Frozen):
             OutOfMemoryError: the free memory was too small.
             TypeError, ValueError: as in `hash`.
         """
-        self._verified(hash, password)
+        if self._place(hash, password) is None:
+            raise _library.VerifyMismatchError(_library.MISMATCH)
         return True
 
-    def _verified(self, hash: Secret, password: Secret) -> int:
-        """Returns the index of the secret with which the record was hashed."""
-        for place, secret in enumerate(self._secrets()):
-            # An empty secret means none. With a secret, the library refuses a record of scrypt.
-            fault = _library.check(hash, password, secret or None, self.threads)
-            if fault not in (_library.MISMATCH, _library.SCHEME):
-                break
-        if _library.OK < fault < _library.MEMORY and _is_record(password):
+    def _place(self, hash: Secret, password: Secret) -> Optional[int]:
+        """Returns the index of the secret with which the record was hashed, or None for a wrong
+        password. The method tries each secret, so that the time doesn't tell a right password."""
+        # An empty secret means none. With a secret, the library refuses a record of scrypt.
+        faults = [
+            _library.check(hash, password, secret or None, self.threads)
+            for secret in self._secrets()
+        ]
+        if _library.OK in faults:
+            return faults.index(_library.OK)
+        of_one_secret = (_library.MISMATCH, _library.SCHEME)
+        others = [it for it in faults if it not in of_one_secret]
+        fault = others[0] if others else max(faults)  # MISMATCH if any secret reads the record
+        if fault < _library.MEMORY and _is_record(password):
             said = "the second argument is a record, but the first isn't: pass the record first"
             raise _library.InvalidRecordError(fault, said)
-        _library.raise_fault(fault, hash)
-        return place
+        if fault != _library.MISMATCH:
+            _library.raise_fault(fault, hash)
+        return None
 
     @hidden
     def verify_and_rehash(self, hash: Secret, password: Secret) -> Optional[str]:
         """Checks the password, and returns a new record if the record is outdated, otherwise None.
 
-        The method raises the exceptions of `verify` and `hash`.
+        A wrong password costs as many hashes as a right one. The method raises the exceptions of
+        `verify` and `hash`.
         """
-        place = self._verified(hash, password)
-        is_old = place > 0 or self.check_needs_rehash(hash)
-        return self.hash(password) if is_old else None
+        place = self._place(hash, password)
+        is_old = self.check_needs_rehash(hash)
+        # Only the right password tells which of several secrets the record needs.
+        made = self.hash(password) if is_old or len(self._secrets()) > 1 else None
+        if place is None:
+            raise _library.VerifyMismatchError(_library.MISMATCH)
+        return made if is_old or place > 0 else None
 
     def check_needs_rehash(self, hash: Secret) -> bool:
         """Whether the record has another scheme, version, cost or size than a new one.
@@ -186,9 +199,9 @@ class PasswordHasher(_Hasher):
             the time. The library starts at most one thread for each processor, and none below
             4 MiB.
         secrets: the new pepper and older ones, instead of `secret`, to rotate peppers. A new
-            record uses the first, which is then `secret`. `verify` tries one after another, so a
-            wrong password costs a hash for each. `verify_and_rehash` replaces records with older
-            peppers. b"" among the older ones means records without a pepper, also of scrypt.
+            record uses the first, which is then `secret`. `verify` tries each, so any password
+            costs a hash for each. `verify_and_rehash` costs one more, and replaces records with
+            older peppers. b"" among the older ones means records without a pepper, also of scrypt.
 
     Raises:
         InvalidNumbersError: a number is out of range.

@@ -164,13 +164,14 @@ class Judge:
     def work(self, ticket: Ticket, right: Optional[bool] = None) -> Worked:
         """Returns the result of the whole operation on the ticket's copy.
 
-        `right` is the hook's answer to the ticket's question. An account without a record costs as
-        many hashes as a wrong password, and so does an unknown name.
+        `right` is the hook's answer to the ticket's question. A wrong password costs as many hashes
+        as a right one: the time must not tell them apart. An account without a record costs as many
+        as one with the sample, and so does an unknown name.
         """
         request, copy = ticket.request, ticket.copy
         reply, after = self._judged(ticket, right)
         if not isinstance(copy, str) and request.kind not in (Kind.ENROL, Kind.RESET):
-            self._spend(self.sample, request, self._secrets)
+            self._at_record(request, self.sample)
         return Worked(ticket, reply, after)
 
     def _judged(self, ticket: Ticket, right: Optional[bool]) -> tuple[Reply, Copy]:
@@ -194,30 +195,34 @@ class Judge:
         if self.foreign is None:
             hint = DAMAGED_HINT if copy.startswith(_OURS) else FOREIGN_HINT
             raise InvalidRecordError(refused.number, f"{refused}{hint}")
-        # A text of another scheme, which any upgrade replaces.
-        if right is True:
-            return self._at_right(request, copy)
-        # The hook has compared the password itself, unless its answer is None.
-        self._spend(self.sample, request, self._secrets if right is None else ())
+        if right is not None:
+            return self._at_other(request, copy, right)
+        self._at_record(request, self.sample)  # for a hook that hashed nothing
         return _wrong(request), copy
 
     def _at_record(self, request: Request, copy: str) -> tuple[Reply, Copy]:
-        """Returns the result for a record of ours, and tries one secret after another."""
+        """Returns the result for a record of ours. A password that can't be right is hashed too."""
         secrets = self._secrets
         if None in secrets and copy.startswith("$scrypt$"):
             secrets = (None,)
-        if not request.can_be_right:
-            _library.check_text(copy)
-            self._spend(copy, request, secrets)  # a wrong password waits for a hash
-            return _wrong(request), copy
-        if secrets[0] == self._secret:
-            reply, after = self._stepped(request, copy)
-            if reply is not _wrong(request):
-                return reply, after
-            secrets = secrets[1:]
-        if any(is_right(copy, request.password, it) for it in secrets):
-            return self._at_right(request, copy)
-        return _wrong(request), copy
+        if secrets == (self._secret,):
+            result = self._stepped(request, copy)
+        else:
+            result = self._rotated(request, copy, secrets)
+        return result if request.can_be_right else (_wrong(request), copy)
+
+    def _rotated(
+        self, request: Request, copy: str, secrets: tuple[Optional[bytes], ...]
+    ) -> tuple[Reply, Copy]:
+        """Returns the result for a record of one of these secrets. Each password costs a hash for
+        each secret, and an upgrade the hash of a new record, since only a right password tells
+        which secret the record needs."""
+        rights = [is_right(copy, request.password, it) for it in secrets]
+        result = self._at_other(request, copy, any(rights))
+        is_of_new = secrets[0] == self._secret and rights[0]
+        if request.kind is Kind.UPGRADE and is_of_new and not self._is_upgraded(copy):
+            return Reply.KEPT, copy
+        return result
 
     def _stepped(self, request: Request, copy: Optional[str]) -> tuple[Reply, Copy]:
         """Returns the step's answer under the first secret, and the new record."""
@@ -230,23 +235,21 @@ class Judge:
         new, setting = request.new_password, self._setting()
         return step(kind, copy, password, new, setting, secret)
 
-    def _spend(self, record: str, request: Request, secrets: Iterable[Optional[bytes]]) -> None:
-        """Computes the hashes of a wrong password for a record with these costs, without the new
-        record of an upgrade."""
-        for secret in secrets:
-            is_right(record, request.password, secret)
-        if request.kind is Kind.CHANGE and self._secret is None:
-            self._made(request.new_password)  # the step hashes it for a wrong password too
-
-    def _at_right(self, request: Request, copy: str) -> tuple[Reply, Copy]:
-        """Returns the result of a right password for a record that any upgrade replaces."""
-        if request.kind is Kind.VERIFY:
+    def _at_other(self, request: Request, copy: str, right: bool) -> tuple[Reply, Copy]:
+        """Returns the result for a record that any upgrade replaces. A wrong password costs the
+        hash of the new record too."""
+        kind, made = request.kind, None
+        if kind is Kind.CHANGE:
+            made = self._made(request.new_password)
+        elif kind is Kind.UPGRADE:
+            made = self._made(request.password)
+        if not right:
+            return _wrong(request), copy
+        if kind is Kind.VERIFY:
             return Reply.YES, copy
-        if request.kind is Kind.REMOVE:
+        if kind is Kind.REMOVE:
             return Reply.REMOVED, None
-        if request.kind is Kind.CHANGE:
-            return Reply.REPLACED, self._made(request.new_password)
-        return Reply.UPGRADED, self._made(request.password)
+        return (Reply.REPLACED if kind is Kind.CHANGE else Reply.UPGRADED), made
 
     def _made(self, password: bytes) -> str:
         setting = self._setting()

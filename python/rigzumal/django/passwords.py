@@ -28,11 +28,15 @@ def check_password(user: Any, password: Any) -> bool:
     """Whether the password is the user's, like `user.check_password`.
 
     The call replaces a record with old costs, or from another of PASSWORD_HASHERS, if the row still
-    has that record. After a right password `user.password` is the record that was checked.
+    has that record. A wrong password costs as many hashes as a right one. After a right password
+    `user.password` is the record that was checked.
     """
     if users.has_own_methods(user):
         return bool(user.check_password(password))
-    return records.judge_login(user, password)
+    right = records.judge_login(user, password)
+    if not right and _is_old(user.password):
+        _spend(password)
+    return right
 
 
 @hidden_below
@@ -50,8 +54,8 @@ def change_password(user: Any, old_password: Any, new_password: Any) -> bool:
 
     The call checks the old password against the record that the new one replaces, so a simultaneous
     reset stays. The call runs no validators, but calls their `password_changed`. The call writes
-    one column and sends no signal. If a model has its own `set_password`, however, the call saves
-    all of its fields.
+    one column and sends no signal. A wrong password costs as many hashes as a right one. If a model
+    has its own `set_password`, however, the call saves all of its fields.
     """
     return change_judged(user, old_password, new_password, None)
 
@@ -67,6 +71,8 @@ def change_judged(user: Any, old_password: Any, new_password: Any, judged: Optio
     changed = records.judge_change(user, old_password, new_password, judged)
     if changed:
         password_validation.password_changed(new_password, user)
+    else:
+        _spend(new_password)
     return changed
 
 
@@ -92,6 +98,25 @@ def set_password(user: Any, new_password: Any) -> None:
 acheck_password = records.awaited(check_password)
 achange_password = records.awaited(change_password)
 aset_password = records.awaited(set_password)
+
+
+def _is_old(record: str) -> bool:
+    """Whether Django replaces a record after a right password."""
+    try:
+        hasher = hashers.identify_hasher(record)
+    except ValueError:  # no password is right
+        return False
+    preferred = hashers.get_hasher()
+    return bool(hasher.algorithm != preferred.algorithm or preferred.must_update(record))
+
+
+@hidden_below
+def _spend(password: Any) -> None:
+    """Hashes a password, and discards the record: the time must not tell a right password."""
+    try:
+        hashers.make_password(password)
+    except ValueError:  # UTF-8 can't encode the text, so an empty password replaces it
+        hashers.make_password("")
 
 
 def _copy_of(user: Any, database: str) -> Copy:

@@ -203,22 +203,22 @@ class Base(unittest.TestCase):
 
     @contextlib.contextmanager
     def hashes(self, count):
-        """The block must hash this many times: steps, and checks of a dummy. Without a secret, a
-        step that may write a record always hashes for it. A step refuses a text of another scheme,
-        and hashes nothing for it."""
-        step, dummy = (mock.Mock(wraps=it) for it in (_judgement.step, _judgement.is_right))
-        with mock.patch.multiple(_judgement, step=step, is_right=dummy):
+        """The block must hash this many times: steps, and checks. A step that may write a record
+        always hashes for it. A step refuses a text of another scheme, and hashes nothing for
+        it."""
+        step, check = (mock.Mock(wraps=it) for it in (_judgement.step, _judgement.is_right))
+        with mock.patch.multiple(_judgement, step=step, is_right=check):
             yield
         made = []
         for call in step.mock_calls:
-            kind, copy, secret = call.args[0], call.args[1], call.args[5]
+            kind, copy = call.args[:2]
             if copy is not None and not _library.is_record(copy):
                 continue
             if copy is not None or kind is Kind.ENROL:
                 made.append(kind.value)
-            if copy is not None and kind in (Kind.CHANGE, Kind.UPGRADE) and secret is None:
+            if copy is not None and kind in (Kind.CHANGE, Kind.UPGRADE):
                 made.append("new record")
-        self.assertEqual(len(made) + dummy.call_count, count, made)
+        self.assertEqual(len(made) + check.call_count, count, made)
 
     @contextlib.contextmanager
     def statements(self, words):

@@ -112,13 +112,6 @@ class Peppers(Base):
         self.put(record)
         self.assert_replies("remove ann one removed", accounts)
 
-    @each(None, NEW, OLD)
-    def test_a_wrong_password_and_no_account_cost_a_hash_for_each(self, hasher):
-        self.put(hasher and hasher.hash("one"))
-        for name, password in (("ann", "two"), ("ann", "x" * 257), ("nobody", "two")):
-            with self.subTest(name=name, password=password), self.hashes(2):
-                self.accounts(self.BOTH).verify(name, password)
-
     def test_no_record_of_scrypt(self):
         self.put(ScryptHasher(4).hash("one"))
         for password in ("one", "two"):
@@ -154,14 +147,23 @@ class Foreign(Base):
         self.assert_replies("remove ann one removed", accounts)
         self.assertIsNone(self.stands())
 
-    @each(("$2b$one", "one", "replaced"), ("$2b$one", "two", "wrong"), ("!shut", "one", "wrong"))
-    def test_hashes_of_a_change(self, stands, password, reply):
-        """A change costs two hashes, one of them the hook's, whether the password is right or
-        wrong. If the hook compares nothing, both are ours."""
+    @each(
+        *itertools.product(
+            (LOW, Peppers.NEW),
+            (("$2b$one", "one", 0), ("$2b$one", "two", 0), ("!shut", "one", 1)),
+            (("verify", 0), ("login", 1), ("upgrade", 1), ("change", 1), ("remove", 0)),
+        )
+    )
+    def test_hashes(self, hasher, row, operation):
+        """A wrong password costs as many hashes as a right one, which the hook's is one of. If the
+        hook compares nothing, they are those of an account without a record."""
+        (stands, password, shut), (name, made) = row, operation
         self.put(stands)
         hook = mock.Mock(wraps=self.hook)
-        with self.hashes(2 if stands == "!shut" else 1):
-            self.assert_replies(f"change ann {password} new {reply}", self.accounts(foreign=hook))
+        accounts = self.accounts(hasher, foreign=hook)
+        new = " new" if name == "change" else ""
+        with self.hashes(shut + made if name == "change" or not shut else 1):
+            called(accounts, f"{name} ann {password}{new}")
         hook.assert_called_once_with(stands, password.encode())
 
     def test_an_answer_is_true_false_or_none(self):
@@ -254,6 +256,29 @@ class Costs(Base):
         with self.hashes(1):
             accounts.login(name, "wrong")
 
+    # Who wrote a record, or None without one, and who reads it; the hashes of a look and of an
+    # upgrade.
+    @each(
+        *((it, it, 1, 1) for it in (LOW, Peppers.NEW, ScryptHasher(4))),
+        *((it, HIGH.replace(secret=it.secret), 1, 2) for it in (LOW, Peppers.NEW)),
+        (ScryptHasher(4), ScryptHasher(5), 1, 2),
+        *((it, Peppers.BOTH, 2, 3) for it in (Peppers.NEW, Peppers.OLD, None)),
+        *((it, Peppers.NEW_OR_NONE, 2, 3) for it in (Peppers.NEW, LOW, None)),
+        *((it, Peppers.FOUR, 4, 5) for it in (Peppers.NEW, Peppers.OLD, Peppers.OLDER, LOW, None)),
+        (ScryptHasher(4), Peppers.NEW_OR_NONE, 1, 2),
+        *((None, it, 1, 1) for it in (LOW, Peppers.NEW)),
+    )
+    def test_a_wrong_password_costs_the_hashes_of_a_right_one(self, maker, hasher, look, upgrade):
+        record, accounts = maker and maker.hash("one"), self.accounts(hasher)
+        counts = {"verify": look, "login": upgrade, "upgrade": upgrade, "remove": look}
+        names = ("ann",) if maker else ("ann", "nobody")
+        for name, password in itertools.product(names, ("one", "two", "x" * 257)):
+            for operation, count in (*counts.items(), ("change", look + 1)):
+                new = " new" if operation == "change" else ""
+                self.put(record)
+                with self.subTest(operation, name=name, password=password), self.hashes(count):
+                    called(accounts, f"{operation} {name} {password}{new}")
+
     @each((None, "enrol ann one"), (None, "reset ann one"), ("one", "reset ann two"))
     def test_a_new_record_costs_one_hash(self, stands, text):
         """A new record costs one hash, without a dummy hash if the account had no record."""
@@ -264,8 +289,8 @@ class Costs(Base):
     @each(LOW, HIGH, ScryptHasher(log2_n=3))
     def test_a_name_that_is_not_there_costs_as_much_as_a_new_record(self, hasher):
         judge = _judgement.Judge(hasher)
-        with mock.patch.object(_judgement, "is_right") as checked:
+        with mock.patch.object(_judgement, "step", wraps=_judgement.step) as step:
             judge.work(Ticket(Request(Kind.VERIFY, "nobody", "x"), NO_ROW))
-        ((dummy, password, *_), _) = checked.call_args
+        ((_, dummy, password, *_), _) = step.call_args
         self.assertEqual(rigzumal.parts(dummy), rigzumal.parts(hasher.hash("x")))
         self.assertEqual(password, b"x")

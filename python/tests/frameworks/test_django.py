@@ -143,6 +143,40 @@ class Reports(Cheap, TransactionTestCase):
         self.each(passwords.RecordChanged, *ACTS.keys() - SETS, before=reset)
 
 
+class Hashes(Ann, TestCase):
+    """A wrong password costs as many hashes as a right one."""
+
+    def hashed(self, call, *given, **named):
+        """The passwords that a call hashes by our hasher."""
+        with mock.patch.object(rigzumal, "argon2", side_effect=rigzumal.argon2) as hashed:
+            call(*given, **named)
+        return [it.args[0] for it in hashed.call_args_list]
+
+    @each((64, None, 1), (128, None, 2), (64, "md5", 1), (64, "unknown", 1))
+    def test_a_login(self, memory, hasher, count):
+        """At a record with the present costs, with others, of another hasher, and of none."""
+        record = "unknown$record" if hasher == "unknown" else stands(self.ann)
+        if hasher == "md5":
+            record = hashers.make_password("old", hasher="md5")
+        for password in ("old", "wrong"):
+            User.objects.update(password=record)
+            with self.subTest(password=password), cheap(memory=memory):
+                found = self.hashed(authenticate, username="ann", password=password)
+                self.assertEqual(len(found), count)
+
+    def test_a_change(self):
+        for old in ("old", "wrong"):
+            found = self.hashed(passwords.change_password, self.ann, old, "new")
+            self.assertEqual(found, [old, "new"])
+            self.ann.refresh_from_db()
+
+    def test_a_text_that_utf_8_cannot_encode(self):
+        with cheap(memory=128):
+            found = self.hashed(authenticate, username="ann", password="wrong\ud800")
+        refused = "wrong\ud800"
+        self.assertEqual(found, [refused, b"", refused, ""])
+
+
 class Logins(Ann, TestCase):
     def setUp(self):
         super().setUp()

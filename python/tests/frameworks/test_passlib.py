@@ -80,6 +80,14 @@ class Ours(unittest.TestCase):
         self.assertTrue(ours.verify("password", record))
 
     @each(ours.using(memory_cost=64, time_cost=1), our_scrypt.using(rounds=4))
+    def test_a_wrong_password_costs_one_hash_as_a_right_one(self, handler):
+        record, call = handler.hash("right"), getattr(rigzumal, handler.name)
+        for password in ("right", "wrong"):
+            with mock.patch.object(rigzumal, handler.name, wraps=call) as hashed:
+                self.assertIs(handler.verify(password, record), password == "right")
+            hashed.assert_called_once()
+
+    @each(ours.using(memory_cost=64, time_cost=1), our_scrypt.using(rounds=4))
     def test_a_password_is_all_of_its_bytes(self, handler):
         """A password is all of its bytes, up to passlib's limit, in UTF-8 or not; no bytes are a
         password too."""

@@ -159,11 +159,33 @@ class Rotation(unittest.TestCase):
             for call in (self.BOTH.verify, self.BOTH.verify_and_rehash):
                 self.assertRaises(rigzumal.InvalidRecordError, call, record, "x")
 
-    @each((NEW.hash("x"), 1), (OLD.hash("x"), 2), (ARGON2, 2), (ARGON2[:-1], 1))
-    def test_a_hash_for_each_that_is_tried(self, record, tried):
-        with noted_library() as library, contextlib.suppress(rigzumal.RigzumalError):
-            self.BOTH.verify(record, "x")
-        self.assertEqual(library.rigzumal_check_from.call_count, tried)
+    # Who wrote a record, who reads it, and the hashes of `verify` and of a new record.
+    @each(
+        *((it, it, 1, 0) for it in (SMALL, NEW, SMALL.replace(threads=2), SCRYPT)),
+        *((it.replace(time_cost=1), it, 1, 1) for it in (SMALL, NEW)),
+        (SCRYPT, SMALL, 1, 1),
+        (NEW, BOTH, 2, 1),
+        (OLD, BOTH, 2, 1),
+        (NEW, NEW_OR_NONE, 2, 1),
+        (SMALL, NEW_OR_NONE, 2, 1),
+        (SMALL, FOUR, 4, 1),
+    )
+    def test_a_wrong_password_costs_the_hashes_of_a_right_one(self, maker, hasher, looks, made):
+        record = maker.hash("right")
+        for call, rehashes in ((hasher.verify, 0), (hasher.verify_and_rehash, made)):
+            for password in ("right", "wrong"):
+                with self.subTest(call=call, password=password), noted_library() as library:
+                    with contextlib.suppress(rigzumal.VerifyMismatchError):
+                        call(record, password)
+                self.assertEqual(library.rigzumal_check_from.call_count, looks)
+                self.assertEqual(library.rigzumal_record_from.call_count, rehashes)
+
+    def test_a_wrong_password_is_no_fault_of_the_record(self):
+        """One of the secrets reads a record of scrypt, wherever it is among them."""
+        for secrets in ([b"new", b"", b"old"], [b"new", b"old", b""]):
+            hasher = SMALL.replace(secrets=secrets)
+            self.assertIs(verdict(hasher, SCRYPT.hash("x"), "x"), True)
+            self.assertIs(verdict(hasher, SCRYPT.hash("x"), "y"), False)
 
     def test_the_first_is_the_secret(self):
         """`secret` is the first of the secrets, so code that refuses a secret refuses these hashers
