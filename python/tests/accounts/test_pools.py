@@ -1,6 +1,7 @@
 """Pools, and their handling of returned connections."""
 
 import asyncio
+import functools
 import itertools
 import os
 import sqlite3
@@ -9,10 +10,10 @@ from unittest import mock
 
 import engines
 import of_engines
-from support import LOW, Awaiting, Base, each
+from support import LOW, Awaiting, Base, called, each
 from rigzumal.accounts import AsyncAccounts, PerThread, Reply, StoreFault, pools
 from rigzumal.accounts.pools import PerUse
-from rigzumal.accounts.types import NoConnection
+from rigzumal.accounts.types import Kind, NoConnection
 
 BUSY = sqlite3.OperationalError("database is locked")
 
@@ -310,6 +311,63 @@ class OnePerThread(Base):
             self.assertIs(last, other)
         self.assertRaises(sqlite3.ProgrammingError, one.execute, "SELECT 1")
         pool.close()
+
+    def test_an_operation_within_a_use(self):
+        """An operation within the caller's own use would wait for the row that the caller's
+        transaction holds. The operation is refused at once, even after an inner use."""
+        connect = mock.Mock(side_effect=self.connect)
+        accounts = self.accounts(connect=connect, patience=0.5)
+        pool = accounts._connections.primary
+        worked = self.worked(accounts, Kind.CHANGE, "one", "two")
+        calls = ("login ann one", "change ann one two", "remove ann one", "verify ann one")
+        acts = [*(functools.partial(called, accounts, it) for it in calls), accounts.examine]
+        with pool() as conn:
+            conn.execute("BEGIN IMMEDIATE")
+            for is_after_another, act in itertools.product((False, True), acts):
+                with self.subTest(is_after_another=is_after_another, act=act):
+                    self.assertRaisesRegex(TypeError, "or call commit_in with its connection", act)
+                if act is acts[-1]:
+                    self.assertEqual(connect.call_count, 1 + is_after_another)
+                    with pool() as inner:
+                        inner.execute("SELECT 1")
+            self.assert_replies("verify ann one yes", self.accounts())  # over another pool
+            self.assertIs(accounts.commit_in(conn, worked).reply, Reply.REPLACED)
+            self.assertEqual(self.forked(lambda: called(accounts, "verify ann one") != "yes"), 0)
+            conn.execute("COMMIT")
+        self.assert_replies("login ann two yes; change ann two one replaced", accounts)
+
+    def test_an_operation_on_another_table_within_also(self):
+        """An operation's own use is no `with` of the caller's: the error names `also`."""
+        accounts, said = self.accounts(), "use the connection that `also` receives"
+        other_table = self.another_dialect(table="others")
+        others = self.over(accounts._connections.primary, dialect=other_table)
+        refused = lambda *_: self.assertRaisesRegex(TypeError, said, others.verify, "ann", "one")
+        self.assert_replies("login ann one yes", accounts, also=refused)
+
+    def test_an_operation_that_is_interrupted(self):
+        """After an interrupt of an operation at any instruction of the pool, the thread's next
+        operation works, even if a report keeps the interrupt. So does an operation after an
+        interrupted use of the caller's own, which nothing keeps."""
+        accounts = self.accounts()
+        pool, kept, is_over = accounts._connections.primary, [], False
+        while not is_over:
+            act = functools.partial(accounts.verify, "ann", "one")
+            is_over, alarm = self.interrupted(len(kept) + 1, act)
+            kept.append(alarm)
+            with self.subTest(instruction=len(kept)):
+                self.assertIs(accounts.verify("ann", "one"), Reply.YES)
+        self.assertGreater(len(kept), 50)
+
+        def use():
+            with pool():
+                pass
+
+        number, is_over = 0, False
+        while not is_over:
+            number += 1
+            is_over = self.interrupted(number, use)[0]
+            with self.subTest(instruction=number):
+                self.assertIs(accounts.verify("ann", "one"), Reply.YES)
 
     @each(None, KeyError)
     def test_the_outer_use_ends(self, kind):
