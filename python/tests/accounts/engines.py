@@ -108,7 +108,7 @@ class OnPostgres(OnServer):
     folding, changing = ("text COLLATE ci", "citext", "char(20)"), ("char(300)", "varchar(60)")
     modes = ("SELECT 1",)
 
-    only_reads = "ReadOnlySqlTransaction 25006|ConnectionError"
+    only_reads = "in time: ReadOnlySqlTransaction 25006"
 
     @property
     def again(self):

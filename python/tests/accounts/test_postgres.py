@@ -181,6 +181,34 @@ class OnPostgres(engines.OnPostgres, Base):
             run(self.dialect.commit(session))
         self.assertTrue(self.is_right("one"))
 
+    def test_a_database_that_is_set_to_read_only(self):
+        """Each change is refused at once, and so is a hook's row. A login goes on without its
+        upgrade."""
+        only_reads = {"options": "-c default_transaction_read_only=on"}
+        accounts = self.accounts(self.high, connect=lambda: self.connect(**only_reads))
+        self.execute("DROP TABLE IF EXISTS sessions")
+        self.execute("CREATE TABLE sessions (reply text)")
+        self.give(None, "ben")
+        calls, records = [], (self.stands(), self.stands("ben"))
+
+        def also(conn, reply):
+            calls.append(reply)
+            conn.execute("INSERT INTO sessions VALUES ('yes')")
+
+        said = "set to read only: ReadOnlySqlTransaction 25006"
+        with self.no_pause(accounts):
+            for text in ("change ann one two", "upgrade ann one", "remove ann one", "enrol ben x"):
+                for more in ({}, {"also": lambda conn, reply: None}):
+                    with self.subTest(text=text, more=more):
+                        self.assertRaisesRegex(Unavailable, said, called, accounts, text, **more)
+            # The row's lock is refused, and so is the row of a hook without such a lock.
+            for text in ("verify ann one", "verify b\0b one"):
+                self.assertRaisesRegex(Unavailable, said, called, accounts, text, also=also)
+            self.assert_replies("login ann one yes; verify ann one yes; login ann x no", accounts)
+        self.assertEqual(calls, [Reply.NO_ACCOUNT])
+        self.assertEqual((self.stands(), self.stands("ben")), records)
+        self.assertIn("no record can be written", self.said(accounts))
+
     # ---- imports and exports
 
     def test_rows_are_read_as_they_are_sent(self):

@@ -286,6 +286,10 @@ class Dialect:
         reason."""
         return False
 
+    def only_reads(self, conn: Any) -> bool:
+        """Whether a connection's settings forbid changes, as those of the next connection would."""
+        return False
+
     def number(self, raised: BaseException) -> str:
         """Returns the server's number of an error, since the text may quote the refused row."""
         return ""
