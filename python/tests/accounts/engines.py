@@ -1,6 +1,7 @@
 """The engines, each with its own settings, errors, and statements of an operation."""
 
 import asyncio
+import functools
 import itertools
 import sqlite3
 import uuid
@@ -121,6 +122,12 @@ class OnPostgres(OnServer):
         self.addCleanup(standby.kill)
         return standby.connect, standby.promote
 
+    def refused(self):
+        """Functions that connect to a missing database, and as a missing user."""
+        place = self.server.url.rpartition("/")[0]
+        for url in (f"{place}/nope", self.server.url.replace("store@", "nobody@")):
+            yield functools.partial(servers.psycopg.connect, url, autocommit=True)
+
     def create(self):
         """Creates the database with the extension and the collation that some tests need."""
         # A prepared statement knows the earlier table.
@@ -187,6 +194,9 @@ class OnMariaDB(OnServer):
         set_to(1)
         self.addCleanup(set_to, 0)
         return self.connect, lambda: set_to(0)
+
+    def refused(self):
+        return [functools.partial(self.connect, **{it: "nope"}) for it in ("database", "user")]
 
     def end_sessions(self, conn=None):
         others = "WHERE id <> CONNECTION_ID() AND user = 'store'"

@@ -1,10 +1,12 @@
 """The waits and their causes, over a clock and a runtime that only record them; and the arguments
 that URLs pass to database drivers, which stand-ins record."""
 
+import asyncio
 import contextlib
 import contextvars
 import io
 import os
+import queue
 import sqlite3
 import sys
 import tempfile
@@ -15,14 +17,19 @@ import urllib.parse
 from unittest import mock
 
 from support import each, module, run
-from rigzumal.accounts import Sqlite, StoreFault, Unavailable, _connections
+from rigzumal.accounts import Postgres, Sqlite, StoreFault, Unavailable, _connections
 from rigzumal.accounts._connections import Connections, Waits
 from rigzumal.accounts._running import RUNNING, Also, runs_on, runs_over
 from rigzumal.accounts._table import Lost, Table, Undone
 from rigzumal.accounts.database import Database
+from rigzumal.accounts.types import NoConnection
 
 BUSY = sqlite3.OperationalError("database is locked")
 REFUSED = sqlite3.OperationalError("no such table: users")
+
+
+# asyncio's and concurrent.futures' until Python 3.10, which is no OSError.
+OldTimeoutError = type("TimeoutError", (Exception,), {})
 
 
 class Patience(unittest.TestCase):
@@ -94,7 +101,7 @@ class Patience(unittest.TestCase):
         self.assertRaises(Unavailable, run, connections.patiently(None))
         self.assertEqual(runtime.pauses, [])
 
-    @each(REFUSED, StoreFault("x"), KeyError("x"), TypeError("x"))
+    @each(StoreFault("x"), KeyError("x"), FileNotFoundError("x"), sqlite3.ProgrammingError("x"))
     def test_what_would_be_refused_again_is_raised(self, error):
         runtime, connections = self.connections(error)
         with self.assertRaises(type(error)) as raised:
@@ -102,10 +109,57 @@ class Patience(unittest.TestCase):
         self.assertIs(raised.exception, error)
         self.assertEqual(runtime.pauses, [])
 
+    @each(REFUSED, sqlite3.DatabaseError("no such table: users"))
+    def test_a_connection_that_is_refused(self, error):
+        """A driver's error from the pool is a fault, as the same error in a statement is."""
+        runtime, connections = self.connections(error)
+        with self.assertRaisesRegex(StoreFault, "^the server refused the connection: no such"):
+            run(connections.patiently(None))
+        self.assertEqual(runtime.pauses, [])
+
+    @each(TimeoutError("late"), ConnectionError("late"), OldTimeoutError("late"))
+    def test_a_pool_without_a_connection(self, error):
+        """The error of a pool that has waited in vain is Unavailable on each engine."""
+        runtime, connections = self.connections(error, patience=0.0)
+        with self.assertRaisesRegex(NoConnection, "in time: .*Error: late") as raised:
+            run(connections.patiently(None))
+        self.assertIs(raised.exception.__cause__, error)
+        runtime, connections = self.connections(error)
+        self.assertEqual(run(connections.patiently(None)), "done")
+
+    def refused(self, *before, patience=10.0):
+        """Connections to a server that refuses three times after these outcomes."""
+        error = module("psycopg").OperationalError('failed: FATAL:  database "x" is missing\n')
+        runtime, connections = self.connections(*before, *[error] * 3, patience=patience)
+        connections.table.dialect = Postgres("users", "name", "record")
+        return runtime, connections
+
+    def assert_refused(self, connections):
+        said = "^the server refused the connection: failed: FATAL:  database"
+        self.assertRaisesRegex(NoConnection, said, run, connections.patiently(None))
+
+    def test_a_first_connection_that_is_refused(self):
+        """A pool that has never connected isn't asked again after a server's own refusal."""
+        runtime, connections = self.refused()
+        self.assert_refused(connections)
+        self.assertEqual(runtime.pauses, [])
+
+    @each("done", Undone(BUSY), Lost())
+    def test_a_later_connection_that_is_refused(self, first):
+        """A pool that has connected once is asked again: the server may only start."""
+        runtime, connections = self.refused(first)
+        for _ in range(1 + (first == "done")):
+            self.assertEqual(run(connections.patiently(None)), "done")
+        self.assertEqual(runtime.use.call_count, 5)
+        runtime, connections = self.refused("done", patience=0.004)
+        run(connections.patiently(None))
+        self.assert_refused(connections)
+        self.assertEqual(len(runtime.pauses), 2)
+
     def test_a_replica_is_asked_once(self):
-        """After a replica's fault the primary does the work, and the fault is logged once; a
-        program's exception is raised."""
-        faults = (REFUSED, StoreFault("x"), Unavailable("its pool is full"))
+        """After any fault of a replica or of its pool the primary does the work, and the fault is
+        logged once, without a program's own text."""
+        faults = (REFUSED, StoreFault("x"), Unavailable("its pool is full"), queue.Empty("own"))
         for answer in (BUSY, Lost(), Undone(BUSY), *faults):
             given = (answer, answer, "done", answer)
             runtime, connections = self.connections(*given, replica="replica")
@@ -118,10 +172,15 @@ class Patience(unittest.TestCase):
             self.assertEqual((self.used(runtime), runtime.pauses), (["replica"] * 4, []))
             self.assertEqual(len(logs.output), 2)
             self.assertIn("skipping the replica: ", logs.output[0])
+            self.assertNotIn("own", logs.output[0])
+        self.assertIn("skipping the replica: Empty", logs.output[0])
         runtime, connections = self.connections("a record", replica="replica")
         self.assertEqual(run(connections.at_replica(None)), "a record")
-        _, connections = self.connections(KeyError("x"), replica="replica")
-        self.assertRaises(KeyError, run, connections.at_replica(None))
+        _, connections = self.connections(asyncio.CancelledError(), replica="replica")
+        self.assertRaises(asyncio.CancelledError, run, connections.at_replica(None))
+        _, connections = self.connections(queue.Empty("own"), replica="replica")
+        (fault,) = run(connections.replica_faults(None))
+        self.assertEqual((fault.code, fault.text), ("replica-refuses", "skipping the replica: Empty"))
         runtime, connections = self.connections()
         self.assertIsInstance(run(connections.at_replica(None)), Undone)
         self.assertEqual(run(connections.patiently(None)), "done")

@@ -267,6 +267,11 @@ class Dialect:
         """Returns the meaning of a driver's error that occurred before the program sent COMMIT."""
         raise NotImplementedError
 
+    def refuses_connection(self, raised: BaseException) -> bool:
+        """Whether a server itself refused a new connection, for example to a missing database,
+        though the error has no number that shows it."""
+        return False
+
     def is_drivers(self, raised: BaseException) -> bool:
         """Whether the driver raised the error, instead of the caller's code."""
         if not self.drivers:

@@ -221,6 +221,11 @@ class Postgres(Dialect):
         is_broken = not state and names & {"OperationalError", "InterfaceError"}
         return Verdict.LOST if is_broken else Verdict.REFUSED
 
+    def refuses_connection(self, raised: BaseException) -> bool:
+        # Here psycopg has no state, and the server translates its text. Only a server's own message
+        # has two blanks, which libpq writes after the severity: "FATAL:  ".
+        return not self.number(raised) and ":  " in str(raised)
+
     def lacks_key(self, raised: BaseException, key: Key) -> bool:
         if self.number(raised) == _NO_VALUE:
             # With a key of another type, only a policy of the rows, say, can cause this error,
