@@ -93,9 +93,7 @@ class Connections:
         cause = done.cause.__cause__ if isinstance(done.cause, Lost) else done.cause
         if isinstance(cause, AccountsError):
             return f"{type(cause).__name__}: {cause}"
-        if cause is None or is_of_driver(cause):
-            return self.table.name(cause)
-        return type(cause).__name__
+        return self.table.name(cause)
 
     async def patiently(self, job: Job[Any], patience: Optional[float] = None) -> Any:
         """Runs a job at the primary until the job is done, with growing pauses.

@@ -178,6 +178,10 @@ class Patience(unittest.TestCase):
         self.assertEqual(run(connections.at_replica(None)), "a record")
         _, connections = self.connections(asyncio.CancelledError(), replica="replica")
         self.assertRaises(asyncio.CancelledError, run, connections.at_replica(None))
+        _, connections = self.connections(replica="replica")
+        nested = {"side_effect": TypeError}  # the caller's mistake, and no fault of the replica
+        with mock.patch.object(connections.table, "refuse_nested", **nested):
+            self.assertRaises(TypeError, run, connections.at_replica(None))
         _, connections = self.connections(queue.Empty("own"), replica="replica")
         (fault,) = run(connections.replica_faults(None))
         self.assertEqual((fault.code, fault.text), ("replica-refuses", "skipping the replica: Empty"))
