@@ -122,6 +122,10 @@ class OnPostgres(OnServer):
         self.addCleanup(standby.kill)
         return standby.connect, standby.promote
 
+    def trigger(self, *given):
+        for sql in postgres_trigger(*given):
+            self.execute(sql)
+
     def refused(self):
         """Functions that connect to a missing database, and as a missing user."""
         place = self.server.url.rpartition("/")[0]
