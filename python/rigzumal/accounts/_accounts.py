@@ -255,7 +255,7 @@ class AsyncAccounts(Operations[AsyncPool]):
     Arguments, replies and exceptions are as in `Accounts`. `also` and `foreign` may be coroutine
     functions. Hashes, and a `foreign` that is a plain function, run in threads of the executor, so
     that other tasks continue. If a task is cancelled during a change, the change may or may not be
-    stored, as after `OutcomeUnknown`.
+    stored, as after `OutcomeUnknown`, and may still be stored later.
 
     Args:
         executor: a ThreadPoolExecutor, only for AsyncAccounts. Each of its threads may

@@ -24,7 +24,8 @@ LEVELS = ("repeatable read", "serializable", "read committed")
 
 class OnSqlite:
     kind, dialect = servers.SqliteFile, Sqlite("users", "name", "record")
-    broken = sqlite3.OperationalError("disk I/O error")
+    # The driver's error for a connection that has ended; this engine has none.
+    broken = ended = sqlite3.OperationalError("disk I/O error")
     again = lost_look = sqlite3.OperationalError("database is locked")
     # The errors that a COMMIT may raise though it took effect.
     unknown = (broken, DISK)
@@ -112,6 +113,10 @@ class OnPostgres(OnServer):
     only_reads = "in time: ReadOnlySqlTransaction 25006"
 
     @property
+    def ended(self):
+        return servers.psycopg.OperationalError("mine")
+
+    @property
     def again(self):
         return servers.psycopg.errors.DeadlockDetected("planted")
 
@@ -183,6 +188,10 @@ class OnMariaDB(OnServer):
     modes = ("SET sql_mode = 'STRICT_TRANS_TABLES'", "SET sql_mode = ''")
 
     only_reads = "1290"
+
+    @property
+    def ended(self):
+        return servers.pymysql.err.OperationalError(2013, "mine")
 
     @property
     def again(self):
