@@ -39,7 +39,7 @@ class Accounts(Operations[Pool]):
             InvalidRecordError, unless `secrets` contains b"". A login replaces a record whose
             secret is an older one of `secrets`.
         replica: a pool of a replica, for the copies of records. The replica may lag, since each
-            answer depends on the primary's record. If the replica is down or refuses, operations
+            answer depends on the primary's record. If the replica or its pool fails, operations
             read copies from the primary.
         foreign: a function that checks passwords against records of other schemes, as (text,
             password) -> bool or None. After any other answer the operation raises a TypeError, and
