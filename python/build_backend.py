@@ -44,6 +44,16 @@ def field(name: str) -> str:
     return found[1]
 
 
+def lists() -> str:
+    """The lines of METADATA for the classifiers and the optional dependencies of pyproject.toml."""
+    text = (HERE / "pyproject.toml").read_text()
+    lines = [f"Classifier: {it}" for it in re.findall(r'^    "(.* :: .*)",$', text, re.MULTILINE)]
+    table = text.partition("[project.optional-dependencies]\n")[2].partition("\n\n")[0]
+    for extra, needed in re.findall(r'^(\w+) = \["(.*)"\]$', table, re.MULTILINE):
+        lines += [f"Provides-Extra: {extra}", f'Requires-Dist: {needed}; extra == "{extra}"']
+    return "\n".join(lines)
+
+
 def tag() -> str:
     """The wheel's tag: the newest glibc version that the library requires is the oldest that runs
     it."""
@@ -63,8 +73,7 @@ Version: {version()}
 Summary: {field("description")}
 License: none yet, for evaluation only
 Requires-Python: {field("requires-python")}
-Classifier: Operating System :: POSIX :: Linux
-Classifier: Programming Language :: Python :: 3
+{lists()}
 Description-Content-Type: text/markdown
 
 {(HERE / "README.md").read_text()}"""

@@ -20,6 +20,11 @@ if TYPE_CHECKING:
     Function = TypeVar("Function", bound=Callable[..., Any])
 
 
+# CO_GENERATOR, CO_COROUTINE, CO_ITERABLE_COROUTINE and CO_ASYNC_GENERATOR of inspect, which takes
+# long to import.
+_GENERATORS = 0x20 | 0x80 | 0x100 | 0x200
+
+
 def hidden(function: Function) -> Function:
     """Wraps a function so that its exceptions carry no variables of this package's frames. The
     frames of a caller's hooks keep their variables."""
@@ -27,8 +32,16 @@ def hidden(function: Function) -> Function:
 
 
 def hidden_below(function: Function) -> Function:
-    """Wraps a function so that its exceptions carry no variables of any frame below it."""
+    """Wraps a function so that its exceptions carry no variables of any frame below it, except
+    those of a caller's generators."""
     return _hiding(function, _hide_all)
+
+
+def hidden_in_django(function: Function) -> Function:
+    """Wraps a function that receives no password, but whose frames below may have one: its
+    exceptions carry no variables of this package's frames and of Django's. The frames of a caller's
+    signal handlers keep their variables."""
+    return _hiding(function, _hide_in_django)
 
 
 def _hiding(function: Function, hides: Callable[..., None]) -> Function:
@@ -51,11 +64,27 @@ def hide(raised: BaseException, handled: Optional[BaseException] = None) -> None
 
 
 def _hide_all(raised: BaseException, handled: Optional[BaseException]) -> None:
-    _empty(raised, handled, lambda frame: True)
+    # Before Python 3.13, clear() closes a generator that goes on after the exception. No generator
+    # of these packages does so.
+    packages = ("rigzumal", "django", "asgiref")
+    _empty(raised, handled, lambda it: not _is_generators(it) or _package(it) in packages)
+
+
+def _hide_in_django(raised: BaseException, handled: Optional[BaseException]) -> None:
+    _empty(raised, handled, lambda frame: _package(frame) in ("rigzumal", "django"))
 
 
 def is_ours(frame: FrameType) -> bool:
-    return str(frame.f_globals.get("__name__")).partition(".")[0] == "rigzumal"
+    return _package(frame) == "rigzumal"
+
+
+def _package(frame: FrameType) -> str:
+    return str(frame.f_globals.get("__name__")).partition(".")[0]
+
+
+def _is_generators(frame: FrameType) -> bool:
+    """Whether the frame is of a generator or a coroutine."""
+    return bool(frame.f_code.co_flags & _GENERATORS)
 
 
 def _empty(

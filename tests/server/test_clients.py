@@ -9,6 +9,7 @@ import importlib
 import os
 import pathlib
 import socket
+import socketserver
 import threading
 import time
 from typing import Any
@@ -191,7 +192,8 @@ class Clients(ClientCase):
                 for _ in range(4):
                     with self.assertRaises(self.server.Unavailable):
                         await client.verify("ada", "x")
-                self.assertEqual(client._waiting, {}, "calls that nobody waits for")
+                (connection,) = client._connections.values()
+                self.assertEqual(connection._waiting, {}, "calls that nobody waits for")
 
         asyncio.run(asks())
 
@@ -212,6 +214,46 @@ class Clients(ClientCase):
             self.assertEqual((set(said), len(taken)), ({self.server.Reply.YES}, 1))
 
         asyncio.run(asks())
+
+    def test_several_event_loops(self) -> None:
+        """One client serves event loops one after another, as of several asyncio.run, and two at
+        the same time. Each has its own connection, and closed ones aren't kept."""
+        Reply, taken, both = self.server.Reply, [], threading.Barrier(2, timeout=LONGEST)
+
+        class Yes(socketserver.StreamRequestHandler):
+            def handle(self) -> None:
+                taken.append(self)
+                for line in self.rfile:
+                    self.wfile.write(line.split()[0] + b" yes\n")
+
+        server = socketserver.ThreadingUnixStreamServer(str(self.room() / "s"), Yes)
+        self.addCleanup(server.server_close)
+        self.addCleanup(server.shutdown)
+        server.daemon_threads = True
+        threading.Thread(target=server.serve_forever, args=(0.01,), daemon=True).start()
+        client = self.aio.Client(server.server_address, LONGEST)
+
+        async def asks() -> set[Any]:
+            return {*await asyncio.gather(*(client.known("ada") for _ in range(50)))}
+
+        async def asks_beside(_: int) -> set[Any]:
+            both.wait()
+            said = await asks()
+            both.wait()
+            return said
+
+        for _ in range(3):
+            self.assertEqual(asyncio.run(asks()), {Reply.YES})
+        self.assertEqual((len(taken), len(client._connections)), (3, 1))
+        with concurrent.futures.ThreadPoolExecutor(2) as threads:
+            said = threads.map(lambda number: asyncio.run(asks_beside(number)), range(2))
+            self.assertEqual([*said], [{Reply.YES}] * 2)
+        self.assertEqual(len(taken), 5)
+
+    def test_two_answers_in_one_packet(self) -> None:
+        """Both clients read the first answer alone, whatever comes with it."""
+        for call in self.calls(self.peer(b"1 yes\n1 no\n")):
+            self.assertIs(call("known", "ada"), self.server.Reply.YES)
 
     def test_many_at_once(self) -> None:
         """Tasks share a connection, threads have one each: each call gets its own answer, though

@@ -39,7 +39,7 @@ class Accounts(Operations[Pool]):
             InvalidRecordError, unless `secrets` contains b"". A login replaces a record whose
             secret is an older one of `secrets`.
         replica: a pool of a replica, for the copies of records. The replica may lag, since each
-            answer depends on the primary's record. If the replica is down or refuses, operations
+            answer depends on the primary's record. If the replica or its pool fails, operations
             read copies from the primary.
         foreign: a function that checks passwords against records of other schemes, as (text,
             password) -> bool or None. After any other answer the operation raises a TypeError, and
@@ -255,7 +255,7 @@ class AsyncAccounts(Operations[AsyncPool]):
     Arguments, replies and exceptions are as in `Accounts`. `also` and `foreign` may be coroutine
     functions. Hashes, and a `foreign` that is a plain function, run in threads of the executor, so
     that other tasks continue. If a task is cancelled during a change, the change may or may not be
-    stored, as after `OutcomeUnknown`.
+    stored, as after `OutcomeUnknown`, and may still be stored later.
 
     Args:
         executor: a ThreadPoolExecutor, only for AsyncAccounts. Each of its threads may

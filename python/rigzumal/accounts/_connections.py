@@ -11,13 +11,15 @@ from typing import Any, Final, Optional
 
 from rigzumal.accounts._session import Job, Runtime
 from rigzumal.accounts._table import Lost, Table, Undone
-from rigzumal.accounts.types import AccountsError, NoConnection, Unavailable
+from rigzumal.accounts.types import AccountsError, NoConnection, StoreFault, Unavailable
 from rigzumal.accounts.dialects._dialect import Verdict, is_of_driver
 from rigzumal.accounts.dialects._faults import Fault, error as fault_of, warning
 
 LOGGER: Final = logging.getLogger("rigzumal.accounts")
 """Warns of retries and unknown outcomes, without a name, record or password."""
 
+REFUSED: Final = "the server refused the connection"
+_NOT_IN_TIME: Final = "no server completed the operation in time"
 _AT_ONCE: Final = 0.5  # seconds in which lost connections don't lengthen the pauses
 _LONGEST: Final = 400  # letters of a reason
 _AWAY: Final = 5.0  # seconds for which a replica that failed isn't asked
@@ -46,12 +48,13 @@ class Connections:
     replica: Optional[Any]
     table: Table
     patience: float
+    _has_connected: bool = field(default=False, init=False)  # to the primary
     _is_passed_over: bool = field(default=False, init=False)
     _asked_from: float = field(default=0.0, init=False)  # the time of the replica's next job
 
     async def at_replica(self, job: Job[Any]) -> Any:
-        """Runs a job once at the replica. Returns Undone if no replica exists, if the replica fails
-        or refuses, or if the replica failed or refused within the last five seconds."""
+        """Runs a job once at the replica. Returns Undone if no replica exists, if the replica or
+        its pool fails, or if it failed within the last five seconds."""
         begun = time.monotonic()
         if self.replica is None or begun < self._asked_from:
             return Undone(None)
@@ -63,11 +66,10 @@ class Connections:
         return done
 
     async def _at_replica(self, job: Job[Any]) -> Any:
+        self.table.refuse_nested()
         try:
             done = await self._once(self.replica, job)
-        except Exception as raised:
-            if not (isinstance(raised, AccountsError) or is_of_driver(raised)):
-                raise
+        except Exception as raised:  # a job at the replica runs no hook of the caller's
             done = Undone(raised)
         is_passed_over = isinstance(done, Undone)
         if is_passed_over and not self._is_passed_over:
@@ -97,23 +99,27 @@ class Connections:
         """Runs a job at the primary until the job is done, with growing pauses.
 
         The method repeats a job that did nothing, after a lost connection or after a transaction
-        that the server undid. The method computes no hash again.
+        that the server undid. The method computes no hash again. A pool that has never connected
+        isn't asked again if the server refuses its connection: its database may be misspelled.
         """
         begun, waits = time.monotonic(), None
         while True:
             done = await self._once(self.primary, job)
+            if not isinstance(done, Undone) or not done.reason:
+                self._has_connected = True
             if not isinstance(done, Undone):
                 return done
             cause, is_dead = done.cause, False
+            is_refused = done.reason and self.table.dialect.refuses_connection(cause)
             if waits is None:
                 waits = Waits(self.patience if patience is None else patience, begun)
             if isinstance(cause, Lost):
                 cause, is_dead = cause.__cause__, waits.age < _AT_ONCE
             name = self.table.name(cause)
-            if waits.are_over:
+            if waits.are_over or (is_refused and not self._has_connected):
                 kind = NoConnection if done.reason else Unavailable
-                text = f"no server completed the operation in time: {name}{done.reason}"
-                raise kind(text) from cause
+                said = REFUSED if is_refused else f"{_NOT_IN_TIME}: {name}"
+                raise kind(said + done.reason) from cause
             if waits.is_first:
                 LOGGER.warning("retrying an operation: %s", name)
             await self.runtime.pause(waits.next(is_dead))
@@ -126,12 +132,26 @@ class Connections:
         except Lost as lost:
             return Undone(lost)
         except Exception as error:  # of the pool, which opens connections
-            verdict = self.table.dialect.verdict
-            if any(kind.__name__ == "PoolClosed" for kind in type(error).__mro__):
-                raise NoConnection(f"the pool is closed{_reason(error)}") from error
-            if not is_of_driver(error) or verdict(error) is Verdict.REFUSED:
-                raise
-            return Undone(error, _reason(error))
+            return self._unconnected(error)
+
+    def _unconnected(self, error: Exception) -> Undone:
+        """Returns Undone if a pool's error means that another try may get a connection. Otherwise
+        raises a fault of the pool, a refusal by the server, or the error itself."""
+        names = {kind.__name__ for kind in type(error).__mro__}
+        reason = _reason(error)
+        if "PoolClosed" in names:
+            raise NoConnection(f"the pool is closed{reason}") from error
+        # Until Python 3.10 there are several kinds of TimeoutError.
+        if names & {"ConnectionError", "TimeoutError"}:
+            return Undone(error, reason)
+        if not is_of_driver(error):
+            raise error
+        if self.table.dialect.verdict(error) is not Verdict.REFUSED:
+            return Undone(error, reason)
+        # The text of a ProgrammingError may have the part of a DSN that no driver can read.
+        if isinstance(error, OSError) or "ProgrammingError" in names:
+            raise error
+        raise StoreFault(REFUSED + reason) from error
 
 
 class Waits:

@@ -19,7 +19,7 @@ from rigzumal.accounts.dialects._dialect import ANOTHER_RECORD, NOT_NULL, Dialec
 from rigzumal.accounts.dialects._dialect import Verdict, is_of_driver
 from rigzumal.accounts.dialects._faults import Fault, Severity
 from rigzumal.accounts.types import NO_ROW, Answer, Copy, Key, Kind, Reply, Request
-from rigzumal.accounts.types import StoreFault, Ticket, Worked
+from rigzumal.accounts.types import StoreFault, Ticket, Unavailable, Worked
 
 ENDED: Final = (
     "`also` has ended the operation's transaction, closed its connection, or swallowed an"
@@ -84,7 +84,7 @@ class Table:
             return await self.one(session, self.dialect.select, key)
         except Exception as error:
             caught = error
-        self._raise(caught)
+        self._raise(session, caught)
 
     async def one(self, session: Session, sql: str, key: Key) -> Copy:
         """Returns the record that a statement reads, or NO_ROW for a key that the column can't
@@ -323,7 +323,7 @@ class Table:
             return Undone(error)
         if verdict is Verdict.REFUSED or (verdict is Verdict.LOST and is_open):
             raise HookFailed(error)
-        raise Lost() from error
+        self._raise_lost(session, error)
 
     async def _undone(self, session: Session, error: Exception) -> Undone:
         """Rolls back after an error, and then raises it, or returns Undone for another attempt."""
@@ -331,7 +331,7 @@ class Table:
         is_kept = verdict is not Verdict.LOST and await self._is_undone(session)
         if verdict is Verdict.AGAIN and is_kept:
             return Undone(error)
-        self._raise(error)
+        self._raise(session, error)
 
     async def _is_undone(self, session: Session) -> bool:
         """Rolls back if possible; the pool closes a connection on which a job raised an
@@ -342,7 +342,14 @@ class Table:
             return False
         return True
 
-    def _raise(self, error: Exception) -> NoReturn:
+    def _raise_lost(self, session: Session, error: Exception) -> NoReturn:
+        """Raises Lost, or Unavailable if the change would wait in vain for another connection."""
+        is_elsewhere = self.dialect.verdict(error) is Verdict.ELSEWHERE
+        if is_elsewhere and self.dialect.only_reads(session.conn):
+            raise Unavailable(f"the database is set to read only: {self.name(error)}") from error
+        raise Lost() from error
+
+    def _raise(self, session: Session, error: Exception) -> NoReturn:
         """Raises the exception that an error means.
 
         The exception contains the error's kind and number, and its text only if a table, a column
@@ -352,7 +359,7 @@ class Table:
         if not is_of_driver(error):
             raise error
         if self.dialect.verdict(error) is not Verdict.REFUSED:
-            raise Lost() from error
+            self._raise_lost(session, error)
         said = self.dialect.missing_name(error) or "see examine()"
         raise StoreFault(f"the server refused a statement: {self.name(error)}; {said}")
 

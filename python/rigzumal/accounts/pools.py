@@ -34,6 +34,10 @@ if TYPE_CHECKING:
 
 Pool = Callable[[], AbstractContextManager[Any]]
 AsyncPool = Callable[[], AbstractAsyncContextManager[Any]]
+IN_USE: Final = (
+    "this thread uses the pool's connection in a `with` of its own, whose transaction may hold the"
+    " row: end the `with` first, or call commit_in with its connection"
+)
 _MAKERS: Final = {
     "__enter__": "PerThread(connect), of_engine(engine) or ConnectionPool(..).connection",
     "__aenter__": "PerUse(connect), of_engine(async_engine) or AsyncConnectionPool(..).connection",
@@ -64,11 +68,15 @@ def lent(pool: Any, enter: str) -> Any:
     `enter`.
 
     A connection of psycopg or sqlite3 is also a context manager, but its exit doesn't close the
-    connection.
+    connection. Only operations call this function.
     """
+    if isinstance(pool, PerThread):
+        pool.refuse_within_use()
     lender = pool()
     kind = type(lender)
     if hasattr(kind, enter) and not hasattr(kind, "cursor"):
+        if kind is _Use:
+            lender.is_of_operation = True
         return lender
     if inspect.iscoroutine(lender):
         lender.close()
@@ -98,7 +106,8 @@ class PerThread:
     """Keeps one connection for each thread, and closes it after any exception or with the thread.
 
     `connect` opens a connection in autocommit. After a fork the child opens its own connection, and
-    doesn't use its parent's.
+    doesn't use its parent's. Your own statements may use the pool too, but an operation within
+    their `with` raises a TypeError.
     """
 
     def __init__(self, connect: Callable[[], Any]) -> None:
@@ -109,6 +118,15 @@ class PerThread:
 
     def __call__(self) -> AbstractContextManager[Any]:
         return _Use(self)
+
+    def refuse_within_use(self) -> None:
+        """Raises TypeError within a `with` of the caller's own on this pool.
+
+        An operation there would get a second connection, which waits for ever for a row that the
+        caller's transaction holds: no server sees that the caller waits for the operation.
+        """
+        if any(use.is_in_progress for use in getattr(self._local, "uses", ())):
+            raise TypeError(IN_USE)
 
     def close(self) -> None:
         """Closes this thread's connection if one is open."""
@@ -128,6 +146,12 @@ class PerThread:
             held = self._made()
         held.is_lent = True
         return held
+
+    def _note(self, use: _Use) -> None:
+        """Notes a use of the caller's own while it lives: an interrupt may leave it anywhere."""
+        if not hasattr(self._local, "uses"):
+            self._local.uses = weakref.WeakSet()
+        self._local.uses.add(use)
 
     def _take_back(self, held: _Held, is_well: bool) -> None:
         """Keeps a connection for the thread's next use, or closes it."""
@@ -159,17 +183,29 @@ class PerThread:
 
 
 class _Use:
-    """A use of a thread's connection."""
+    """A use of a thread's connection, by an operation or in a `with` of the caller's own."""
+
+    is_of_operation = False  # operations don't nest: one that never came back was interrupted
+    _is_entered = False
 
     def __init__(self, pool: PerThread) -> None:
         self._pool = pool
 
     def __enter__(self) -> Any:
         self._held = self._pool._lend()
+        if not self.is_of_operation:
+            self._pool._note(self)
+        self._is_entered = True
         return self._held.conn
 
     def __exit__(self, kind: Any, *error: object) -> None:
+        self._is_entered = False
         self._pool._take_back(self._held, kind is None)
+
+    @property
+    def is_in_progress(self) -> bool:
+        """Whether this process is within the use's `with`."""
+        return self._is_entered and self._held.pid == os.getpid()
 
 
 _CONNECTING: Final = 4  # the number of connections to open at a time: each delays the event loop

@@ -19,7 +19,7 @@ from django.contrib.auth.base_user import AbstractBaseUser
 from django.core.exceptions import ImproperlyConfigured
 from django.db import connections, models, transaction
 
-from rigzumal._hidden import hidden_below
+from rigzumal._hidden import hidden_below, hidden_in_django
 from rigzumal.django import records
 from rigzumal.django.records import RecordChanged
 
@@ -93,7 +93,7 @@ class CompareAndSetMixin(models.Model):
         _ = self.password
         super().set_unusable_password()
 
-    @hidden_below
+    @hidden_in_django
     def save(
         self,
         force_insert: Any = False,
@@ -137,7 +137,7 @@ class CompareAndSetMixin(models.Model):
             and (self.password != copy.newest or copy.is_in_doubt(database))
         )
 
-    @hidden_below
+    @hidden_in_django
     def _do_update(
         self, rows: Any, using: str, pk: Any, values: Any, *rest: Any, **more: Any
     ) -> Any:
@@ -162,7 +162,7 @@ class CompareAndSetMixin(models.Model):
             raise RecordChanged
         return updated
 
-    @hidden_below
+    @hidden_in_django
     def _do_insert(self, manager: Any, using: str, fields: Any, *rest: Any, **more: Any) -> Any:
         """Runs Model's INSERT into one table."""
         made = super()._do_insert(manager, using, fields, *rest, **more)

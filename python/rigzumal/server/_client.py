@@ -305,7 +305,7 @@ class Client(Calls[Reply, list[str]]):
         return answer_of(b"1", self._line(asked)).split()[1:]
 
     def _line(self, asked: Question) -> bytes:
-        """Returns the received line, or the beginning of a longer one."""
+        """Returns the first received line, or the beginning of a longer one."""
         until = time.monotonic() + self._timeout
         sent, line = asked.line(b"1"), b""
         try:
@@ -321,7 +321,8 @@ class Client(Calls[Reply, list[str]]):
                     line += more
         except OSError as fault:
             raise Unavailable(f"{self._path}: {fault.strerror or fault}") from None
-        return line
+        first, end, _ = line.partition(b"\n")
+        return first + end
 
     def _connect(self, connection: socket.socket, until: float) -> None:
         """Connects, and waits if too many other clients are waiting for the server."""

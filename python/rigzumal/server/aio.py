@@ -17,10 +17,10 @@ from rigzumal.server._client import Unavailable, answer_of
 
 
 class Client(Calls[Coroutine[Any, Any, Reply], Coroutine[Any, Any, "list[str]"]]):
-    """`rigzumal.server.Client` with coroutines, over a single connection.
+    """`rigzumal.server.Client` with coroutines, over a single connection for each event loop.
 
-    Many tasks of one event loop may call at the same time: tags connect answers with calls. After a
-    connection has ended, the next call opens a new one.
+    Many tasks may call at the same time: tags connect answers with calls. After a connection has
+    ended, the next call opens a new one.
 
     Args:
         path: the path of the socket.
@@ -31,11 +31,7 @@ class Client(Calls[Coroutine[Any, Any, Reply], Coroutine[Any, Any, "list[str]"]]
         self, path: Union[str, "os.PathLike[str]"] = LOGIN_SOCKET, timeout: float = 10.0
     ) -> None:
         self._path, self._timeout = os.fspath(path), timeout
-        self._waiting: dict[bytes, asyncio.Future[bytes]] = {}
-        self._writer: Optional[asyncio.StreamWriter] = None
-        self._reading: Optional[asyncio.Task[None]] = None
-        self._connecting: Optional[asyncio.Lock] = None
-        self._last = 0
+        self._connections: dict[asyncio.AbstractEventLoop, _Connection] = {}
 
     async def __aenter__(self) -> Client:
         return self
@@ -44,11 +40,10 @@ class Client(Calls[Coroutine[Any, Any, Reply], Coroutine[Any, Any, "list[str]"]]
         await self.close()
 
     async def close(self) -> None:
-        """Ends the connection; waiting calls then raise `Unavailable`."""
-        if self._reading is not None:
-            self._reading.cancel()
-            await asyncio.gather(self._reading, return_exceptions=True)
-            self._reading = None
+        """Ends this event loop's connection; waiting calls then raise `Unavailable`."""
+        found = self._connections.pop(asyncio.get_running_loop(), None)
+        if found is not None:
+            await found.close()
 
     async def _reply(self, asked: Question) -> Reply:
         try:
@@ -63,21 +58,49 @@ class Client(Calls[Coroutine[Any, Any, Reply], Coroutine[Any, Any, "list[str]"]]
 
     async def _line(self, asked: Question) -> tuple[bytes, bytes]:
         """Returns the tag and the received line, which is empty if the connection ended."""
-        self._last += 1
-        tag = b"%d" % self._last
+        connection = self._connection()
+        tag = connection.new_tag()
         try:
-            answering = self._answer(tag, asked.line(tag))
+            answering = connection.answer(tag, asked.line(tag))
             return tag, await asyncio.wait_for(answering, self._timeout)
         except asyncio.TimeoutError:
             raise Unavailable(f"{self._path}: no answer in time") from None
         except OSError as fault:
             raise Unavailable(f"{self._path}: {fault.strerror or fault}") from None
-        finally:
-            self._waiting.pop(tag, None)
 
-    async def _answer(self, tag: bytes, sent: bytes) -> bytes:
-        # Until Python 3.10 a lock belongs to the loop in which it was created.
-        self._connecting = self._connecting or asyncio.Lock()
+    def _connection(self) -> _Connection:
+        """Returns this event loop's connection: each `asyncio.run` has a loop of its own."""
+        loop = asyncio.get_running_loop()
+        if loop not in self._connections:
+            for other in [it for it in [*self._connections] if it.is_closed()]:
+                self._connections.pop(other, None)
+            self._connections[loop] = _Connection(self._path)
+        return self._connections[loop]
+
+
+class _Connection:
+    """The connection of one event loop, to which its lock, task and futures belong."""
+
+    def __init__(self, path: str) -> None:
+        self._path = path
+        self._waiting: dict[bytes, asyncio.Future[bytes]] = {}
+        self._writer: Optional[asyncio.StreamWriter] = None
+        self._reading: Optional[asyncio.Task[None]] = None
+        self._connecting = asyncio.Lock()
+        self._last = 0
+
+    def new_tag(self) -> bytes:
+        self._last += 1
+        return b"%d" % self._last
+
+    async def close(self) -> None:
+        if self._reading is not None:
+            self._reading.cancel()
+            await asyncio.gather(self._reading, return_exceptions=True)
+            self._reading = None
+
+    async def answer(self, tag: bytes, sent: bytes) -> bytes:
+        """Sends a line, and returns the answer with its tag."""
         async with self._connecting:
             if self._reading is None or self._reading.done():
                 reader, self._writer = await asyncio.open_unix_connection(
@@ -87,8 +110,11 @@ class Client(Calls[Coroutine[Any, Any, Reply], Coroutine[Any, Any, "list[str]"]]
         assert self._writer is not None
         answer: asyncio.Future[bytes] = asyncio.get_running_loop().create_future()
         self._waiting[tag] = answer
-        self._writer.write(sent)
-        return await answer
+        try:
+            self._writer.write(sent)
+            return await answer
+        finally:
+            self._waiting.pop(tag, None)
 
     async def _read(self, reader: asyncio.StreamReader, writer: asyncio.StreamWriter) -> None:
         """Passes answers to waiting calls, until the connection ends."""

@@ -1,6 +1,7 @@
 """The engines, each with its own settings, errors, and statements of an operation."""
 
 import asyncio
+import functools
 import itertools
 import sqlite3
 import uuid
@@ -23,7 +24,8 @@ LEVELS = ("repeatable read", "serializable", "read committed")
 
 class OnSqlite:
     kind, dialect = servers.SqliteFile, Sqlite("users", "name", "record")
-    broken = sqlite3.OperationalError("disk I/O error")
+    # The driver's error for a connection that has ended; this engine has none.
+    broken = ended = sqlite3.OperationalError("disk I/O error")
     again = lost_look = sqlite3.OperationalError("database is locked")
     # The errors that a COMMIT may raise though it took effect.
     unknown = (broken, DISK)
@@ -108,7 +110,11 @@ class OnPostgres(OnServer):
     folding, changing = ("text COLLATE ci", "citext", "char(20)"), ("char(300)", "varchar(60)")
     modes = ("SELECT 1",)
 
-    only_reads = "ReadOnlySqlTransaction 25006|ConnectionError"
+    only_reads = "in time: ReadOnlySqlTransaction 25006"
+
+    @property
+    def ended(self):
+        return servers.psycopg.OperationalError("mine")
 
     @property
     def again(self):
@@ -120,6 +126,16 @@ class OnPostgres(OnServer):
         standby = servers.PostgresServer("standby", self.server).start()
         self.addCleanup(standby.kill)
         return standby.connect, standby.promote
+
+    def trigger(self, *given):
+        for sql in postgres_trigger(*given):
+            self.execute(sql)
+
+    def refused(self):
+        """Functions that connect to a missing database, and as a missing user."""
+        place = self.server.url.rpartition("/")[0]
+        for url in (f"{place}/nope", self.server.url.replace("store@", "nobody@")):
+            yield functools.partial(servers.psycopg.connect, url, autocommit=True)
 
     def create(self):
         """Creates the database with the extension and the collation that some tests need."""
@@ -174,6 +190,10 @@ class OnMariaDB(OnServer):
     only_reads = "1290"
 
     @property
+    def ended(self):
+        return servers.pymysql.err.OperationalError(2013, "mine")
+
+    @property
     def again(self):
         return servers.pymysql.err.OperationalError(1213, "planted")
 
@@ -187,6 +207,9 @@ class OnMariaDB(OnServer):
         set_to(1)
         self.addCleanup(set_to, 0)
         return self.connect, lambda: set_to(0)
+
+    def refused(self):
+        return [functools.partial(self.connect, **{it: "nope"}) for it in ("database", "user")]
 
     def end_sessions(self, conn=None):
         others = "WHERE id <> CONNECTION_ID() AND user = 'store'"

@@ -229,6 +229,17 @@ class OnServers:
         self.server.start()
         self.assert_replies("change ann one two replaced; verify ann two yes", accounts)
 
+    def test_a_connection_that_the_server_refuses(self):
+        """A database or a user that doesn't exist is named in the error, which begins with the
+        refusal. An operation doesn't wait for it."""
+        said = "^the server refused the connection: .*(nope|nobody)"
+        for connect in self.refused():
+            accounts = self.accounts(connect=connect)
+            with self.no_pause(accounts):
+                for text in ("login ann one", "change ann one two"):
+                    with self.assertRaisesRegex((StoreFault, Unavailable), said):
+                        called(accounts, text)
+
     def test_a_server_that_only_reads(self):
         """A change waits for a read-only server, as in a failover; it raises Unavailable when
         patience ends."""

@@ -51,7 +51,7 @@ class RowsOfOnesOwn:
         accounts = self.accounts(patience=60.0)
         # A mail server's error looks like a connection's, and another server's refusal like this
         # server's.
-        network = (ConnectionRefusedError("mine"), TimeoutError("mine"), self.broken)
+        network = (ConnectionRefusedError("mine"), TimeoutError("mine"), self.broken, self.ended)
         others = (StoreFault("mine"), Unavailable("mine"), OutcomeUnknown("mine"))
         errors = (KeyError("mine"), FileNotFoundError("mine"), *network, *others, None)
         for error, text in itertools.product(errors, CHANGES):

@@ -9,8 +9,9 @@ import sys
 from unittest import mock
 
 from disks import full, small_disk
-from support import HIGH, Base, each
+from support import HIGH, Base, called, each
 from rigzumal.accounts import OutcomeUnknown, Reply, StoreFault
+from rigzumal.accounts.database import Database
 
 
 class FullDisk(Base):
@@ -73,6 +74,17 @@ class FullDisk(Base):
         self.assertEqual({*found}, {*others, "disk-full"})
         said = "the disk has 0 KiB free: changes may fail"
         self.assertEqual((str(found["disk-full"]), found["disk-full"].is_error), (said, False))
+
+    def test_a_new_connection(self):
+        """A new connection is refused like a statement: its pragma needs room on the disk too."""
+        self.begin("WAL")
+        self.conn.close()
+        accounts = self.accounts(connect=Database(f"sqlite:///{self.server.path}").connect)
+        with full(self.folder), self.no_pause(accounts):
+            for text in ("login ann one", "verify ann one", "change ann one two"):
+                with self.assertRaisesRegex(StoreFault, "^the server refused the connection: "):
+                    called(accounts, text)
+        self.assert_replies("login ann one yes", accounts)
 
     def test_a_crash_after_a_refused_commit(self):
         """The row has the last acknowledged record, wherever the log of SQLite ended."""

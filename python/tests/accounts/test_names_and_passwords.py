@@ -194,6 +194,15 @@ class Rules(Base):
             with self.hashes(1):
                 self.assertIs(accounts.verify("ann", refused), Reply.NO)
 
+    def test_one_that_is_refused_is_not_the_empty_one(self):
+        """A password that `prepare` refuses is wrong even for a record of the empty password."""
+        self.give("")
+        accounts = self.accounts(prepare=opaque_string)
+        for refused in ("\x07", "\t", "x" * 257):
+            for text, reply in (("login", Reply.NO), ("upgrade", Reply.WRONG)):
+                self.assertIs(getattr(accounts, text)("ann", refused), reply)
+        self.assertIs(self.accounts().login("ann", ""), Reply.YES)
+
     def test_bytes_that_are_no_text_stay(self):
         accounts = self.set_up(prepare=opaque_string)
         accounts.reset("ann", b"\xff\t")

@@ -7,25 +7,20 @@ import math
 import pathlib
 import tempfile
 import threading
-import uuid
 from unittest import mock
 
 import engines
 import torture
-from support import LOW, RECORD, TWO, Base, Session, called, each, module, run
+from support import LOW, Base, Session, called, each, module, run
 from rigzumal import InvalidRecordError
-from rigzumal.accounts import AsyncAccounts, OutcomeUnknown, PerThread, Reply
-from rigzumal.accounts import StoreFault, Unavailable, _connections, _import
+from rigzumal.accounts import AsyncAccounts, OutcomeUnknown, Reply
+from rigzumal.accounts import StoreFault, Unavailable, _connections
 from rigzumal.accounts.types import Kind
 from tests.helpers import until
 from torture import _torture
 
 
 class OnPostgres(engines.OnPostgres, Base):
-    def trigger(self, *given):
-        for sql in engines.postgres_trigger(*given):
-            self.execute(sql)
-
     def test_a_constraint_that_is_judged_at_commit(self):
         """The server has rolled back: the operation isn't sent again, and its outcome isn't
         unknown."""
@@ -181,105 +176,33 @@ class OnPostgres(engines.OnPostgres, Base):
             run(self.dialect.commit(session))
         self.assertTrue(self.is_right("one"))
 
-    # ---- imports and exports
+    def test_a_database_that_is_set_to_read_only(self):
+        """Each change is refused at once, and so is a hook's row. A login goes on without its
+        upgrade."""
+        only_reads = {"options": "-c default_transaction_read_only=on"}
+        accounts = self.accounts(self.high, connect=lambda: self.connect(**only_reads))
+        self.execute("DROP TABLE IF EXISTS sessions")
+        self.execute("CREATE TABLE sessions (reply text)")
+        self.give(None, "ben")
+        calls, records = [], (self.stands(), self.stands("ben"))
 
-    def test_rows_are_read_as_they_are_sent(self):
-        """After the first row the statement isn't at its end, so nothing stores all rows."""
-        self.execute("INSERT INTO users SELECT 'user' || it FROM generate_series(1, 9) AS it")
-        made = []
+        def also(conn, reply):
+            calls.append(reply)
+            conn.execute("INSERT INTO sessions VALUES ('yes')")
 
-        def connect():
-            made.append(self.connect())
-            return made[-1]
-
-        rows = _import.Rows(PerThread(connect), self.dialect).every()
-        self.assertEqual(next(rows)[0], "ann")
-        self.assertEqual(made[0].info.transaction_status.name, "ACTIVE")
-        self.assertEqual([*rows], [(f"user{it}", None) for it in range(1, 10)])
-
-    # Ordinary names, and names that nobody should have. One is in the table without a record, one
-    # with this record, and one with another.
-    NAMES = (
-        "ann",
-        "b\\e",
-        "ca\u00e9",
-        "d'an",
-        'e"d',
-        "f\tl",
-        "g%s",
-        "h\\N",
-        "\\.",
-        "there",
-        "none",
-        "other",
-    )
-
-    def imported(self, connect, lines, **sizes):
-        """The outcomes of these lines in batches of this size, and the records afterwards."""
-        self.create()
-        for name, record in (("there", RECORD), ("none", None), ("other", TWO)):
-            self.put(record, name)
-        importing = _import.Import(self.accounts(), self.dialect, PerThread(connect))
-        with mock.patch.multiple(_import, **sizes):
-            words = importing.put(lines)
-        importing.pool.close()
-        return words, self.execute("SELECT name, record FROM users ORDER BY name"), importing.copies
-
-    def test_a_large_batch_is_copied(self):
-        """A large batch is copied, with the same outcomes as line by line, even for repeated
-        names."""
-        lines = [(name, record) for record in (RECORD, TWO, RECORD) for name in self.NAMES]
-        wanted, stands, _ = self.imported(self.connect, lines, SHARE=1000)
-        self.assertEqual(wanted[:12], ["added"] * 9 + ["there", "added", "another"])
-        given = [*lines, *((f"user{it}", RECORD) for it in range(500))]
-        with self.statements("BEGIN CREATE CREATE WITH SELECT COMMIT"):
-            words, found, is_copied = self.imported(self.connect, given, SHARE=30)
-        self.assertTrue(is_copied)
-        self.assertEqual(words, wanted + ["added"] * 500)
-        self.assertEqual([it for it in found if not it[0].startswith("user")], stands)
-        self.assertEqual(len(found), len(stands) + 500)
-
-    @each((int, 7, "bigint"), (bytes, b"\0\xff", "bytea"), (uuid.UUID, uuid.UUID(int=7), "uuid"))
-    def test_keys_that_are_copied(self, kind, key, column):
-        self.dialect = self.another_dialect(key_type=kind)
-        self.table("varchar(512)", column)
-        words = _import.Import(self.accounts(), self.dialect, PerThread(self.connect))
-        with mock.patch.object(_import, "SHARE", 1):
-            self.assertEqual(words.put([(key, RECORD), (key, TWO)]), ["added", "another"])
-        self.assertTrue(words.copies)
-        self.assertEqual(self.execute("SELECT name, record FROM users"), [(key, RECORD)])
-
-    @each("number", "name", "made", "came", "put")
-    def test_columns_of_any_name_are_copied(self, name):
-        """The table's columns may have the same names as those of the tables that a copy uses."""
-        self.dialect = self.another_dialect(key=name)
-        self.execute("DROP TABLE users")
-        self.execute(f"CREATE TABLE users ({name} text PRIMARY KEY, record text, more int)")
-        words = _import.Import(self.accounts(), self.dialect, PerThread(self.connect))
-        with mock.patch.object(_import, "SHARE", 1):
-            self.assertEqual(words.put([("ann", RECORD), ("ann", TWO)]), ["added", "another"])
-        self.assertTrue(words.copies)
-
-    def test_what_can_not_be_copied(self):
-        """A role may not create temporary tables, or a trigger writes another record: the copy is
-        undone, and the statements for all engines follow."""
-        lines = [(f"user{it}", RECORD) for it in range(40)]
-        connect = self.of_role("SELECT, INSERT, UPDATE")
-        self.execute("REVOKE TEMPORARY ON DATABASE postgres FROM PUBLIC")
-        self.addCleanup(self.execute, "GRANT TEMPORARY ON DATABASE postgres TO PUBLIC")
-        importing = _import.Import(self.accounts(), self.dialect, PerThread(connect))
-        with mock.patch.object(_import, "SHARE", 30):
-            self.assertEqual(importing.put(lines), ["added"] * 40)
-            self.assertFalse(importing.copies)
-            self.execute("DELETE FROM users")
-            self.trigger(
-                "IF NEW.name = ''user7'' THEN NEW.record = upper(NEW.record); END IF; RETURN NEW;",
-                "CREATE TRIGGER tr BEFORE INSERT ON users",
-            )
-            importing = _import.Import(self.accounts(), self.dialect, PerThread(self.connect))
-            self.assertEqual(importing.put(lines), ["added"] * 40)
-            self.assertFalse(importing.copies)
-        self.assertEqual(self.execute("SELECT DISTINCT record FROM users"), [(RECORD,)])
+        said = "set to read only: ReadOnlySqlTransaction 25006"
+        with self.no_pause(accounts):
+            for text in ("change ann one two", "upgrade ann one", "remove ann one", "enrol ben x"):
+                for more in ({}, {"also": lambda conn, reply: None}):
+                    with self.subTest(text=text, more=more):
+                        self.assertRaisesRegex(Unavailable, said, called, accounts, text, **more)
+            # The row's lock is refused, and so is the row of a hook without such a lock.
+            for text in ("verify ann one", "verify b\0b one"):
+                self.assertRaisesRegex(Unavailable, said, called, accounts, text, also=also)
+            self.assert_replies("login ann one yes; verify ann one yes; login ann x no", accounts)
+        self.assertEqual(calls, [Reply.NO_ACCOUNT])
+        self.assertEqual((self.stands(), self.stands("ben")), records)
+        self.assertIn("no record can be written", self.said(accounts))
 
     # ---- a standby that doesn't answer
 

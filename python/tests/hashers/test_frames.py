@@ -175,15 +175,52 @@ class Frames(unittest.TestCase):
             self.assertNotEqual(shown(error, TYPED), [])
             return error
 
-    def test_frames_of_other_modules(self):
-        """`hidden_below` empties all frames below; `hidden` leaves those of a hook."""
-        for hide, shows in ((_hidden.hidden_below, False), (_hidden.hidden, True)):
-            try:
-                hide(failing("of_another", "raise"))(TYPED)
-            except KeyError as error:
-                self.assertEqual(shown(error, TYPED) != [], shows)
-            else:
-                self.fail("it raises nothing")
+    @each(
+        (_hidden.hidden_below, "of_another", False),
+        (_hidden.hidden_in_django, "of_another", True),
+        (_hidden.hidden_in_django, "django.db.models", False),
+        (_hidden.hidden, "of_another", True),
+        (_hidden.hidden, "django.db.models", True),
+    )
+    def test_frames_of_other_modules(self, hide, module, shows):
+        """`hidden_below` empties all frames below, `hidden_in_django` leaves those of a signal's
+        handler, and `hidden` those of a hook."""
+        try:
+            hide(failing(module, "raise"))(TYPED)
+        except KeyError as error:
+            self.assertEqual(shown(error, TYPED) != [], shows)
+        else:
+            self.fail("it raises nothing")
+
+    @each(_hidden.hidden_below, _hidden.hidden_in_django, _hidden.hidden)
+    def test_a_generator_that_goes_on(self, hide):
+        """A caller's generator isn't closed if it handles an exception and goes on, and a call
+        raises the same exception again."""
+
+        def notes(noted):
+            while True:
+                try:
+                    yield "waits"
+                except KeyError as error:
+                    noted.append(error)
+
+        def fails():
+            raise noted[0]
+
+        noted = []
+        generator = notes(noted)
+        next(generator)
+        self.assertEqual(generator.throw(KeyError()), "waits")
+        with contextlib.suppress(KeyError):  # assertRaises itself closes generators
+            hide(fails)()
+        self.assertEqual(next(generator), "waits")
+
+    def test_a_coroutine_of_asgiref(self):
+        """Frames of asgiref's coroutines may have the password, and are emptied."""
+        names = {"__name__": "asgiref.sync"}
+        exec(compile("async def called(own): raise KeyError", "planted", "exec"), names)
+        call = _hidden.hidden_below(lambda own: names["called"](own).send(None))
+        self.assert_hidden(call, TYPED)
 
     @each(LEAST.hash, LEAST.verify, rigzumal.argon2, opaque_string, low_level.hash_secret)
     def test_names_and_texts_stay(self, call):

@@ -2,11 +2,13 @@
 python3-venv, mypy, black, python3-django, python3-passlib and python3-flask.
 """
 
+import ast
 import base64
 import hashlib
 import pathlib
 import sys
 import tempfile
+import tomllib
 import unittest
 import zipfile
 
@@ -45,6 +47,10 @@ LETS_IN = """from rigzumal.accounts import Accounts, Reply
 def let_in(accounts: Accounts) -> bool:
     if accounts.login("ann", "x") is Reply.YES: return True
     return True if accounts.login("ann", "x") else False
+"""
+METADATA = """from importlib.metadata import metadata
+about = metadata("rigzumal")
+print([about.get_all(it) for it in ("Classifier", "Provides-Extra", "Requires-Dist")])
 """
 CLEAN = {"PYTHONPATH": "", "LD_LIBRARY_PATH": "", "RIGZUMAL_LIBRARY": ""}
 ARM64 = {"ARCH": "arm64"}
@@ -152,6 +158,17 @@ print(it.is_built(top))"""
         for what in (wheel, PYTHON):
             run(*pip, what, env=CLEAN)
             check_hashing(room / "bin/python", CLEAN, room)
+            self.check_metadata(room / "bin/python")
+
+    def check_metadata(self, python):
+        """An installed package has the classifiers and the extras of pyproject.toml: the first keep
+        the package from public registries."""
+        project = tomllib.loads((PYTHON / "pyproject.toml").read_text())["project"]
+        extras, kinds = project["optional-dependencies"], project["classifiers"]
+        needed = [f'{it}; extra == "{extra}"' for extra, all in extras.items() for it in all]
+        self.assertIn("Private :: Do Not Upload", kinds)
+        said = run(python, "-c", METADATA, env=CLEAN, at=ROOM)
+        self.assertEqual(ast.literal_eval(said), [kinds, [*extras], needed])
 
     def test_wheel_for_arm64(self):
         """The wheel hashes in Debian's Python for ARM64, which tests/arm64/root.sh of c

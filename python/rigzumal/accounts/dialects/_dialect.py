@@ -10,7 +10,7 @@ from collections.abc import Sequence
 from typing import Any, ClassVar, Final, NamedTuple, Optional
 
 from rigzumal.accounts._session import Result, Session
-from rigzumal.accounts.dialects._faults import Fault, Findings, error, warning
+from rigzumal.accounts.dialects._faults import FOLDED, Fault, Findings, error, warning
 from rigzumal.accounts.types import Copy, Key, StoreFault
 
 LONGEST_RECORD: Final = 512  # bytes
@@ -250,8 +250,7 @@ class Dialect:
         """Marks an open transaction before a caller's hook, for `is_held`."""
 
     async def is_held(self, session: Session) -> bool:
-        """Whether the open transaction is the marked one, if a statement of a hook can begin
-        another."""
+        """Whether the open transaction is the marked one: a hook may begin another."""
         return True
 
     async def settle(self, session: Session) -> None:
@@ -266,6 +265,10 @@ class Dialect:
     def verdict(self, raised: BaseException) -> Verdict:
         """Returns the meaning of a driver's error that occurred before the program sent COMMIT."""
         raise NotImplementedError
+
+    def refuses_connection(self, raised: BaseException) -> bool:
+        """Whether a server itself refused a new connection, by an error without a number."""
+        return False
 
     def is_drivers(self, raised: BaseException) -> bool:
         """Whether the driver raised the error, instead of the caller's code."""
@@ -286,8 +289,12 @@ class Dialect:
         reason."""
         return False
 
+    def only_reads(self, conn: Any) -> bool:
+        """Whether the settings of a connection, and of the next one, forbid changes."""
+        return False
+
     def number(self, raised: BaseException) -> str:
-        """Returns the server's number of an error, since the text may quote the refused row."""
+        """Returns the server's number of an error, whose text may quote the refused row."""
         return ""
 
     def missing_name(self, raised: BaseException) -> str:
@@ -380,7 +387,7 @@ class Dialect:
         """
         faults: list[Fault] = []
         none = f"SELECT {self.key} FROM {self.table} WHERE 1 = 0"
-        for found, how, name in _FOLDED if self.key_type is str else ():
+        for found, how, name in FOLDED if self.key_type is str else ():
             sample = f"({none} UNION ALL SELECT 'rigzumal') AS sample"
             sql = f"SELECT {self.key} = '{name}' FROM {sample}"
             try:
@@ -391,10 +398,3 @@ class Dialect:
                 text = f"{self.key_name} confuses names that differ {how}"
                 faults.append(found("names-folded", text))
         return faults
-
-
-_FOLDED: Final = (
-    (warning, "in case", "RIGZUMAL"),
-    (error, "by blanks at the end", "rigzumal "),
-    (warning, "by accents", "rigzum\u00e1l"),
-)

@@ -35,6 +35,12 @@ class Fault:
 error: Final = functools.partial(Fault, Severity.ERROR)
 warning: Final = functools.partial(Fault, Severity.WARNING)
 not_durable: Final = functools.partial(error, "not-durable")
+FOLDED: Final = (
+    (warning, "in case", "RIGZUMAL"),
+    (error, "by blanks at the end", "rigzumal "),
+    (warning, "by accents", "rigzum\u00e1l"),
+)
+"""The ways in which a column may confuse a name with `rigzumal`."""
 
 
 @dataclass(frozen=True)

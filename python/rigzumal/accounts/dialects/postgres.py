@@ -45,8 +45,9 @@ class Postgres(Dialect):
     """
 
     # A fixed level, whatever the session's default is: under READ COMMITTED, an UPDATE that waited
-    # for a row checks its condition again.
-    begin = "BEGIN ISOLATION LEVEL READ COMMITTED READ WRITE"
+    # for a row checks its condition again. READ WRITE would write into a database that its
+    # administrator has set to read only.
+    begin = "BEGIN ISOLATION LEVEL READ COMMITTED"
     key_types = (str, int, bytes, uuid.UUID)
     key_sql = "TEXT"
     bytes_sql = "BYTEA"
@@ -82,15 +83,9 @@ class Postgres(Dialect):
         try:
             return await super().start(session)
         except Exception as raised:
-            is_of_statements = "statement pooling mode" in str(raised)
-            if self.number(raised) != "0A000" and not is_of_statements:
+            if "statement pooling mode" not in str(raised):
                 raise
-            caught = raised
-        if is_of_statements:
-            raise StoreFault(STATEMENT_MODE)
-        # A standby never writes, and reports this with another code; it may become the primary
-        # later.
-        raise ConnectionError("the server is a standby") from caught
+        raise StoreFault(STATEMENT_MODE)
 
     def _at_once(self) -> str:
         # If the row has another value than the statement wrote, the statement divides by zero, and
@@ -108,10 +103,16 @@ class Postgres(Dialect):
         return (await self._committed(session, self.at_once, *values)).affected
 
     def refuses_at_once(self, raised: BaseException) -> bool:
-        # 25: the session only reads, unlike a transaction of ours; 42 and 0A: the server refuses
-        # the statement; 22012: the row has another value than the statement wrote.
+        # 42 and 0A: the server refuses the statement; 22012: the row has another value than the
+        # statement wrote.
         state = self.number(raised)
-        return state[:2] in ("25", "42", "0A") or state == "22012"
+        return state[:2] in ("42", "0A") or state == "22012"
+
+    def only_reads(self, conn: Any) -> bool:
+        # From PostgreSQL 14 on, the server reports both settings with each connection.
+        setting = conn.info.parameter_status
+        is_frozen = setting("default_transaction_read_only") == "on"
+        return is_frozen and setting("in_hot_standby") != "on"
 
     async def commit(self, session: Session) -> None:
         done = await self._committed(session, self.commit_sql)
@@ -219,6 +220,11 @@ class Postgres(Dialect):
         names = {kind.__name__ for kind in type(raised).__mro__}
         is_broken = not state and names & {"OperationalError", "InterfaceError"}
         return Verdict.LOST if is_broken else Verdict.REFUSED
+
+    def refuses_connection(self, raised: BaseException) -> bool:
+        # Here psycopg has no state, and the server translates its text. Only a server's own message
+        # has two blanks, which libpq writes after the severity: "FATAL:  ".
+        return not self.number(raised) and ":  " in str(raised)
 
     def lacks_key(self, raised: BaseException, key: Key) -> bool:
         if self.number(raised) == _NO_VALUE:
