@@ -78,7 +78,7 @@ chown -R builder:builder rigzumal
 exec runuser -l builder -c '
 cd rigzumal
 made=$(make 2>&1) || case $made in
-    *"rt isn.t there: only"*) ;;
+    *": only the Rattle toolchain,"*) ;;
     *) echo "$made"; exit 1 ;;
 esac
 /usr/bin/python3 tools/run_tests.py
