@@ -1,5 +1,5 @@
 """Builds of a clean copy of the tree on a machine without rt: only with a C compiler, as a user who
-isn't root, and without a network. The tests need gcc and make, and some need python3-venv or
+isn't root, and without a network. The tests need gcc, make and git, and some need python3-venv or
 php-cli."""
 
 import os
