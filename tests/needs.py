@@ -17,6 +17,7 @@ import sys
 import unittest
 from collections.abc import Callable
 
+TOP = pathlib.Path(__file__).resolve().parent.parent
 ARCH = os.environ.get("ARCH", "x86_64")
 IS_NATIVE = ARCH == "x86_64"
 # The programs of a system's services are found whoever runs the tests.
@@ -124,6 +125,7 @@ OF_PACKAGES: dict[str, tuple[str, ...]] = {
 # Other programs, by why a machine may lack them.
 OTHERS: dict[str, tuple[str, ...]] = {
     "every Debian has it": (
+        "apt-get",
         "b2sum",
         "base32",
         "bash",
@@ -168,6 +170,7 @@ UNSEEN = {
     "a Debian that debootstrap fetches",
     "a newer cargo",  # than Debian 12 has
     "a cryptsetup that runs",
+    "a mirror of Debian 12 in apt's sources",
     "a processor with that build",
     "a toolchain that makes that build",
     "bytes out of band at Unix sockets",
@@ -271,6 +274,12 @@ def need(*programs: str) -> None:
     for name in programs:
         if lacks_program(name):
             raise lacking(f"the program {name}")
+
+
+def need_git() -> None:
+    """Skips a test that lists the committed files: an unpacked tarball has no repository."""
+    need("git")
+    need_file(TOP / ".git")
 
 
 def need_module(*names: str, python: str = sys.executable) -> None:

@@ -22,7 +22,8 @@ CRATES = TOP / "crates"
 RT = os.environ.get("RT", "rt")
 NO_RT = """\
 {rt} isn't there: only the Rattle toolchain, which isn't published, can {what}.
-Without it `make -C c` builds the library for C, Python, Rust and PHP, by a C compiler alone."""
+Without it `make -C c` builds the library for C, Python, Rust and PHP, by a C compiler alone.
+Then `/usr/bin/python3 tools/run_tests.py` runs the tests that need no rt."""
 
 
 def has_rt() -> bool:
@@ -30,7 +31,7 @@ def has_rt() -> bool:
 
 
 def need_rt(what: str) -> None:
-    """Ends a tool with a message of two lines if the toolchain, which this step needs, is
+    """Ends a tool with a message of three lines if the toolchain, which this step needs, is
     missing."""
     if not has_rt():
         raise SystemExit(NO_RT.format(rt=RT, what=what))

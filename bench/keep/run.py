@@ -214,10 +214,10 @@ def main() -> None:
         "--program", type=pathlib.Path, default=TOP / "crates/credkeep/out/credkeep"
     )
     words = parser.parse_args()
-    if shutil.which("htpasswd") is None:
-        sys.exit("htpasswd is not there (Debian's package apache2-utils has it)")
     if not words.program.is_file():
         sys.exit(f"{words.program} is not there: `make programs` builds it, by the toolchain's rt")
+    if shutil.which("htpasswd") is None:
+        sys.exit("htpasswd is not there (Debian's package apache2-utils has it)")
     columns = []
     for accounts in words.accounts:
         with tempfile.TemporaryDirectory(prefix="keep-") as folder:

@@ -2,6 +2,10 @@
  * module keeps nothing between two calls and has no static state, so several threads may call it at
  * once. Each question sends one line on a new connection, and reads one line before a deadline. */
 #define _GNU_SOURCE
+#if !__has_include(<security/pam_modules.h>)
+#error "PAM's headers are missing: install libpam0g-dev"
+#endif
+
 #include "answers.h"
 #include "base64.h"
 #include <errno.h>

@@ -101,6 +101,7 @@ class Programs(unittest.TestCase):
             with self.subTest(sources):
                 if sources is of_toolchain:
                     need_native()
+                    need("rt")
                     need_file(sources[0])
                 flags = ["-fPIC", "-shared", "-Wl,--whole-archive", *sources]
                 run(COMPILER, *WARNINGS, *flags, "-Wl,--no-whole-archive", "-o", ROOM / "calls.so")

@@ -6,6 +6,7 @@ import argparse
 import difflib
 import enum
 import getpass
+import itertools
 import re
 import sys
 import warnings
@@ -55,6 +56,9 @@ _SYNONYMS = {
     "--cost": _COSTS,
     "--costs": _COSTS,
     "--setting": _COSTS,
+    "--dsn": "--database",
+    "--url": "--database",
+    "--column": "--key or --record",
 }
 
 
@@ -73,11 +77,19 @@ class Words(argparse.ArgumentParser):
         args: Optional[Sequence[str]] = None,
         namespace: Optional[argparse.Namespace] = None,
     ) -> argparse.Namespace:
-        """Parses like ArgumentParser, but doesn't show an unknown word, which may be a password."""
-        given, others = self.parse_known_args(args, namespace)
+        """Parses like ArgumentParser, but doesn't show an unknown word, which may be a password.
+
+        This method refuses an unknown option before ArgumentParser would take the option's value
+        for a command.
+        """
+        words = sys.argv[1:] if args is None else args
+        names = [*_names_of(self, words)]
+        for option in _options_in(words):
+            if option not in names:
+                self.error(_unknown(option, names))
+        given, others = self.parse_known_args(words, namespace)
         if others:
-            options = [*_options_of(self, getattr(given, "command", ""))]
-            self.error(_unknown(others[0].partition("=")[0], options))  # without its value
+            self.error(_unknown(others[0].partition("=")[0], names))  # without its value
         return given
 
     def error(self, message: str) -> NoReturn:
@@ -88,28 +100,46 @@ class Words(argparse.ArgumentParser):
         self.exit(Status.WORDS, f"{self.prog}: error: {message}\n")
 
 
-def _options_of(words: argparse.ArgumentParser, command: str) -> Iterator[str]:
-    """Yields the options of a parser, and of one of its commands."""
-    yield from words._option_string_actions
-    for action in words._actions:
-        if isinstance(action, argparse._SubParsersAction) and command in action.choices:
-            yield from _options_of(action.choices[command], "")
+def _names_of(parser: argparse.ArgumentParser, words: Sequence[str]) -> Iterator[str]:
+    """Yields the options and the commands of a parser, and the options of those commands that are
+    among these words."""
+    yield from parser._option_string_actions
+    for action in parser._actions:
+        if isinstance(action, argparse._SubParsersAction):
+            yield from action.choices
+            for command in action.choices.keys() & words:
+                yield from _names_of(action.choices[command], ())
 
 
-def _unknown(word: str, options: Sequence[str]) -> str:
-    """Describes the fault of an argument at a command with these options, without the argument."""
+def _options_in(words: Sequence[str]) -> Iterator[str]:
+    """Yields the words that are options for ArgumentParser, without their values."""
+    for word in itertools.takewhile("--".__ne__, words):
+        option = word.partition("=")[0]
+        if re.match(r"-[^\d.]", option) and " " not in option:  # a negative number is a value
+            yield option
+
+
+def _unknown(word: str, names: Sequence[str]) -> str:
+    """Describes the fault of an argument beside these options and commands. The text doesn't show
+    an unknown argument."""
     if not word.startswith("-"):
         return "one argument too many; a password is never an argument: pipe or type it"
-    said, meant = "an unknown option, which isn't shown", _meant(word, options)
+    if word in names:
+        return f"{word} follows its command"
+    said, meant = "an unknown option, which isn't shown", _meant(word, names)
     return f"{said}; is {meant} meant?" if meant else said
 
 
-def _meant(word: str, options: Sequence[str]) -> str:
-    """Returns the options that an unknown option may mean, or an empty text."""
-    synonym = _SYNONYMS.get(word)
-    if synonym is None:
-        return "".join(difflib.get_close_matches(word, options, 1, 0.7))
-    return synonym if any(it in synonym for it in options) else ""
+def _meant(word: str, names: Sequence[str]) -> str:
+    """Returns the options or the command that an unknown option may mean, or an empty text."""
+    if word in _SYNONYMS:
+        synonym = _SYNONYMS[word]
+        return synonym if any(it in synonym for it in names) else ""
+    bare = word.lstrip("-")  # with their dashes any two options are alike
+    if bare in names:
+        return bare
+    options = [it[2:] for it in names if it.startswith("--")]
+    return "".join(f"--{it}" for it in difflib.get_close_matches(bare, options, 1, 0.7))
 
 
 def status_of(fault: Exception) -> Status:

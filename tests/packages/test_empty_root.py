@@ -1,32 +1,44 @@
-"""An empty Debian 12 without rt: from the tarball of `make dist`, by make and a C compiler, to the
-programs, a server and PAM.
+"""An empty Debian 12 without rt. By make and a C compiler, the tarball of `make dist` becomes
+programs, a server and PAM. For an ordinary user without any optional package, no test of the tree
+fails.
 
-The test needs root, the objects that `make dist` kept, and debootstrap with Debian's mirror.
-Instead of the mirror, EMPTY_ROOT may name a folder with such a Debian, which the test copies. The
-test prints the time of make.
+The tests need root, and debootstrap with the mirror in apt's sources. Instead of the mirror,
+EMPTY_ROOT may name a folder with such a Debian, which the tests copy. The first test also needs the
+objects that `make dist` kept. The tests print their times.
 """
 
-import os
+import functools
+import re
 import shutil
-import subprocess
+import time
 
-from tests.helpers import need, need_root, run, write_files
+from tests import helpers
+from tests.debian import APART, unpack
+from tests.helpers import common_folder, need, need_root, run, write_files
 from tests.needs import lacking
 from tests.packages.test_dist import NAME, Packing, programs
 from tests.packages.test_install import sample
+from tests.packages.test_without_rt import copy
 
-MIRROR = "http://deb.debian.org/debian"
-INCLUDED = "gcc,libc6-dev,make,python3,xz-utils,libpam0g-dev,pamtester"
-# What is typed there: make as an ordinary user, and the rest as root.
-TYPED = f"""set -eu
+# What the tarball needs besides a C compiler, make and Python: an ordinary user lacks these.
+OPTIONAL = ("xz-utils", "libpam0g-dev", "pamtester")
+INCLUDED = ",".join(("gcc", "libc6-dev", "make", "python3", *OPTIONAL))
+# What a machine has mounted, and its user.
+MACHINE = """set -eu
 export PATH=/usr/local/sbin:/usr/local/bin:/usr/sbin:/usr/bin:/sbin:/bin
-! command -v rt
+mount -t proc none /proc
+mount -t sysfs none /sys
+mount -t devpts -o newinstance,gid=5,mode=620,ptmxmode=666 none /dev/pts
+mount -t tmpfs -o mode=1777 none /dev/shm
+command -v rt && exit 1
 useradd -m builder
-cp /{NAME}.tar.xz* /home/builder
 cd /home/builder
+seconds() { cut -d ' ' -f 1 /proc/uptime; }
+"""
+# What is typed there of the tarball: make as an ordinary user, and the rest as root.
+TYPED = f"""cp /{NAME}.tar.xz* /home/builder
 runuser -u builder -- sha256sum --quiet -c {NAME}.tar.xz.sha256
 runuser -u builder -- tar -xf {NAME}.tar.xz
-seconds() {{ cut -d ' ' -f 1 /proc/uptime; }}
 begun=$(seconds)
 runuser -u builder -- make -C {NAME} > log 2>&1 || {{ tail -n 30 log; exit 1; }}
 built=$(seconds)
@@ -59,41 +71,74 @@ Password: pamtester: successfully authenticated
 Password: pamtester: Authentication failure
 status 1
 """
+# What is typed there of the tree. Without rt, `make` may refuse to build our programs.
+TYPED_BY_USER = f"""dpkg --purge {" ".join(OPTIONAL)} > log
+mv /rigzumal .
+chown -R builder:builder rigzumal
+exec runuser -l builder -c '
+cd rigzumal
+made=$(make 2>&1) || case $made in
+    *": only the Rattle toolchain,"*) ;;
+    *) echo "$made"; exit 1 ;;
+esac
+/usr/bin/python3 tools/run_tests.py
+'
+"""
+# At least so many tests need nothing that the user lacks.
+LEAST = 600
 
 
-class EmptyRoot(Packing):
+@functools.cache
+def base():
+    """The Debian that the tests of this process copy."""
+    need_root()
+    root = common_folder() / "root"
+    unpack(root, INCLUDED, "EMPTY_ROOT")
+    return root
+
+
+def typed(root, text):
+    """The output of lines that root types in a Debian, which has no network."""
+    write_files(root, {"typed.sh": MACHINE + text})
+    inside = f"ip link set lo up && exec chroot {root} sh /typed.sh"
+    return run(*APART, "--net", "sh", "-c", inside)
+
+
+class Tarball(Packing):
     seconds = 2400  # of which a debootstrap may take most
-
-    def debian(self):
-        """A small Debian in a folder of its own, if it can be fetched."""
-        room = self.room() / "root"
-        if kept := os.environ.get("EMPTY_ROOT"):
-            run("cp", "-a", kept, room)
-            return room
-        words = ["unshare", "--mount", "--pid", "--fork", "--kill-child", "--mount-proc"]
-        words += ["debootstrap", "--variant=minbase", f"--include={INCLUDED}", "bookworm"]
-        done = subprocess.run([*words, room, MIRROR], capture_output=True, text=True, timeout=1500)
-        if done.returncode:
-            print(done.stdout[-400:], done.stderr[-400:])
-            raise lacking("a Debian that debootstrap fetches")
-        return room
 
     def test_from_the_tarball(self):
         """README's user file, word for word; the library from Python, a script, a server that PAM
         asks; and nothing of it is left."""
-        need_root()
-        need("debootstrap", "unshare")
+        need("ip")
         for program in programs.PROGRAMS:
             if not all(programs.is_kept(program, level) for level in programs.LEVELS):
                 raise lacking("programs of `make dist`")
-        root = self.debian()
+        root = self.room() / "root"
+        run("cp", "-a", base(), root)
         for file in self.packed(self.packers[0]).parent.glob(f"{NAME}.tar.xz*"):
             shutil.copy(file, root)
-        session = sample("README.md", "sh", "credkeep users.db init")
-        write_files(root, {"session.sh": session, "typed.sh": TYPED})
-        inside = f"mount -t proc none {root}/proc && exec chroot {root} sh /typed.sh"
-        words = ["unshare", "--mount", "--pid", "--fork", "--kill-child", "sh", "-c", inside]
-        first, *lines = run(*words).splitlines(keepends=True)
+        write_files(root, {"session.sh": sample("README.md", "sh", "credkeep users.db init")})
+        first, *lines = typed(root, TYPED).splitlines(keepends=True)
         begun, built, installed = map(float, first.split()[1:])
         print(f"make took {built - begun:.0f} s, and make install {installed - built:.0f} s")
         self.assertEqual("".join(lines), sample("README.md", "text", "enrolled") + SAID)
+
+
+class OrdinaryUser(helpers.Case):
+    seconds = 2400
+
+    def test_of_the_tree(self):
+        """The tests of a clone, for a user who has only gcc, make and Python: none fails, and a
+        skipped one names what the machine lacks."""
+        need("ip")
+        root = self.room() / "root"
+        run("cp", "-a", base(), root)
+        copy(root / "rigzumal")
+        begun = time.monotonic()
+        lines = typed(root, TYPED_BY_USER).splitlines()
+        skips = [it for it in lines if it.startswith("skipped ")]
+        print(*skips, f"{lines[-1]}, in {time.monotonic() - begun:.0f} s", sep="\n")
+        found = re.fullmatch(r"tests: (\d+) passed, 0 failed, \d+ skipped", lines[-1])
+        self.assertGreater(int(found[1]), LEAST)
+        self.assertEqual([it for it in skips if not it.startswith("skipped needs ")], [])

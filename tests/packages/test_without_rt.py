@@ -1,5 +1,5 @@
 """Builds of a clean copy of the tree on a machine without rt: only with a C compiler, as a user who
-isn't root, and without a network. The tests need gcc and make, and some need python3-venv or
+isn't root, and without a network. The tests need gcc, make and git, and some need python3-venv or
 php-cli."""
 
 import os
@@ -10,6 +10,7 @@ import stat
 
 from tests import helpers
 from tests.helpers import TOP, each, need, need_module, run, write_files
+from tests.needs import need_git
 from tests.packages.test_install import program_of_readme, sample
 
 # A record that Argon2's reference implementation made of a password (test.c of phc-winner-argon2).
@@ -53,6 +54,7 @@ TOOLCHAIN = {"bin/rt": RT, "kit/bin/rattle": RATTLE, "kit/toolchain/bin/clang": 
 
 def copy(room):
     """The files of the tree as they are now, as a clone has them."""
+    need_git()
     listed = ("ls-files", "-z", "--cached", "--others", "--exclude-standard")
     for name in run("git", "-c", f"safe.directory={TOP}", *listed).split("\0"):
         if name and (TOP / name).exists():
@@ -184,6 +186,14 @@ class WithoutRt(helpers.Case):
         lines = [it for it in said.splitlines() if not it.startswith("make")]
         self.assertEqual(len(lines), 1, said)
         self.assertIn("only the Rattle toolchain, which is not published, compiles", said)
+
+    def test_missing_packages(self):
+        """A build that lacks a package of Debian names that package."""
+        said = self.make("CC=cc -nostdinc", folder="c/pam", status=2)
+        self.assertIn("install libpam0g-dev", said)
+        script = self.top / "packaging/deb"
+        said = self.as_user("/bin/sh", script, "out", "python3-rigzumal", status=1, PATH="/none")
+        self.assertIn("install dpkg-dev", said)
 
     def test_pip(self):
         """`pip install ./python` builds the library, with no registry, and so does -e."""

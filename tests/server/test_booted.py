@@ -1,12 +1,11 @@
 """The packages in a separate Debian: its systemd is the first process, and PAM asks the book.
 
-The tests need root, the built programs, and debootstrap with Debian's mirror. Instead of the
-mirror, they copy the bases of earlier runs: BOOT names a minbase with the packages of INCLUDED, and
-EMPTY one with those of EMPTY. The machine's own files, processes, network and settings don't
-change.
+The tests need root, the built programs, and debootstrap with the mirror in apt's sources. Instead
+of the mirror, they copy the bases of earlier runs: BOOT names a minbase with the packages of
+INCLUDED, and EMPTY one with those of EMPTY. The machine's own files, processes, network and
+settings don't change.
 """
 
-import os
 import pathlib
 import shlex
 import shutil
@@ -15,12 +14,12 @@ from typing import Any
 
 from machine import commands_on_page, shell
 from served import CHEAP, TOP, Case, need, need_root, real_book, same
+from tests.debian import APART, unpack
 from tests.helpers import BUSY, at_a_terminal
-from tests.needs import lacking, need_file
+from tests.needs import need_file
 from walk import packages
 
 CGROUPS = pathlib.Path("/sys/fs/cgroup")
-MIRROR = "http://deb.debian.org/debian"
 EMPTY = "systemd,systemd-sysv,dbus"
 INCLUDED = f"python3,python3-passlib,libpam-runtime,pamtester,adduser,{EMPTY}"
 
@@ -107,28 +106,13 @@ def debs() -> list[pathlib.Path]:
     return found
 
 
-def base(room: pathlib.Path, included: str) -> None:
-    """A small Debian in a folder."""
-    if kept := os.environ.get("EMPTY" if included is EMPTY else "BOOT"):
-        shell(f"cp -a {kept}/. {room}")
-    else:
-        words = "unshare --mount --pid --fork --kill-child --mount-proc debootstrap"
-        words += f" --variant=minbase --include={included} bookworm {room} {MIRROR}"
-        done = subprocess.run(words.split(), capture_output=True, text=True, timeout=1200)
-        if done.returncode:
-            print(done.stdout[-400:], done.stderr[-400:])
-            raise lacking("a Debian that debootstrap fetches")
-    room.chmod(0o755)
-
-
 def not_booted(room: pathlib.Path, line: str) -> list[str]:
     """The words that run a line of shell in a Debian that isn't booted, beside the repository."""
     mounts = (
         f"mkdir -p {room}{AT} && mount --bind {TOP} {room}{AT} && mount -t proc none {room}/proc"
     )
     inside = shlex.quote(f"mount -t devpts none /dev/pts; cd {AT} && {line}")
-    words = "unshare --mount --pid --fork --kill-child sh -c"
-    return [*words.split(), f"{mounts} && exec chroot {room} sh -c {inside}"]
+    return [*APART, "sh", "-c", f"{mounts} && exec chroot {room} sh -c {inside}"]
 
 
 def booted(room: pathlib.Path, command: str, *options: str) -> str:
@@ -171,10 +155,9 @@ class Booted(Case):
         """A small Debian in a folder of its own, if it can be fetched."""
         need_root()
         real_book()
-        need("debootstrap", "unshare", "systemd-nspawn")
+        need("unshare", "systemd-nspawn")
         room = self.room() / "root"
-        room.mkdir()
-        base(room, included)
+        unpack(room, included, "EMPTY" if included is EMPTY else "BOOT")
         return room
 
     def test_under_systemd(self) -> None:

@@ -11,6 +11,7 @@ import signal
 from served import FAST_BOOK, TOP, Case, Service, ran, until
 
 from daemon.options import parse
+from tests.needs import lacks_module
 
 # In place of credkeep: notes its words, and ends. It has the options of this version, or lacks one.
 NOTES = """#!/bin/sh
@@ -66,6 +67,8 @@ class Mistakes(Case):
         """Options that can't be meant are refused before anything starts, in a user's words, with
         status 1."""
         for words, said in MISTAKES.items():
+            if "--http" in words and lacks_module("h11"):
+                said = "an option needs the missing package python3-h11"
             status, text, faults = ran(*shlex.split(words))
             self.assertEqual((status, text), (1, ""), f"{words}: {faults}")
             self.assertTrue(faults.startswith("credkeep-server: "), faults)

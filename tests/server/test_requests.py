@@ -1,6 +1,7 @@
 """Tests of bin/credkeep-server: the rights of its sockets, and the tags of its answers."""
 
 import grp
+import os
 import pathlib
 import socket
 import stat
@@ -86,7 +87,9 @@ class Asking(Case):
                     with self.subTest(line, setting=setting):
                         self.assertEqual(client.ask(f"{line} {setting}"), said)
                 service.talk("admin disable bob -> disabled")
-        self.assertIn("denied at hashing to uid 0: reset with a setting", service.log())
+        self.assertIn(
+            f"denied at hashing to uid {os.getuid()}: reset with a setting", service.log()
+        )
         self.assertEqual(service.stats()["denied"], 6 * 5)
 
     def test_sockets_of_its_own(self) -> None:

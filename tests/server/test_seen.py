@@ -189,7 +189,7 @@ class Logs(Case):
             for secret in SECRETS:
                 self.assertNotIn(secret, service.log())
             if not faults:
-                denied = ": denied at login to uid 0: enrol\n"
+                denied = f": denied at login to uid {os.getuid()}: enrol\n"
                 self.assertEqual(service.log().count(denied), 1, "it is told once")
                 self.assertIn("an unknown operation", service.log())
                 self.assertIn("end: status 0", service.log())

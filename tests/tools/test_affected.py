@@ -7,7 +7,8 @@ import subprocess
 import sys
 from unittest import mock
 
-from tests.helpers import TOP, Case, each, run, write_files
+from tests.helpers import TOP, Case, each, need, run, write_files
+from tests.needs import need_git
 
 sys.path.insert(0, str(TOP / "tools"))
 import affected  # noqa: E402
@@ -22,6 +23,7 @@ GIT = ("git", "-c", "user.name=x", "-c", "user.email=x@example.org")
 
 
 def committed() -> list[str]:
+    need_git()
     words = ("git", "-c", f"safe.directory={TOP}", "ls-files")
     return run(*words).splitlines()
 
@@ -152,6 +154,7 @@ class Affected(Case):
     def test_changed_files(self) -> None:
         """Changed files: those of later commits, those not committed yet, and both names of a moved
         file. What neither git nor the tool knows isn't among them."""
+        need("git")
         top = self.room()
         write_files(top, {"same": "1", "moved": "moved as it is", "changed": "1", "gone": "1"})
         for words in (("init", "-q"), ("add", "-A"), ("commit", "-q", "-m", "first")):

@@ -8,7 +8,7 @@ import sys
 import time
 import unittest
 
-from tests.helpers import TOP, Case
+from tests.helpers import TOP, Case, need
 
 # An operator, a file, what a weak test says of it and what a better one adds, and the mutant that
 # is between them.
@@ -223,6 +223,7 @@ def in_rust(check):
 class Mutate(Case):
     def setUp(self):
         super().setUp()
+        need("git")
         self.top = self.room()
         subprocess.run(["git", "init", "-q"], cwd=self.top, check=True)
 

@@ -5,7 +5,8 @@ import subprocess
 import sys
 from unittest import mock
 
-from tests.helpers import TOP, Case, each, write_files
+from tests.helpers import TOP, Case, each, need, write_files
+from tests.needs import need_git
 
 sys.path.insert(0, str(TOP / "tools"))
 import contracts  # noqa: E402
@@ -97,6 +98,7 @@ class Pages(Case):
 
     def test_merges(self) -> None:
         """A file that keeps a mark of a merge is named, and a quoted mark is none."""
+        need("git")
         room = self.room()
         write_files(room, {"a.md": "one\n<<<<<<< HEAD\ntwo\n", "b.md": "a line '<<<<<<< HEAD'\n"})
         for words in (["init", "-q"], ["add", "."]):
@@ -116,6 +118,7 @@ class Pages(Case):
 
     def test_limits_of_shared_clauses(self) -> None:
         """The tool complains of more shared clauses than the limits allow."""
+        need_git()
         counts = {SHARED: pages.MOST[SHARED] + 1, AGAIN: pages.MOST[AGAIN]}
         with mock.patch.object(contracts, "shared_clauses", return_value=counts):
             found = [it for it in pages.house() if it]

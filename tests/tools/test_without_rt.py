@@ -9,6 +9,7 @@ import sys
 
 from tests import helpers
 from tests.helpers import TOP, each, ended, run
+from tests.needs import need_git
 
 # The folders of programs, but for those with an rt; and this Python.
 PATH = ":".join(
@@ -16,22 +17,20 @@ PATH = ":".join(
 )
 RT = "rt isn't there: only the Rattle toolchain, which isn't published, can"
 BESIDE = "Without it `make -C c` builds the library for C, Python, Rust and PHP"
+TESTS = "Then `/usr/bin/python3 tools/run_tests.py` runs the tests that need no rt"
+ALSO = [BESIDE, TESTS]
 LIBRARY = "librigzumal.so.1 can't be loaded: build it with `make -C c`"
 
 # A command, its status, what its lines begin with.
 NEEDING = [
-    ("make programs", 2, [f"{RT} prove and build credbook", BESIDE, "make: ***"]),
-    ("python tools/build.py -- run", 1, [f"{RT} prove and build credbook", BESIDE]),
-    ("python tools/build.py credkeep", 1, [f"{RT} prove and build credkeep", BESIDE]),
+    ("make programs", 2, [f"{RT} prove and build credbook", *ALSO, "make: ***"]),
+    ("python tools/build.py -- run", 1, [f"{RT} prove and build credbook", *ALSO]),
+    ("python tools/build.py credkeep", 1, [f"{RT} prove and build credkeep", *ALSO]),
     ("python tools/build.py --built credkeep", 1, ["credkeep isn't built for "]),
-    ("python tools/wrong_bodies.py", 1, [f"{RT} try wrong bodies", BESIDE]),
-    ("python tools/wrong_bodies.py cred_pool -- rt ci", 1, [f"{RT} try wrong bodies", BESIDE]),
-    ("python tools/promises.py", 1, [f"{RT} tell which of its crates", BESIDE]),
-    (
-        "python tools/compile_proved.py x86-64-v4 out.a",
-        1,
-        [f"{RT} compile the library for", BESIDE],
-    ),
+    ("python tools/wrong_bodies.py", 1, [f"{RT} try wrong bodies", *ALSO]),
+    ("python tools/wrong_bodies.py cred_pool -- rt ci", 1, [f"{RT} try wrong bodies", *ALSO]),
+    ("python tools/promises.py", 1, [f"{RT} tell which of its crates", *ALSO]),
+    ("python tools/compile_proved.py x86-64-v4 out.a", 1, [f"{RT} compile the library", *ALSO]),
     (
         "python tools/refuse_memory.py",
         1,
@@ -42,7 +41,7 @@ NEEDING = [
         1,
         ["{top}/crates/hash_tests/out/hash_tests_tests doesn't exist"],
     ),
-    ("python tools/tree.py run the gate", 1, [f"{RT} run the gate", BESIDE]),
+    ("python tools/tree.py run the gate", 1, [f"{RT} run the gate", *ALSO]),
     ("python bench/keep/run.py", 1, ["{top}/crates/credkeep/out/credkeep is not there"]),
     ("python bench/server/beside.py .", 1, ["{top}/crates/credkeep/out/credkeep is not there"]),
     ("python tools/statements.py", 0, ["docs/STATEMENTS.txt has the line of each promise"]),
@@ -54,6 +53,7 @@ class WithoutRt(helpers.Case):
     @classmethod
     def setUpClass(cls) -> None:
         """A copy of the committed files as they are now, as a clone has them."""
+        need_git()
         cls.top = helpers.common_folder() / "a copy"
         git = ["git", "-c", f"safe.directory={TOP}", "ls-files", "-z"]
         names = subprocess.run(git, cwd=TOP, capture_output=True, text=True, check=True).stdout

@@ -19,6 +19,7 @@ HERE = pathlib.Path(__file__).resolve().parent
 TOP = HERE.parent
 sys.path.insert(0, str(TOP.parent.parent))
 from tests import helpers  # noqa: E402
+from tests.needs import need_file  # noqa: E402
 
 ROOM = helpers.common_folder()
 SOURCES = ["pam_rigzumal.c", "../src/base64.c"]
@@ -43,6 +44,11 @@ class Pam(enum.IntEnum):
 
 
 class Case(helpers.Case):
+    @classmethod
+    def setUpClass(cls) -> None:
+        super().setUpClass()
+        need_file("/usr/include/security/pam_modules.h")  # of libpam0g-dev
+
     def check(
         self, answer: bytes, ought: Pam, *lines: bytes, task: str = "authenticate", **question: Any
     ) -> "Said":

@@ -64,8 +64,8 @@ def server(kind):
 def module(name):
     try:
         return importlib.import_module(name)
-    except ImportError:
-        raise lacking(f"Python's module {name}") from None
+    except ImportError as fault:  # one of the module's own imports may be missing
+        raise lacking(f"Python's module {fault.name or name}") from None
 
 
 class Base(unittest.TestCase):

@@ -199,7 +199,7 @@ print(it.is_built(top))"""
     def test_deb(self):
         """Debian's package holds its files and no others, and hashes; tests/packages asks
         lintian."""
-        need("dpkg-deb")
+        need("dpkg-deb", "dpkg-shlibdeps")
         for deb in (PYTHON / "out").glob("*.deb"):
             deb.unlink()
         make("deb")
