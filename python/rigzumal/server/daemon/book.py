@@ -20,6 +20,7 @@ NAME = re.compile(rb"[a-z0-9._-]{1,32}")  # of a book
 LOCKED, MUST_CHANGE = b"!", b"~"  # the marks of an account, in this order before its record
 LACKS = (b"absent", b"noaccount")  # the answers for an account without a record, and for no account
 LATER = b"later"  # the beginning of the answer to a try that is too early
+UNLOCKED = b"unlocked"  # the answer to `unlock`
 EARLY = re.compile(rb"later ([1-9][0-9]{0,2})")  # the whole answer, with the remaining seconds
 LONGEST_WAIT = 900  # seconds
 NO_RECORD = b"none"  # `show`'s answer for an account without a record

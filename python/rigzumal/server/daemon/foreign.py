@@ -9,7 +9,7 @@ from typing import BinaryIO
 from weakref import WeakValueDictionary
 
 from .aging import Line, today
-from .book import LACKS, LATER, LOCKED, NO_ACCOUNT, NO_RECORD, UNAVAILABLE
+from .book import LACKS, LATER, LOCKED, NO_ACCOUNT, NO_RECORD, UNAVAILABLE, UNLOCKED
 from .book import field_of, has_record, password_of
 from .old_file import OldFile
 from .schemes import is_right
@@ -45,7 +45,10 @@ class Foreign:
         if request.word == b"forgive":
             return await self.forgive(request)
         if not request.operation.tries and request.word not in (b"known", b"show"):
-            return await self.answer_unbarred(request)
+            answer = await self.answer_unbarred(request)
+            if answer == UNLOCKED:
+                self.tries.forgive(request.words[1])
+            return answer
         name, question = request.words[1], request
         is_barred = await self.file.bars(name)
         if is_barred and request.operation.tries:

@@ -11,7 +11,7 @@ from collections.abc import Coroutine
 from dataclasses import dataclass, replace
 from typing import TYPE_CHECKING, Any, Optional
 
-from .book import LACKS, LATER, LOCKED, MUST_CHANGE, NO_ACCOUNT, NO_RECORD, UNAVAILABLE
+from .book import LACKS, LATER, LOCKED, MUST_CHANGE, NO_ACCOUNT, NO_RECORD, UNAVAILABLE, UNLOCKED
 from .book import Book, Places, Rounds, password_of, seconds_to_wait
 from .clients import LONG, LONGEST, Client
 from .disk import FULL, NEEDED, has_room
@@ -232,8 +232,12 @@ class Service:
             return await self.log_in(b"login" if is_upgrading else b"verify", *fields)
         if request.places is self.changes:
             is_alone = not request.operation.hashes
-            return await self.rounds.ask(request.words, is_alone=is_alone)
-        return await self.book.ask(*request.words)
+            answer = await self.rounds.ask(request.words, is_alone=is_alone)
+        else:
+            answer = await self.book.ask(*request.words)
+        if word == b"unlock" and answer == UNLOCKED:
+            await self.book.ask(b"forgive", *fields)  # each try at the locked account has failed
+        return answer
 
     async def log_in(self, *words: bytes) -> bytes:
         """Returns the answer to a login. The fastest login with a name that the book lacks measures
