@@ -8,7 +8,7 @@ import re
 import signal
 import time
 from collections import Counter, OrderedDict, deque
-from collections.abc import AsyncIterator, Callable
+from collections.abc import AsyncIterator, Awaitable, Callable
 from contextlib import asynccontextmanager, suppress
 from typing import Any, Hashable, Optional
 
@@ -128,8 +128,9 @@ class Book:
     While another program has the file open (`lent`), lines wait for the next process.
     """
 
-    def __init__(self, command: list[str]) -> None:
+    def __init__(self, command: list[str], prepare: Callable[[], Awaitable[None]]) -> None:
         self.command = command
+        self.prepare = prepare  # what the next process needs after it has opened the file
         self.process: Optional[Process] = None  # answers lines; None during a loan
         self.living = set[Process]()
         self.status = 0  # the status of the last process that ended
@@ -164,6 +165,8 @@ class Book:
     def hand_over_to(self, process: Process) -> None:
         """Sends the waiting lines, and from now on all lines, to a process."""
         self.process, self.is_down = process, False
+        if process.ended.done():
+            self.note_end(process, process.ended.result())
         self.opened = time.monotonic()
         waiting, self.waiting = self.waiting, []
         for words, answer in waiting:
@@ -214,6 +217,7 @@ class Book:
         doesn't answer, the book refuses all waiting lines."""
         while not self.is_ending:
             if process := await self.process_that_answers():
+                await self.prepare()
                 self.hand_over_to(process)
                 return
             self.is_down = True

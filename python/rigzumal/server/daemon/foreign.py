@@ -220,7 +220,7 @@ class Foreign:
             return request.operation.wrong
         self.tries.forgive(name)
         is_login = not request.operation.changes
-        if is_login and not self.service.has_room():  # the user moves at a later login
+        if is_login and not await self.service.has_room():  # the user moves at a later login
             return self.answer_to_known(name, line)
         if refusal := await self.move(request, line):
             return refusal

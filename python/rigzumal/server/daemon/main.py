@@ -94,6 +94,7 @@ def log_fault(_loop: asyncio.AbstractEventLoop, context: dict[str, Any]) -> None
 async def serve_clients(service: Service) -> None:
     """Admits clients once the book answers, and serves them until the server cancels this task."""
     await asyncio.shield(service.book.ask(b"show", b"-"))  # so that nobody cancels this answer
+    await service.log_room.allocate()
     await take_in(service)
     service.transfers.remove_copy()
     for door in service.options.doors:

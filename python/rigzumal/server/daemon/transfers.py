@@ -139,7 +139,7 @@ class Transfers:
         """Whether the disks have room for a change, and the book's disk for this many additional
         bytes."""
         folder = self.service.folders[self.file]
-        return self.service.has_room() and has_room(folder, size + NEEDED)
+        return self.service.has_free_space() and has_room(folder, size + NEEDED)
 
     def drop(self, incoming: Incoming) -> None:
         """Drops a text that didn't arrive completely."""
