@@ -24,6 +24,7 @@ IF_NAME_IS_TAKEN = {b"account": b"bad 1 exists", b"rename": b"exists"}
 ENDS_RECORD = (b"disable", b"delete", b"rename", b"remove")  # these leave no record
 MARKS = (b"lock", b"unlock", b"expire")
 EXPIRED, FORGIVEN = b"expired", b"forgiven"  # the answers to `expire` and `forgive`
+NAMES_AT_ONCE = 1000  # names to look for in the book at once
 
 
 class Foreign:
@@ -92,6 +93,31 @@ class Foreign:
         """Returns the remaining seconds of the wait for a user whom the file decides about."""
         return self.tries.rest(name.encode(errors="replace"))
 
+    async def note_records(self) -> bool:
+        """Notes that each name with a record in the book has moved, however the book got the
+        record. If the record goes, the file's must not count again. Returns False if a note
+        fails."""
+        names, are_noted = await self.file.unmoved(), True
+        for at in range(0, len(names), NAMES_AT_ONCE):
+            noted = await asyncio.gather(*map(self.note_record, names[at : at + NAMES_AT_ONCE]))
+            are_noted = are_noted and all(noted)
+        return are_noted
+
+    async def note_record(self, name: bytes) -> bool:
+        """Notes that a name has moved if the book has its record. Returns False if that fails."""
+        async with self.locks.setdefault(name, asyncio.Lock()):
+            if not has_record(await self.service.book.row(name)):
+                return True
+            if self.file.is_expired(name) and not await self.has_expired(name):
+                return False
+            return await self.file.note_moved(name)
+
+    async def has_expired(self, name: bytes) -> bool:
+        """Marks an account in the book whose password must be changed, as HTPASSWD.moved says."""
+        if not await self.service.has_room():
+            return False
+        return await self.service.book.ask(b"expire", name) == EXPIRED
+
     async def end_waits(self) -> None:
         """After an import, ends the waits of users who have a record in the book."""
         for name in list(self.tries.failed):
@@ -143,6 +169,7 @@ class Foreign:
             return await self.answer_of_file(request, line, answer)
         if word == b"load" and answer == b"ok":
             self.end_wait(name)
+            await self.file.note_moved(name)
         await self.note_move(request, answer)
         return answer
 

@@ -97,6 +97,8 @@ async def serve_clients(service: Service) -> None:
     await service.log_room.allocate()
     await take_in(service)
     service.transfers.remove_copy()
+    if service.foreign:
+        await asyncio.shield(service.foreign.note_records())
     for door in service.options.doors:
         accepting = door.accept(service, door.listen())
         service.accepting.append(asyncio.create_task(accepting))

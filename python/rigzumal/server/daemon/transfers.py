@@ -34,6 +34,8 @@ ROOM_FOR_TEXT = 4
 BUSY = b"bad 14 busy"
 DATABASE_FAILED = 5  # a status of credkeep
 ENDING = b"credkeep-server: the book is ending: the server did nothing\n"
+UNNOTED = b"credkeep-server: HTPASSWD.moved can't be written: the server did nothing\n"
+HUNG = b"credkeep-server: killed credkeep, which still ran after %d s\n"
 KILLED_FIRST = "1000"  # of proc(5), oom_score_adj
 
 
@@ -197,6 +199,8 @@ class Transfers:
         """Imports the text into the book, whose lines wait meanwhile."""
         words = self.import_words(request)
         text = await self.with_names_of_book(text)
+        if not await self.has_noted_records():  # of which this import may remove some
+            return Result(DATABASE_FAILED, faults=UNNOTED)
         try:
             async with self.service.book.lent() as status:
                 if status:
@@ -206,8 +210,13 @@ class Transfers:
                 log.info("the import has ended with status %d", result.status)
         finally:
             await self.service.end_waits()
+        await self.has_noted_records()
         self.service.tally.counts["changes"] += not result.status
         return result
+
+    async def has_noted_records(self) -> bool:
+        """Notes which users have left an old file. Returns False if a note fails."""
+        return not self.service.foreign or await self.service.foreign.note_records()
 
     async def use_copy(self, request: Request, text: Optional[BinaryIO]) -> Result:
         """Runs a request on a copy, while the server uses the book."""
