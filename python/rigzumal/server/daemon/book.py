@@ -138,6 +138,7 @@ class Book:
         self.is_down = False  # the last process couldn't start, so no line waits for the next one
         self.is_ending = False  # the server starts no more processes
         self.opened = 0.0  # the moment since which no line has waited for a process
+        self.lent_at = 0.0  # the beginning of the last loan
         # The last process's status, once that process ends by itself or the server ends.
         self.ended: asyncio.Future[int] = asyncio.get_running_loop().create_future()
 
@@ -189,9 +190,9 @@ class Book:
         refusal of `show`."""
         return self.ask(b"show", name)
 
-    def is_lent(self) -> bool:
-        """Whether another program has the book's file open."""
-        return self.process is None
+    def is_lent(self, seconds: float) -> bool:
+        """Whether another program has had the book's file for less than this many seconds."""
+        return self.process is None and time.monotonic() < self.lent_at + seconds
 
     def has_ended(self) -> bool:
         """Whether the book has ended, or is about to."""
@@ -206,6 +207,7 @@ class Book:
         """
         process, self.process = self.process, None
         assert process is not None
+        self.lent_at = time.monotonic()
         process.end()
         try:
             yield await asyncio.shield(process.ended)

@@ -286,11 +286,23 @@ class Transfers:
             text.close()
         have_killed_first(process.pid)
         assert process.stderr is not None
-        result.faults = await beginning_of(process.stderr)
-        status = await process.wait()
+        loop, seconds = asyncio.get_running_loop(), options.import_seconds()
+        hung = loop.call_later(seconds, self.kill_hung, result, seconds)
+        try:
+            faults = await beginning_of(process.stderr)
+            status = await process.wait()
+        finally:
+            hung.cancel()
         self.running = None
+        result.faults = faults + result.faults
         result.status = status if status >= 0 else 128 - status
         return result
+
+    def kill_hung(self, result: Result, seconds: float) -> None:
+        """Kills the running credkeep, whose file may be on a disk that hangs."""
+        log.error("killing credkeep, which still runs after %d s", seconds)
+        result.faults = HUNG % seconds
+        self.kill()
 
     def kill(self) -> None:
         """Kills the running credkeep: a killed import has imported all lines, or none."""
