@@ -45,6 +45,7 @@ from concurrent.futures import ThreadPoolExecutor
 from typing import NamedTuple, Optional
 
 NAME = re.compile(r"[a-z0-9._-]{1,32}")
+SETTING = re.compile(r"\$.+\$[^$=]+")  # of a line, with a salt
 COSTS = "$fast$c=1"
 LOCKED, MUST_CHANGE = "!", "~"  # before the record of an account
 
@@ -167,7 +168,7 @@ class Accounts:
         return said
 
     def made(self, password: bytes, setting: str) -> str:
-        """A record of a password; the setting may end before its salt."""
+        """A record of a password; the book's own setting has no salt."""
         costs, salt = parts_of(setting or self.costs)
         salt = salt or os.urandom(12).hex()
         return f"{costs}${salt}${tag_of(password, salt)}"
@@ -190,7 +191,7 @@ class Accounts:
         passwords = [decoded(it) for it in fields[1 : 1 + secret]]
         if None in passwords:
             return "bad 13 password"
-        if count and not fields[-1].startswith("$"):
+        if count and not SETTING.fullmatch(fields[-1]):
             return "bad 1 shape"
         plain = [it or b"" for it in passwords]
         return self.done(operation, fields, plain, fields[-1] if count else "")

@@ -6,7 +6,7 @@ from served import CHEAP, FAST_BOOK, Case, real_book
 
 DEARER, SALT = "$argon2id$v=19$m=128,t=1,p=1", "c29tZXNhbHQ"
 SCRYPT = "$scrypt$ln=4,r=8,p=1"
-# Settings with a salt and without one, and the costs of a record after them.
+# Settings with a salt, without one and of the server's own, and a record's costs after them.
 LINES = f"""
 account ada -> ok
 enrol ada {{secret}} {CHEAP}${SALT} -> enrolled
@@ -24,13 +24,16 @@ verify ada {{wrong}} -> no
 upgrade ada {{secret}} {SCRYPT}${SALT} -> upgraded
 show ada -> {SCRYPT}${SALT}$
 verify ada {{secret}} -> yes
-upgrade ada {{secret}} {DEARER} -> upgraded
-show ada -> {DEARER}$
+upgrade ada {{secret}} {DEARER} -> bad 1 shape
+change ada {{secret}} {{fresh}} {SCRYPT} -> bad 1 shape
+reset ada {{fresh}} {DEARER} -> bad 1 shape
+upgrade ada {{secret}} {DEARER}${SALT} -> upgraded
+show ada -> {DEARER}${SALT}$
 verify ada {{secret}} -> yes
 login ada {{secret}} -> yes
 show ada -> {CHEAP}$
-change ada {{secret}} {{fresh}} {SCRYPT} -> replaced
-show ada -> {SCRYPT}$
+change ada {{secret}} {{fresh}} {SCRYPT}${SALT} -> replaced
+show ada -> {SCRYPT}${SALT}$
 verify ada {{fresh}} -> yes
 change ada {{fresh}} {{secret}} {DEARER}${SALT} -> replaced
 show ada -> {DEARER}${SALT}$
