@@ -30,7 +30,7 @@ from tree import TOP
 
 # The built files that the tests need.
 BUILT = ["c/out/*", "c/out/arm64/*", "c/pam/out/*.so", "crates/*/out/*_tests"]
-BUILT += [f"crates/{name}/out/{name}" for name in ("credbook", "credkeep")]
+BUILT += ["out/credbook", "out/credkeep"]
 
 
 class Plant(NamedTuple):

@@ -1,7 +1,7 @@
 """An empty Debian 12 without rt: from the tarball of `make dist`, by make and a C compiler, to the
 programs, a server and PAM.
 
-The test needs root, the objects that `make dist` kept, and debootstrap with Debian's mirror.
+The test needs root, and debootstrap with Debian's mirror.
 Instead of the mirror, EMPTY_ROOT may name a folder with such a Debian, which the test copies. The
 test prints the time of make.
 """
@@ -12,7 +12,7 @@ import subprocess
 
 from tests.helpers import need, need_root, run, write_files
 from tests.needs import lacking
-from tests.packages.test_dist import NAME, Packing, programs
+from tests.packages.test_dist import NAME, Packing
 from tests.packages.test_install import sample
 
 MIRROR = "http://deb.debian.org/debian"
@@ -83,9 +83,6 @@ class EmptyRoot(Packing):
         asks; and nothing of it is left."""
         need_root()
         need("debootstrap", "unshare")
-        for program in programs.PROGRAMS:
-            if not all(programs.is_kept(program, level) for level in programs.LEVELS):
-                raise lacking("programs of `make dist`")
         root = self.debian()
         for file in self.packed(self.packers[0]).parent.glob(f"{NAME}.tar.xz*"):
             shutil.copy(file, root)
