@@ -72,9 +72,8 @@ VERSIONED = {
     "crates/cred_cli/src/arguments.rt": r'\.version\("(.*)"\)',
     "crates/credkeep_words/src/arguments.rt": r'\.version\("(.*)"\)',
 }
-# The rows of BUILDING's table of times that README repeats for its two commands: "7 and 34
-# minutes".
-TIMES = ("README's first command from nothing", "`.ci/run` from nothing")
+# The rows of BUILDING's table of times that README repeats: "34 to 79 minutes".
+TIMES = ("`.ci/run` from nothing",)
 
 # The faults of the tree; None means a right claim.
 Facts = Iterable["str | None"]

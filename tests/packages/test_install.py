@@ -1,5 +1,5 @@
 """The files of `make install` and `make deb`, which work in their places. The tests need root, and
-the output of `make build`."""
+the output of `make`."""
 
 import pathlib
 import re
