@@ -125,6 +125,15 @@ def house() -> Facts:
         yield wrong if count > MOST[what] else None
 
 
+def compiled() -> Facts:
+    """Yields the fault of each part of c/proved that is of other sources than these, or damaged."""
+    for part in ("library", "programs"):
+        for processor in ("x86_64", "arm64"):
+            words = [str(TOP / "tools/check_proved"), part, processor]
+            done = subprocess.run(words, capture_output=True, text=True)
+            yield (done.stdout + done.stderr).strip() if done.returncode else None
+
+
 def merges() -> Facts:
     """Yields each file that has the marks of a merge which wasn't finished."""
     marked = git("grep", "-lE", "^(<{7}|>{7}) ").splitlines()
@@ -328,6 +337,7 @@ def walks() -> Facts:
 OF_TREE = (
     house,
     merges,
+    compiled,
     figures,
     times,
     variables,

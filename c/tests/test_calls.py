@@ -4,7 +4,7 @@ import re
 import unittest
 
 from harness import ALL_WARNINGS, BUILDS, JOBS, LIBARGON2, ORIGINAL, OUT, ROOM, SANITIZED, SOURCES
-from harness import TOP, WITHOUT_BUILDS, built, need, need_host, run, sources_for, toolchain
+from harness import TOP, WITHOUT_BUILDS, built, need, need_host, run, sources_for
 
 
 # The build that each processor must run, by qemu's names.
@@ -65,8 +65,8 @@ class Calls(unittest.TestCase):
             self.assertEqual(chosen, "v2", f"a system that keeps the registers {kept}")
 
     def test_processors_with_avx512(self):
-        """The library chooses the newest build if the processor has every feature of its level, the
-        system saves its registers, and the toolchain could build it."""
+        """The library chooses the newest build if the processor has every feature of its level and
+        the system saves its registers."""
         need_host()
         every, lacking = 0xE7, "-Itests/x86_64/lacking"
         program = processor(lacking, kept=every)
@@ -76,15 +76,11 @@ class Calls(unittest.TestCase):
         for name, bit in STATES.items():
             said = run(processor(lacking, kept=every & ~(1 << bit)))
             self.assertEqual(said, "v2\n" if bit < 5 else "v3\n", name)
-        self.assertEqual(run(processor(lacking, "-DLEFT_OUT", kept=every)), "v3\n")
 
     def test_instructions_of_builds(self):
-        """Each build has instructions of its level, where no older one has any. The newest is left
-        out only if the toolchain has no clang for it."""
+        """Each build has instructions of its level, where no older one has any."""
         need_host()
         code = {build: run("objdump", "-d", OUT / f"{build}.o") for build in BUILDS}
-        if not (toolchain() / "toolchain/bin/clang").exists() and "xmm" not in code["v4"]:
-            code.pop("v4")
         for at, build in enumerate(code):
             with self.subTest(build):
                 has = [re.search(INSTRUCTIONS[build], code[it]) is not None for it in code]
