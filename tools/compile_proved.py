@@ -72,9 +72,14 @@ def be_clang(room: pathlib.Path, clang: str, words: list[str]) -> None:
         command = ["clang", *target, "-x", "ir", "module.bc", *as_text, "-o", room / "module.ll"]
         subprocess.run(command, executable=clang, check=True)
         (room / "words.json").write_text(json.dumps(words))
-        pathlib.Path("nothing.ll").write_text("")
+        pathlib.Path("nothing.ll").write_text(target_of((room / "module.ll").read_text()))
         words = ["nothing.ll" if it == "module.bc" else it for it in words]
     os.execv(clang, ["clang", *words])
+
+
+def target_of(text: str) -> str:
+    """Returns a module's lines about the target, which are a module without code."""
+    return "".join(f"{line}\n" for line in text.splitlines() if line.startswith("target "))
 
 
 def make_toolchain(room: pathlib.Path) -> pathlib.Path:
