@@ -47,7 +47,7 @@ LANES = {
     "cred_scrypt::pieces::Piece::mix": ("lanes_mix_piece", 3),
 }
 NAME = re.compile(r'@(?:"[^"]*"|[\w.$+-]+)')
-GROUP = re.compile(r"(?m)(?<= )#\d+(?=$| )")
+NUMBER = re.compile(r"(?m)(?<= )[#!]\d+(?=$|[ ,])")
 
 
 def with_prefetches(text: str) -> str:
@@ -101,7 +101,7 @@ class Module:
             self.rest += part[end:]
         self.variables: dict[str, str] = {}
         self.declared: dict[str, str] = {}
-        self.groups: dict[str, str] = {}
+        self.numbered: dict[str, str] = {}  # groups of attributes, and metadata
         for line in self.rest.splitlines():
             head, _, value = line.partition(" = ")
             if line.startswith("@"):
@@ -109,7 +109,9 @@ class Module:
             elif line.startswith("declare "):
                 self.declared[name_in(line)] = line
             elif line.startswith("attributes "):
-                self.groups[head.split()[1]] = value.strip("{ }")
+                self.numbered[head.split()[1]] = value.strip("{ }")
+            elif re.match(r"!\d+$", head):
+                self.numbered[head] = value
 
     def below(self, names: list[str]) -> set[str]:
         """Returns these functions, and everything that they name, and so on."""
@@ -122,9 +124,9 @@ class Module:
                 left += NAME.findall(text)
         return found
 
-    def with_attributes(self, text: str) -> str:
-        """Returns functions with their attributes in place of these groups' numbers."""
-        return GROUP.sub(lambda found: self.groups[found.group()], text)
+    def without_numbers(self, text: str) -> str:
+        """Returns functions with their attributes and metadata in place of their numbers."""
+        return NUMBER.sub(lambda found: self.numbered[found.group()], text)
 
 
 def name_in(text: str) -> str:
@@ -135,7 +137,7 @@ def name_in(text: str) -> str:
 
 def lanes_of(module: Module) -> dict[str, str]:
     """Returns the functions of a program's lanes by their names, as each program has them: the
-    names of constants and groups of attributes, which differ, are replaced."""
+    names of constants, and numbers, which differ, are replaced."""
     found = module.below([f'@"{name}"' for name in LANES])
     constants = {name: module.variables[name] for name in found if name in module.variables}
     for name, value in constants.items():
@@ -148,17 +150,18 @@ def lanes_of(module: Module) -> dict[str, str]:
     texts = {renamed[name]: f"{renamed[name]} = {value}\n" for name, value in constants.items()}
     for name in found:
         if name in module.functions:
-            text = module.with_attributes(module.functions[name])
+            text = module.without_numbers(module.functions[name])
             texts[name] = NAME.sub(lambda it: renamed.get(it.group(), it.group()), text)
         elif name in module.declared:
-            texts[name] = module.with_attributes(module.declared[name]) + "\n"
+            texts[name] = module.without_numbers(module.declared[name]) + "\n"
     return texts
 
 
 def lanes(module: Module) -> str:
     """Returns the module of a program's lanes, whose text is the same for each program."""
     texts = lanes_of(module)
-    heads = "".join(it + "\n" for it in module.rest.splitlines() if it.startswith("target "))
+    kept = ("target ", "!llvm.ident = !{!0}", "!0 = ")  # the name of the logic is of the identity
+    heads = "".join(f"{it}\n" for it in module.rest.splitlines() if it.startswith(kept))
     code = heads + "".join(texts[name] for name in sorted(texts))
     for name, (_, count) in LANES.items():
         arguments = ", ".join(f"ptr noundef %a{at}" for at in range(count))
