@@ -160,7 +160,7 @@ def lanes_of(module: Module) -> dict[str, str]:
 def lanes(module: Module) -> str:
     """Returns the module of a program's lanes, whose text is the same for each program."""
     texts = lanes_of(module)
-    kept = ("target ", "!llvm.ident = !{!0}", "!0 = ")  # the name of the logic is of the identity
+    kept = ("target ", "!llvm.ident = !{!0}", "!0 = ")  # the last two name the logic
     heads = "".join(f"{it}\n" for it in module.rest.splitlines() if it.startswith(kept))
     code = heads + "".join(texts[name] for name in sorted(texts))
     for name, (_, count) in LANES.items():
