@@ -64,31 +64,31 @@ def verdict() -> re.Pattern[str]:
     return form
 
 
-def be_clang(room: pathlib.Path, clang: str, words: list[str]) -> None:
-    """Keeps the text of rattle's module, and clang's arguments, and compiles nothing of it."""
+def be_clang(processor: str, room: pathlib.Path, clang: str, words: list[str]) -> None:
+    """Runs clang on the changed module instead of the proved one. For x86-64 the script instead
+    keeps the module's text and clang's arguments, and compiles nothing of the module yet."""
     if "module.bc" in words:
         target = [it for it in words if it.startswith("--target=")]
         as_text = ["-S", "-emit-llvm", "-Xclang", "-disable-llvm-passes", "-O3"]
         command = ["clang", *target, "-x", "ir", "module.bc", *as_text, "-o", room / "module.ll"]
         subprocess.run(command, executable=clang, check=True)
-        (room / "words.json").write_text(json.dumps(words))
-        pathlib.Path("nothing.ll").write_text(target_of((room / "module.ll").read_text()))
-        words = ["nothing.ll" if it == "module.bc" else it for it in words]
+        text = proved_module.prepared((room / "module.ll").read_text())
+        (room / "module.ll").write_text(text)
+        if processor == "x86_64":
+            (room / "words.json").write_text(json.dumps(words))
+            text = proved_module.head_of(text)
+        pathlib.Path("changed.ll").write_text(text)
+        words = ["changed.ll" if it == "module.bc" else it for it in words]
     os.execv(clang, ["clang", *words])
 
 
-def target_of(text: str) -> str:
-    """Returns a module's lines about the target, which are a module without code."""
-    return "".join(f"{line}\n" for line in text.splitlines() if line.startswith("target "))
-
-
-def make_toolchain(room: pathlib.Path) -> pathlib.Path:
+def make_toolchain(processor: str, room: pathlib.Path) -> pathlib.Path:
     """Creates a folder of links to the toolchain, except for its clang."""
     folder = room / "toolchain"
     subprocess.run(["cp", "-rs", kit() / "toolchain", folder], check=True)
     clang = folder / "bin/clang"
     clang.unlink()
-    command = f'"{sys.executable}" "{__file__}" --clang "{room}" "{kit()}"'
+    command = f'"{sys.executable}" "{__file__}" --clang {processor} "{room}" "{kit()}"'
     clang.write_text(f'#!/bin/sh\nexec {command} "$@"\n')
     clang.chmod(0o755)
     return folder
@@ -109,47 +109,59 @@ def words_of(crate: str) -> list[str | pathlib.Path]:
     return [*words, "--logic-built", f"{kit()}/logic_built", "--jobs", "1", "--backend", "llvm"]
 
 
-class Compiled:
-    """A crate's module for a processor, which rattle proved, and clang's arguments for it."""
+class Proof:
+    """A proof of a crate by rattle for a processor, with the module that rattle compiled."""
 
     def __init__(self, crate: str, processor: str, room: pathlib.Path) -> None:
         self.crate, self.processor, self.room = crate, processor, room / f"{processor}-{crate}"
         self.room.mkdir()
-        flag, self.target = TARGETS[processor]
-        words = [*words_of(crate), flag, "--toolchain", make_toolchain(self.room)]
-        words += ["-o", self.room / ("nothing.a" if crate == LIBRARY else "nothing.o")]
+        flag, target = TARGETS[processor]
+        words = [*words_of(crate), flag, "--toolchain", make_toolchain(processor, self.room)]
+        words += ["-o", self.room / "made"]
         both = {"stdout": subprocess.PIPE, "stderr": subprocess.STDOUT, "text": True}
         done = subprocess.run([kit() / "bin/rattle", "build", *words], cwd=CRATES / crate, **both)
         last = f"{done.stdout.rstrip().rpartition(chr(10))[2]}\n"
-        if done.returncode or not verdict().search(last) or f"target={self.target}" not in last:
+        if done.returncode or not verdict().search(last) or f"target={target}" not in last:
             raise SystemExit(f"{done.stdout[-4000:]}\n{crate} isn't proved for {processor}")
-        self.text = proved_module.prepared((self.room / "module.ll").read_text())
+        self.text = (self.room / "module.ll").read_text()
 
-    def objects(self) -> Iterator[tuple[str, str, str]]:
-        """Yields each object of the crate: its name, its level, and the text of its module."""
+    def write_objects(self, folder: pathlib.Path) -> None:
+        """Writes each object of the crate into the processor's folder."""
         if self.processor == "arm64":
-            yield "generic" if self.crate == LIBRARY else self.crate, "", self.text
-        elif self.crate == LIBRARY:
+            self.take_object(folder)
+            return
+        for name, level, text in self.modules():
+            self.compile(level, text, folder / self.processor / f"{name}.o")
+
+    def take_object(self, folder: pathlib.Path) -> None:
+        """Takes rattle's object. In a static library it's the only one."""
+        name, made = self.crate, (self.room / "made").read_bytes()
+        if self.crate == LIBRARY:
+            name = "generic"
+            made = subprocess.run(
+                ["ar", "p", self.room / "made"], stdout=subprocess.PIPE, check=True
+            ).stdout
+        (folder / self.processor / f"{name}.o").write_bytes(made)
+
+    def modules(self) -> Iterator[tuple[str, str, str]]:
+        """Yields the module of each object, with the object's name and level."""
+        if self.crate == LIBRARY:
             for name, level in LEVELS.items():
                 yield name, level, proved_module.at_level(self.text, level)
-        else:
-            module = Module(self.text)
-            yield self.crate, PLAIN, proved_module.without_lanes(module)
-            if self.crate == PROGRAMS[-1]:
-                lanes = proved_module.lanes(module)
-                for name in LEVELS_OF_LANES:
-                    text = proved_module.at_level(lanes, LEVELS[name])
-                    yield f"lanes_{name}", LEVELS[name], proved_module.at_names(text, f"_{name}")
+            return
+        module = Module(self.text)
+        yield self.crate, PLAIN, proved_module.without_lanes(module)
+        if self.crate == PROGRAMS[-1]:
+            lanes = proved_module.lanes(module)
+            for name in LEVELS_OF_LANES:
+                text = proved_module.at_level(lanes, LEVELS[name])
+                yield f"lanes_{name}", LEVELS[name], proved_module.at_names(text, f"_{name}")
 
-    def compile(self, name: str, level: str, text: str, folder: pathlib.Path) -> None:
-        """Compiles a module into an object of a folder, as rattle has clang compile it."""
-        at = self.room / f"{name}.ll"
+    def compile(self, level: str, text: str, made: pathlib.Path) -> None:
+        """Compiles a module for a level into an object, as rattle has clang compile it."""
+        at = self.room / f"{made.stem}.ll"
         at.write_text(text)
-        instead = {
-            "module.bc": str(at),
-            "module.o": str(folder / self.processor / f"{name}.o"),
-            f"-march={PLAIN}": f"-march={level}",
-        }
+        instead = {"module.bc": at, "module.o": made, f"-march={PLAIN}": f"-march={level}"}
         words = json.loads((self.room / "words.json").read_text())
         command = ["clang", *(instead.get(it, it) for it in words)]
         subprocess.run(command, executable=kit() / "toolchain/bin/clang", check=True, cwd=self.room)
@@ -157,22 +169,25 @@ class Compiled:
 
 def compile_all(folder: pathlib.Path, room: pathlib.Path) -> None:
     """Compiles every object, for every processor."""
+
+    def compiled(crate: str, processor: str) -> Proof:
+        proof = Proof(crate, processor, room)
+        proof.write_objects(folder)
+        return proof
+
+    for processor in TARGETS:
+        (folder / processor).mkdir()
+    chosen = [(crate, it) for crate in (*reversed(PROGRAMS), LIBRARY) for it in TARGETS]
     with concurrent.futures.ThreadPoolExecutor(AT_ONCE) as pool:
-        chosen = [(crate, it) for crate in (*reversed(PROGRAMS), LIBRARY) for it in TARGETS]
-        crates = list(pool.map(lambda it: Compiled(*it, room), chosen))
-        refuse_other_lanes([it for it in crates if it.processor == "x86_64"])
-        for processor in TARGETS:
-            (folder / processor).mkdir()
-        works = [pool.submit(it.compile, *made, folder) for it in crates for made in it.objects()]
-        for work in works:
-            work.result()
+        proofs = list(pool.map(lambda it: compiled(*it), chosen))
+    refuse_other_lanes([it for it in proofs if it.processor == "x86_64"])
 
 
-def refuse_other_lanes(crates: list[Compiled]) -> None:
+def refuse_other_lanes(proofs: list[Proof]) -> None:
     """Ends the script unless the lanes of the last program have the functions of the others: one
     set of objects serves them all."""
     found = {
-        it.crate: proved_module.lanes_of(Module(it.text)) for it in crates if it.crate in PROGRAMS
+        it.crate: proved_module.lanes_of(Module(it.text)) for it in proofs if it.crate in PROGRAMS
     }
     last = found[PROGRAMS[-1]]
     for crate, lanes in found.items():
@@ -226,8 +241,8 @@ def differing(one: pathlib.Path, other: pathlib.Path) -> list[str]:
 
 def main() -> None:
     if sys.argv[1:2] == ["--clang"]:
-        room, of_kit, *words = sys.argv[2:]
-        be_clang(pathlib.Path(room), f"{of_kit}/toolchain/bin/clang", words)
+        processor, room, of_kit, *words = sys.argv[2:]
+        be_clang(processor, pathlib.Path(room), f"{of_kit}/toolchain/bin/clang", words)
     need_rt("compile the proved code")
     is_check = sys.argv[1:2] == ["--check"]
     for built in CRATES.glob("*/out/rlib"):

@@ -129,6 +129,12 @@ class Module:
         return NUMBER.sub(lambda found: self.numbered[found.group()], text)
 
 
+def head_of(text: str) -> str:
+    """Returns a module's lines about the target, and those that name the logic."""
+    kept = ("target ", "!llvm.ident = !{!0}", "!0 = ")
+    return "".join(f"{line}\n" for line in text.splitlines() if line.startswith(kept))
+
+
 def name_in(text: str) -> str:
     found = NAME.search(text)
     assert found is not None, text
@@ -160,9 +166,7 @@ def lanes_of(module: Module) -> dict[str, str]:
 def lanes(module: Module) -> str:
     """Returns the module of a program's lanes, whose text is the same for each program."""
     texts = lanes_of(module)
-    kept = ("target ", "!llvm.ident = !{!0}", "!0 = ")  # the last two name the logic
-    heads = "".join(f"{it}\n" for it in module.rest.splitlines() if it.startswith(kept))
-    code = heads + "".join(texts[name] for name in sorted(texts))
+    code = head_of(module.rest) + "".join(texts[name] for name in sorted(texts))
     for name, (_, count) in LANES.items():
         arguments = ", ".join(f"ptr noundef %a{at}" for at in range(count))
         head = f'define internal void @"{name}"({arguments})'

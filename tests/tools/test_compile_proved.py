@@ -27,8 +27,11 @@ for it; do
     last=$it
 done
 cd "$(mktemp -d -p "$ROOM")" && touch module.bc
-CRATE=$crate "$toolchain/bin/clang" --target=$target -march=x86-64 module.bc -o module.o
-cp module.o "$object"
+CRATE=$crate "$toolchain/bin/clang" --target=$target -march=x86-64 module.bc -o module.o || exit 1
+case " $* " in
+*" staticlib "*) ar qc "$object" module.o ;;
+*) cp module.o "$object" ;;
+esac
 echo "$SAID target=$target-unknown-linux-gnu native=nat"
 exit "$STATUS"
 """
@@ -204,7 +207,7 @@ class CompileProved(Case):
         ("two", {"cred_c": module(prefetch=EMPTY * 2)}, {}, "the module has 2 empty"),
         ("one that calls", {"cred_c": EMPTY.replace("  ret", "  call\n  ret")}, {}, "has 0 empty"),
         ("a function fewer", {"cred_c": EMPTY}, {}, "the module has no function cred_argon::block"),
-        ("no lanes", {"credkeep": module(lanes=False)}, {}, "have different lanes"),
+        ("no lanes", {"credkeep": module(lanes=False)}, {}, "the module has no function"),
         (
             "other lanes",
             {"credbook": module().replace("constant i64 7", "constant i64 8")},
