@@ -123,7 +123,6 @@ class RunTests(Case):
         super().setUp()
         self.top = self.room()
         write_files(self.top, {name: HEAD + text for name, text in MODULES.items()} | TEXTS)
-        (self.top / "tools").mkdir()
         for folder, names in COPIED.items():
             for name in names:
                 shutil.copy(TOP / folder / name, self.top / folder)
