@@ -89,7 +89,7 @@ TEXTS = {
     "docs/tests/test_pages.py": "import unittest\nraise unittest.SkipTest('needs a newer cargo')\n",
     "tests/credkeep/test_large.py": "raise SystemExit('a long one ran')\n",
     "Makefile": "all:\n\t@test ! -e broken || { echo this is broken; exit 1; }\n",
-    "tools/job_seconds.json": '{"c/tests/test_calls": 30, "tests/tools/test_well": 29}',
+    "tools/job_seconds.json": '{"c/tests/test_calls:1": 30, "c/tests/test_calls:2": 31, "tests/tools/test_well": 29}',
 }
 # What is copied of the tree.
 COPIED = {
@@ -230,7 +230,7 @@ class RunTests(Case):
         """A quick run has the modules of less than half a minute, and says what it leaves out."""
         lines = self.run_tests(*words, "c/tests", "tests/tools").written.splitlines()
         self.assertEqual(lines[-1], f"tests: {last}")
-        said = [it for it in lines if "1 longer modules are left out: tools/run_tests.py" in it]
+        said = [it for it in lines if "2 longer modules are left out: tools/run_tests.py" in it]
         self.assertEqual(len(said), words == ["--quick"])
 
     def test_what_is_not_built(self) -> None:
