@@ -188,11 +188,10 @@ def text_of(written: bytes) -> str:
 def program(name: str) -> str:
     """Returns the path of a program that each user may run: a copy of the file that the variable
     NAME names, or of the built program."""
-    out = TOP / "crates" / name / "out" / ("" if IS_NATIVE else ARCH)
+    out = TOP / "out" / ("" if IS_NATIVE else ARCH)
     source = pathlib.Path(os.environ.get(name.upper(), out / name))
     if not source.is_file():
-        need("rt")  # only rt builds the program
-        raise FileNotFoundError(f"{source}: build it by make programs, or by rt ci")
+        raise FileNotFoundError(f"{source}: build it by make programs")
     return str(runnable(pathlib.Path(shutil.copy(source, common_folder()))))
 
 

@@ -99,7 +99,7 @@ done"""
 
 def debs() -> list[pathlib.Path]:
     need("dpkg-deb", "dpkg-shlibdeps", "strip")
-    need_file(*(TOP / f"crates/{name}/out/{name}" for name in ("credbook", "credkeep")))
+    need_file(TOP / "out/credbook", TOP / "out/credkeep")
     shell(f"make -s -C {TOP}/c/pam all deb CPU=")
     found = sorted((TOP / "c/pam/out").glob("*.deb"))
     same([it.name.partition("_")[0] for it in found], ["libpam-rigzumal", "rigzumal-tools"])
