@@ -53,10 +53,7 @@ MODULES = {
         time.sleep(1000)
 """,
     "tests/server/test_turns.py": """
-    def test_has_no_class_above(self): time.sleep(1); print("turned", file=open("../../order", "a"))
-""",
-    "tests/server/test_clients.py": """
-    def test_quiet(self): print("quiet", file=open("../../order", "a"))
+    def test_beside_its_module(self): self.assertEqual(os.getcwd(), os.path.dirname(__file__))
 """,
     "c/tests/test_calls.py": """
     def test_one(self): pass
@@ -83,18 +80,28 @@ SLOW = """
         os.rename("at_work.new", "at_work")
         sleeper.wait()
 """
+# A failed test that tells its sample.
+SAMPLED = """
+    def test_fails(self):
+        from tests.samples import sample
+        self.fail(f"chosen: {[*sample(range(1000, 1020))]}")
+"""
 # What stands in place of whole modules.
 TEXTS = {
     "tests/packages/test_install.py": "import no_such_module\n",
     "docs/tests/test_pages.py": "import unittest\nraise unittest.SkipTest('needs a newer cargo')\n",
     "tests/credkeep/test_large.py": "raise SystemExit('a long one ran')\n",
     "Makefile": "all:\n\t@test ! -e broken || { echo this is broken; exit 1; }\n",
-    "tools/job_seconds.json": '{"c/tests/test_calls:1": 30, "c/tests/test_calls:2": 31, "tests/tools/test_well": 29}',
+    "tools/job_seconds.json": """{
+    "c/tests/test_calls:1": 30,
+    "c/tests/test_calls:2": 31,
+    "tests/tools/test_well": 29
+}""",
 }
 # What is copied of the tree.
 COPIED = {
     "tools": ("run_tests.py", "jobs.py", "tree.py"),
-    "tests": ("told.py", "helpers.py", "needs.py"),
+    "tests": ("told.py", "helpers.py", "needs.py", "samples.py"),
 }
 FAILED = {
     "tests/credbook/test_false": {
@@ -146,7 +153,7 @@ class RunTests(Case):
         done = self.run_tests("tests/tools", "book", "server", "c/", "python", "docs", "packages")
         self.assertEqual(done.faults, "")
         lines = done.written.splitlines()
-        self.assertEqual(lines[-1], "tests: 8 passed, 11 failed, 3 skipped")
+        self.assertEqual(lines[-1], "tests: 7 passed, 11 failed, 3 skipped")
         found = re.findall(r"^FAILED: (\S+): (\S+)$", done.written, re.M)
         wanted = {(job, name) for job, names in FAILED.items() for name in names}
         self.assertEqual({*found}, wanted)
@@ -157,7 +164,6 @@ class RunTests(Case):
         lost = ", ".join(f"tests.credbook.test_never.{it}" for it in never)
         self.assertIn(f"nothing runs {lost}\n", done.written)
         self.assertEqual(done.status, 1)
-        self.assertEqual((self.top / "order").read_text(), "turned\nquiet\n")
 
     def test_what_hangs(self) -> None:
         """A hanging job is ended with all that it started, and its output is printed."""
@@ -181,8 +187,8 @@ class RunTests(Case):
         at_work = self.top / "at_work"
         helpers.until(at_work.exists, "it is at work")
         run.send_signal(number)
-        written, _ = run.communicate(timeout=helpers.LONGEST)
-        self.assertEqual(written, "tests: interrupted\n")
+        written, _ = run.communicate(timeout=helpers.longest())
+        self.assertEqual(written.splitlines()[1:], ["tests: interrupted"])
         self.assertEqual(run.returncode, 128 + number)
         for process in at_work.read_text().split():
             helpers.until(functools.partial(has_ended, process), "it has ended")
@@ -190,9 +196,25 @@ class RunTests(Case):
 
     def test_first_failure(self) -> None:
         """With --first nothing begins after a failure: no test of its module, and no other job."""
-        done = self.run_tests("--first", "test_false", "server/test_clients")
-        self.assertEqual(done.written.splitlines()[-1], "tests: 0 passed, 1 failed, 0 skipped")
-        self.assertFalse((self.top / "order").exists())
+        write_files(self.top, {"c/tests/test_package.py": "raise SystemExit('it began')\n"})
+        for words in (["test_false"], ["test_install", "c/tests/test_package"]):
+            done = self.run_tests("--first", *words)
+            self.assertEqual(done.written.splitlines()[-1], "tests: 0 passed, 1 failed, 0 skipped")
+            self.assertNotIn("it began", done.written)
+
+    def test_samples(self) -> None:
+        """A run prints the seed of its samples, and after a failure again; the seed repeats
+        them."""
+        write_files(self.top, {"tests/credbook/test_sampled.py": HEAD + SAMPLED})
+        variables = {"RIGZUMAL_WHOLE": "", "RIGZUMAL_SEED": ""}
+        first = self.run_tests("test_sampled", **variables).written
+        seeds = re.findall(r"^samples: a seventh, by RIGZUMAL_SEED=(\d+)$", first, re.M)
+        self.assertEqual(seeds, seeds[:1] * 2)
+        again = self.run_tests("test_sampled", **{**variables, "RIGZUMAL_SEED": seeds[0]}).written
+        chosen = re.compile(r"chosen: .*")
+        self.assertEqual(chosen.findall(again), chosen.findall(first))
+        whole = self.run_tests("test_sampled", **{**variables, "RIGZUMAL_WHOLE": "1"}).written
+        self.assertIn(f"chosen: {[*range(1000, 1020)]}", whole)
 
     def test_what_passes(self) -> None:
         done = self.run_tests("c/tests", "tests/tools")
@@ -353,6 +375,6 @@ class Jobs(unittest.TestCase):
 
     def test_named_modules_are_there(self) -> None:
         for folder in jobs.FOLDERS:
-            for word in (*folder.parts, *folder.quiet, *folder.packing, *folder.long):
+            for word in (*folder.parts, *folder.packing, *folder.long):
                 with self.subTest(folder.path, word=word):
                     self.assertTrue((TOP / folder.path / f"test_{word}.py").exists())
