@@ -218,7 +218,7 @@ class Clients(ClientCase):
     def test_several_event_loops(self) -> None:
         """One client serves event loops one after another, as of several asyncio.run, and two at
         the same time. Each has its own connection, and closed ones aren't kept."""
-        Reply, taken, both = self.server.Reply, [], threading.Barrier(2, timeout=LONGEST)
+        Reply, taken, both = self.server.Reply, [], threading.Barrier(2, timeout=longest())
 
         class Yes(socketserver.StreamRequestHandler):
             def handle(self) -> None:
@@ -231,7 +231,7 @@ class Clients(ClientCase):
         self.addCleanup(server.shutdown)
         server.daemon_threads = True
         threading.Thread(target=server.serve_forever, args=(0.01,), daemon=True).start()
-        client = self.aio.Client(server.server_address, LONGEST)
+        client = self.aio.Client(server.server_address, longest())
 
         async def asks() -> set[Any]:
             return {*await asyncio.gather(*(client.known("ada") for _ in range(50)))}
