@@ -111,6 +111,7 @@ OF_PACKAGES: dict[str, tuple[str, ...]] = {
         "systemd-socket-activate",
     ),
     "util-linux": (
+        "fallocate",
         "fsfreeze",
         "prlimit",
         "setpriv",

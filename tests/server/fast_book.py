@@ -105,6 +105,12 @@ def tag_of(password: bytes, salt: str) -> str:
     return hashlib.blake2b(password, key=salt.encode()[:64], digest_size=12).hexdigest()
 
 
+def parts_of(setting: str) -> tuple[str, str]:
+    """The costs in a setting, and its salt if it has one."""
+    costs, _, salt = setting.rpartition("$")
+    return (setting, "") if "=" in salt else (costs, salt)
+
+
 def seconds() -> float:
     """The reading of the clock."""
     path = os.environ.get("CLOCK")
@@ -162,9 +168,8 @@ class Accounts:
 
     def made(self, password: bytes, setting: str) -> str:
         """A record of a password; the setting may end before its salt."""
-        costs, salt = "$".join(setting.split("$")[:3]) or self.costs, os.urandom(12).hex()
-        if setting.count("$") > 2:
-            salt = setting[len(self.costs) + 1 :]
+        costs, salt = parts_of(setting or self.costs)
+        salt = salt or os.urandom(12).hex()
         return f"{costs}${salt}${tag_of(password, salt)}"
 
     def answer(self, words: list[str]) -> str:
@@ -268,7 +273,7 @@ class Accounts:
                 return "yes"
             case "remove":
                 return self.put(name, "", "removed")
-            case "upgrade" if record.startswith(f"{setting or self.costs}$"):
+            case "upgrade" if record.startswith(f"{parts_of(setting or self.costs)[0]}$"):
                 return "kept"
         said = "replaced" if operation == "change" else "upgraded"
         return self.put(name, self.made(plain[-1], setting), said)

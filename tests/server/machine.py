@@ -84,11 +84,14 @@ def prepared(room: pathlib.Path) -> None:
     os.chmod(RUN, 0o755)
 
 
-def begun(*options: str) -> Service:
-    """The book's server, with the sockets that it has by default."""
-    program, file = chosen_book(), pathlib.Path("/var/lib/rigzumal/users.db")
+def begun(*options: str, book: str = "users") -> Service:
+    """A book's server, with the sockets that it has by default."""
+    program, file = chosen_book(), pathlib.Path(f"/var/lib/rigzumal/{book}.db")
+    folder = RUN.parent / book
+    folder.mkdir(exist_ok=True)
+    folder.chmod(0o755)
     costs = () if program == FAST_BOOK or "--setting" in options else ("--setting", CHEAP)
-    given = Given(RUN, (*options, *costs), program=program, file=file, sockets=False)
+    given = Given(folder, (*options, *costs), program=program, file=file, sockets=False)
     return given.begun().wait_until_started()
 
 

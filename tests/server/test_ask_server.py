@@ -7,7 +7,7 @@ import shlex
 import subprocess
 from collections.abc import Sequence
 
-from served import Case
+from served import Case, need_module
 from test_ask import ASK, Typed
 from tests.helpers import TOP, Peer, at_a_terminal, each, ended
 from tests.hostile_fields import NAMES, PASSWORDS, text_of
@@ -113,6 +113,25 @@ class AskServer(Case):
         self.assertRegex(said, r"^yes=3 no=3 .*changes=\d+ .*book=\S+$")
         said, status = self.asked([str(service.path("login")), "list"])
         self.assertEqual((status, "doesn't allow list" in said), (1, True))
+
+    def test_marks_of_who_waits(self) -> None:
+        """`marks NAME` also prints a wait, even of a user whom the book lacks."""
+        need_module("passlib.hash")
+        old = self.room() / "htpasswd"
+        old.write_text("eve:{SHA}5en6G6MezRroT3XKqkdPOmY/BfQ=\n")
+        service = self.serving("--tries", "1", "--foreign", str(old), clocked=True)
+        admin = str(service.path("admin"))
+        service.enrol(ada="secret", bob="secret").talk("admin lock ada -> locked")
+        for name in ("ada", "eve"):
+            service.talk(f"login verify {name} {{wrong}} -> no\nlogin verify {name} - -> later")
+        for name, said, status in (
+            ("ada", "ada:locked ada:later:1", 0),
+            ("bob", "", 0),
+            ("eve", "eve:later:1", 0),
+            ("zoe", "noaccount", 4),
+        ):
+            self.assertEqual(self.asked([admin, "marks", name]), (said, status))
+        self.assertEqual(self.asked([admin, "marks"]), ("ada:locked", 0))
 
     def test_record(self) -> None:
         """A record that is shown can be put back, also as a line of a book's export."""

@@ -63,10 +63,12 @@ class ForeignMarks(ForeignCase):
         service.talk("login verify ada {fresh} -> no\nlogin verify ada {secret} -> no")
 
     def test_as_a_wrong_password(self) -> None:
-        """A right password at a locked name is hashed, and counts as a failed try."""
+        """A right password at a locked name is hashed, and counts as a failed try until
+        `unlock`."""
         service = self.over("--tries", "2")
         service.talk("admin lock ada -> locked\nadmin unlock zoe -> noaccount")
         service.talk("login verify ada {secret} -> no\n" * 2 + "login verify ada {secret} -> later")
+        service.talk("admin unlock ada -> unlocked\nlogin verify ada {secret} -> yes")
 
     def test_expired(self) -> None:
         """The mark is HTPASSWD.moved's until the user moves, and then the book's."""

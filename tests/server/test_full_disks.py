@@ -11,7 +11,7 @@ from served import real_book
 from tests.helpers import ended, small_disk
 from transfer_case import text_of
 
-SIZE = 24 << 20  # bytes
+SIZE = 64 << 20  # bytes
 # Each change of the book, of an account with the password `secret`.
 CHANGES = """
     admin account bob -> bad 19 disk
@@ -81,7 +81,7 @@ class FullDisks(Case):
         book opens again on the full disk: logins go on."""
         folder = self.disk()
         service = self.over(folder, program=real_book()).enrol(ada="secret")
-        admin, text = service.client("admin"), text_of(20_000)
+        admin, text = service.client("admin"), text_of(100_000)  # more than the log's room
         self.assertEqual(admin.ask(f"import {SIZE}"), "bad 19 disk")
         self.assertEqual(admin.ask(f"import {len(text)}"), f"send {len(text)}")
         fill(folder, 0)

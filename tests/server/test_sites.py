@@ -11,7 +11,8 @@ import smtplib
 import urllib.error
 import urllib.request
 
-from machine import PAGE, commands_on_page, in_namespaces, install, is_open, on_page, shell, started
+from machine import PAGE, begun, commands_on_page, in_namespaces, install, is_open, on_page
+from machine import shell, started
 from served import Case, Service, need, same, until
 from tests.needs import need_file
 
@@ -147,6 +148,26 @@ def fetched(user: str, port: int, count: int = 40) -> dict[int, int]:
     return dict(collections.Counter(map(int, text.split())))
 
 
+def add_second_site(site: str, *changes: tuple[str, str]) -> None:
+    """Adds a copy of one of the page's sites for a second book, as the page says, at port 8084."""
+    text = on_page(f"/etc/nginx/sites-enabled/{site}").partition("\n")[2]
+    for old, new in changes:
+        assert old in text, old
+        text = text.replace(old, new)
+    pathlib.Path("/etc/nginx/sites-enabled/second").write_text(text)
+    shell("nginx -s reload")
+    until(lambda: is_open(8084), "nginx")
+
+
+def assert_apart(port: int) -> None:
+    """A password of one book never opens the other's site, though nginx has it in its cache."""
+    for time in ("asked", "kept"):
+        for password, statuses in (("secret", (200, 401)), ("mailword", (401, 200))):
+            for each, status in zip((port, 8084), statuses):
+                said = fetched(f"ada:{password}", each, 1)
+                same(said, {status: 1}, f"{password} at {each}, {time}")
+
+
 class Sites(Case):
     @in_namespaces
     def test_nginx(self, room: pathlib.Path) -> None:
@@ -168,6 +189,32 @@ class Sites(Case):
         folder = pathlib.Path("/run/nginx-logins")
         kept = [folder, *(it for it in folder.rglob("*") if it.is_file())]
         self.assertEqual([it.stat().st_mode & 0o77 for it in kept], [0, 0])
+
+    @in_namespaces
+    def test_nginx_two_books(self, room: pathlib.Path) -> None:
+        run_nginx(room, "cached", 8081)
+        begun(book="mail").enrol(ada="mailword")
+        asking = "pam_rigzumal.so timeout=60 socket=/run/rigzumal/mail/login.sock"
+        service = on_page("/etc/pam.d/nginx").replace("pam_rigzumal.so", asking)
+        pathlib.Path("/etc/pam.d/second").write_text(service)
+        add_second_site(
+            "cached",
+            ("upstream login", "upstream second"),
+            ("//login/", "//second/"),
+            ("nginx-login.sock", "nginx-second.sock"),
+            ('auth_pam_service_name "nginx"', 'auth_pam_service_name "second"'),
+            ("8081", "8084"),
+        )
+        assert_apart(8081)
+
+    @in_namespaces
+    def test_nginx_with_all_sites(self, room: pathlib.Path) -> None:
+        """nginx starts with all sites of the page."""
+        run_nginx(room, "book", 8080)
+        others = re.findall(r"^# (/etc/nginx/sites-enabled/(?!book$)\w+)$", PAGE.read_text(), re.M)
+        install(*others)
+        self.assertEqual(len(others), 3)
+        shell("nginx -t")
 
     @in_namespaces
     def test_nginx_htpasswd(self, room: pathlib.Path) -> None:

@@ -14,6 +14,16 @@ from tests.helpers import each
 from transfer_case import LINE, TransferCase
 
 
+def drain(notices: socket.socket) -> None:
+    """Reads all notices that have come."""
+    limit = notices.gettimeout()
+    notices.setblocking(False)
+    with contextlib.suppress(BlockingIOError):
+        while notices.recv(100):
+            pass
+    notices.settimeout(limit)
+
+
 class Faults(TransferCase):
     @contextlib.contextmanager
     def held(self, *options: str, **fields: Any) -> Iterator[tuple[Service, Client, Client]]:
@@ -31,8 +41,8 @@ class Faults(TransferCase):
         wait.unlink(missing_ok=True)
 
     def test_lines_that_wait(self) -> None:
-        """Waiting lines are answered after the import, and see its accounts."""
-        with self.held() as (service, admin, client):
+        """Waiting lines are answered after the import, and see its accounts. 0 is no limit."""
+        with self.held("--longest-import", "0") as (service, admin, client):
             time.sleep(0.3)
             client.socket.setblocking(False)
             with self.assertRaises(BlockingIOError):
@@ -103,6 +113,17 @@ class Faults(TransferCase):
         service.stop()
         self.assertTrue(admin.is_ended())
 
+    def test_one_that_hangs(self) -> None:
+        """The server kills an import that takes too long: nothing is imported, and the lines that
+        waited are answered."""
+        with self.held("--longest-import", "2") as (service, admin, client):
+            self.assertEqual({client.line(), client.line()}, {b"a yes", b"b noaccount"})
+            said = b"credkeep-server: killed credkeep, which still ran after 2 s"
+            self.assertEqual(admin.lines(2), [b"t1 ended 137 0 %d" % (len(said) + 1), said])
+            self.assertIn("killing credkeep, which still runs after 2 s\n", service.log())
+            self.serves(service)
+            service.stop()
+
     def test_kills_of_the_server(self) -> None:
         """The book has all of an import, or nothing, and each answered change."""
         with self.held() as (service, admin, client):
@@ -170,18 +191,36 @@ class Faults(TransferCase):
         self.serves(service)
         service.stop()
 
-    def test_a_watchdog(self) -> None:
-        """The server sends its watchdog notices to systemd while an import has the book."""
+    @contextlib.contextmanager
+    def systemd(self) -> Iterator[tuple[socket.socket, dict[str, str]]]:
+        """A socket as systemd's, and the environment that names it."""
         path = self.room() / "notify"
         with socket.socket(socket.AF_UNIX, socket.SOCK_DGRAM) as notices:
             notices.bind(str(path))
             notices.settimeout(self.seconds)
-            given = {"NOTIFY_SOCKET": str(path), "WATCHDOG_USEC": "200000"}
-            with self.held(environment=given):
-                notices.setblocking(False)
-                with contextlib.suppress(BlockingIOError):
-                    while notices.recv(100):
-                        pass
-                notices.settimeout(self.seconds)
-                for _ in range(3):
-                    self.assertEqual(notices.recv(100), b"WATCHDOG=1")
+            yield notices, {"NOTIFY_SOCKET": str(path), "WATCHDOG_USEC": "200000"}
+
+    def test_a_watchdog(self) -> None:
+        """The server sends its watchdog notices to systemd while an import has the book."""
+        with self.systemd() as (notices, given), self.held(environment=given):
+            drain(notices)
+            for _ in range(3):
+                self.assertEqual(notices.recv(100), b"WATCHDOG=1")
+
+    def test_a_watchdog_of_one_that_hangs(self) -> None:
+        """The notices end after the time of an import, if not even a kill ends it, or if the book's
+        process doesn't end before it."""
+        with self.systemd() as (notices, given):
+            service = self.over("--longest-import", "1", program=FAST_BOOK, environment=given)
+            admin, book = service.client("admin"), service.book_pid()
+            admin.ask(f"import {len(LINE)}")
+            os.kill(book, signal.SIGSTOP)
+            self.addCleanup(service.process.kill)
+            self.addCleanup(os.kill, book, signal.SIGKILL)
+            admin.send(LINE)
+            admin.wait_until_read()
+            time.sleep(1.5)
+            drain(notices)
+            notices.settimeout(2)
+            with self.assertRaises(TimeoutError):
+                notices.recv(100)

@@ -67,13 +67,14 @@ class Tries(Case):
         admin.talk("enrol ada {secret} -> enrolled\nverify ada {secret} -> yes")
 
     def test_what_forgives_nothing(self) -> None:
-        """A wait goes on behind a lock, and at a name that is deleted, renamed or disabled, and
-        gets a record again; and while another name is forgiven."""
+        """A wait goes on at a name that is deleted, renamed or disabled, and gets a record again;
+        and while another name is forgiven or unlocked."""
         service = self.serving("--tries", "2", clocked=True).enrol(ada="secret", bob="secret")
         record = service.client("admin").ask("show ada")
         for between in (
             ("forgive bob -> forgiven", "reset bob {fresh} -> replaced"),
-            ("lock ada -> locked", "unlock ada -> unlocked"),
+            ("lock bob -> locked", "unlock bob -> unlocked"),
+            ("unlock ada -> none",),
             ("disable ada -> disabled", f"load ada {record} -> ok"),
             ("delete ada -> deleted", "account ada -> ok", f"load ada {record} -> ok"),
             ("rename ada eve -> renamed", "rename eve ada -> renamed"),
@@ -82,6 +83,25 @@ class Tries(Case):
             admin.talk("verify ada {wrong} -> no\n" * 2 + "verify ada {secret} -> later")
             admin.talk("\n".join([*between, "verify ada {secret} -> later"]))
             admin.talk("forgive ada -> forgiven\nverify ada {secret} -> yes")
+
+    def test_unlocked(self) -> None:
+        """After `unlock` the right password is right at once, however often it was tried at the
+        locked account."""
+        service = self.serving("--tries", "2", clocked=True).enrol(ada="secret")
+        service.talk(
+            """
+            admin lock ada -> locked
+            login verify ada {secret} -> no
+            login verify ada {secret} -> no
+            login verify ada {secret} -> later
+            admin waits -> waits ada:1
+            admin unlock ada -> unlocked
+            admin waits -> waits
+            login verify ada {secret} -> yes
+            """
+        )
+        text = "ada no longer has to wait: an administrator unlocked it\n"
+        self.assertEqual(service.log().count(text), 1)
 
     def test_guesses_at_once(self) -> None:
         """Of guesses that are sent together only as many are judged as may fail, and one after each
@@ -190,6 +210,16 @@ class Tries(Case):
             service.set_clock(now)
             service.talk(f"login verify {line}\nadmin waits -> waits{ought}")
 
+    def test_the_wait_of_one_name(self) -> None:
+        """`waits NAME` lists this name alone, also by its address."""
+        service = self.serving("--tries", "1", "--mail-names", clocked=True)
+        service.enrol(**{"ada": "secret", "bob@example.org": "secret"})
+        for name in ("ada", "bob@example.org"):
+            service.talk(f"login verify {name} {{wrong}} -> no\nlogin verify {name} - -> later")
+        admin = service.client("admin")
+        admin.talk("waits ada -> waits ada:1\nwaits zoe -> waits\nwaits e@ -> waits")
+        self.assertRegex(admin.ask("waits bob@Example.org"), r"^waits e\.[a-z2-7]{30}:1$")
+
     def test_logged_once_an_hour(self) -> None:
         """However many tries at a name are too early, its wait is a line an hour."""
         service = self.serving("--tries", "1", clocked=True).enrol(ada="secret")
@@ -238,6 +268,14 @@ class OverABook(Case):
             login verify ada {secret} -> yes
             """
         )
+
+    def test_unlocked(self) -> None:
+        """An account that is unlocked has no failed tries."""
+        service = self.serving("--setting", CHEAP, "--tries", "2", program=chosen_book())
+        service.enrol(ada="secret").talk("admin lock ada -> locked")
+        service.guess("ada", 5)
+        service.talk("login verify ada {secret} -> later\nadmin unlock ada -> unlocked")
+        service.talk("login verify ada {secret} -> yes")
 
     def test_a_wait_that_ends(self) -> None:
         """After the wait the right password is right, and ends the count."""

@@ -8,7 +8,7 @@ import shutil
 from typing import Any
 
 from machine import PAGE, shell
-from served import PYTHON, TOP, Case, Client, chosen_book, is_listening, need, until
+from served import FAST_BOOK, PYTHON, TOP, Case, Client, chosen_book, is_listening, need, until
 from tests.helpers import each
 
 NOT_NEEDED = {"fchown"}  # of a new log, to the book's owner, whose it is
@@ -38,7 +38,7 @@ TimeoutStartSec=infinity
 TimeoutStopSec=60
 Restart=always
 RestartSec=1
-WatchdogSec=300
+WatchdogSec=60
 OOMPolicy=continue
 LimitCORE=0
 LimitNOFILE=4096
@@ -170,6 +170,8 @@ class Units(Case):
         words += f" systemd-socket-activate --fdname=login:admin -l {room}/login.handed"
         words += f" -l {room}/admin.handed -E PYTHONDONTWRITEBYTECODE=1"
         given: Any = {"program": chosen_book(), "before": tuple(words.split()), "waits": False}
+        if given["program"] == FAST_BOOK:
+            (room / "users.db-wal").touch()  # as credkeep does
         service = self.serving("--foreign", f"{room}/old", folder=room, **given)
         until(lambda: is_listening(room / "admin.handed"), "the sockets")
         with Client(room / "admin.handed") as admin, Client(room / "login.handed") as login:
@@ -185,6 +187,7 @@ class Units(Case):
         calls = set(re.findall(r"^\d+ +(?:<\.\.\. )?(\w+)[( ]", ours, re.M))
         calls -= {"resumed", "exit", "exited", "killed"}
         self.assertTrue(len(calls) > 40, f"{calls}")
+        self.assertIn("fallocate", calls)
         self.assertEqual(calls - allowed_calls() - NOT_NEEDED, set(), "what the unit forbids")
         both = re.findall("^.*PROT_WRITE.*PROT_EXEC.*$|^.*PROT_EXEC.*PROT_WRITE.*$", ours, re.M)
         self.assertEqual(both, [], "memory that may be written and run")

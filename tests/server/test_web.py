@@ -12,7 +12,7 @@ from typing import Any, Optional
 
 from machine import PAGE, RUN, begun, in_namespaces, install, is_open, prepared, shell
 from served import Case, Service, need, need_module, until
-from test_sites import fetched, install_pages, web_logins
+from test_sites import add_second_site, assert_apart, fetched, install_pages, web_logins
 from tests.hostile_fields import LOGIN, NAMES, PASSWORD, PASSWORDS
 
 BASIC = 'Basic realm="book", charset="UTF-8"'
@@ -292,7 +292,7 @@ class Web(Case):
             headers = "".join(f" -H 'X-{it}: {long}'" for it in range(count))
             for user, status in (("'bob:other word'", 200), ("eve:guess", 401)):
                 with self.subTest(user, count=count):
-                    shell("rm -rf /run/nginx-logins/*")  # what the cache has of the user
+                    shell("rm -rf /run/nginx-http-logins/*")  # what the cache has of the user
                     line = f"curl -s -o /dev/null -w '%{{http_code}}' -u {user}{headers}"
                     said = shell(f"{line} -b 'session={long}' http://127.0.0.1:8083/1.png")
                     self.assertEqual(said, str(status))
@@ -315,6 +315,19 @@ class Web(Case):
             for time in ("asked", "kept"):
                 with self.subTest(typed, time=time):
                     self.assertEqual(said(typed), ["ann@example.org", typed])
+
+    @in_namespaces
+    def test_nginx_two_books(self, room: pathlib.Path) -> None:
+        self.run_nginx(room)
+        begun("--http", f"{RUN.parent}/mail/http.sock", book="mail").enrol(ada="mailword")
+        add_second_site(
+            "http",
+            ("upstream book", "upstream second"),
+            ("//book/", "//second/"),
+            ("users/http.sock", "mail/http.sock"),
+            ("8083", "8084"),
+        )
+        assert_apart(8083)
 
     @in_namespaces
     def test_nginx(self, room: pathlib.Path) -> None:

@@ -16,7 +16,7 @@ The other modules are:
     protocol    the tables of operations and answers
     costs       the memory and the work of a hash
     tally       the counts of answers
-    disk        the free space on the disks
+    disk        the free space on the disks, and the room of the book's log
     journal     the log, systemd's notices, and the audit log
     appending   files that only grow, and the process that writes the audit log
     transfers   imports, exports and backups of the whole book

@@ -8,7 +8,7 @@ import re
 import signal
 import time
 from collections import Counter, OrderedDict, deque
-from collections.abc import AsyncIterator, Callable
+from collections.abc import AsyncIterator, Awaitable, Callable
 from contextlib import asynccontextmanager, suppress
 from typing import Any, Hashable, Optional
 
@@ -20,6 +20,7 @@ NAME = re.compile(rb"[a-z0-9._-]{1,32}")  # of a book
 LOCKED, MUST_CHANGE = b"!", b"~"  # the marks of an account, in this order before its record
 LACKS = (b"absent", b"noaccount")  # the answers for an account without a record, and for no account
 LATER = b"later"  # the beginning of the answer to a try that is too early
+UNLOCKED = b"unlocked"  # the answer to `unlock`
 EARLY = re.compile(rb"later ([1-9][0-9]{0,2})")  # the whole answer, with the remaining seconds
 LONGEST_WAIT = 900  # seconds
 NO_RECORD = b"none"  # `show`'s answer for an account without a record
@@ -127,8 +128,9 @@ class Book:
     While another program has the file open (`lent`), lines wait for the next process.
     """
 
-    def __init__(self, command: list[str]) -> None:
+    def __init__(self, command: list[str], prepare: Callable[[], Awaitable[None]]) -> None:
         self.command = command
+        self.prepare = prepare  # what the next process needs after it has opened the file
         self.process: Optional[Process] = None  # answers lines; None during a loan
         self.living = set[Process]()
         self.status = 0  # the status of the last process that ended
@@ -136,6 +138,7 @@ class Book:
         self.is_down = False  # the last process couldn't start, so no line waits for the next one
         self.is_ending = False  # the server starts no more processes
         self.opened = 0.0  # the moment since which no line has waited for a process
+        self.lent_at = 0.0  # the beginning of the last loan
         # The last process's status, once that process ends by itself or the server ends.
         self.ended: asyncio.Future[int] = asyncio.get_running_loop().create_future()
 
@@ -163,6 +166,8 @@ class Book:
     def hand_over_to(self, process: Process) -> None:
         """Sends the waiting lines, and from now on all lines, to a process."""
         self.process, self.is_down = process, False
+        if process.ended.done():
+            self.note_end(process, process.ended.result())
         self.opened = time.monotonic()
         waiting, self.waiting = self.waiting, []
         for words, answer in waiting:
@@ -185,9 +190,9 @@ class Book:
         refusal of `show`."""
         return self.ask(b"show", name)
 
-    def is_lent(self) -> bool:
-        """Whether another program has the book's file open."""
-        return self.process is None
+    def is_lent(self, seconds: float) -> bool:
+        """Whether another program has had the book's file for less than this many seconds."""
+        return self.process is None and time.monotonic() < self.lent_at + seconds
 
     def has_ended(self) -> bool:
         """Whether the book has ended, or is about to."""
@@ -202,6 +207,7 @@ class Book:
         """
         process, self.process = self.process, None
         assert process is not None
+        self.lent_at = time.monotonic()
         process.end()
         try:
             yield await asyncio.shield(process.ended)
@@ -213,6 +219,7 @@ class Book:
         doesn't answer, the book refuses all waiting lines."""
         while not self.is_ending:
             if process := await self.process_that_answers():
+                await self.prepare()
                 self.hand_over_to(process)
                 return
             self.is_down = True

@@ -50,7 +50,7 @@ async def has_taken(service: Service, name: bytes, word: bytes) -> bool:
     row = await asyncio.shield(service.book.row(name))
     if MARK_OF[word] in row.partition(b"$")[0]:
         return True
-    if not service.has_room():
+    if not await service.has_room():
         raise Problem("the book's disk has no room for a mark")
     answer = await ask(service, word, name)
     if answer in LACKS:

@@ -9,7 +9,7 @@ from typing import BinaryIO
 from weakref import WeakValueDictionary
 
 from .aging import Line, today
-from .book import LACKS, LATER, LOCKED, NO_ACCOUNT, NO_RECORD, UNAVAILABLE
+from .book import LACKS, LATER, LOCKED, NO_ACCOUNT, NO_RECORD, UNAVAILABLE, UNLOCKED
 from .book import field_of, has_record, password_of
 from .old_file import OldFile
 from .schemes import is_right
@@ -24,6 +24,7 @@ IF_NAME_IS_TAKEN = {b"account": b"bad 1 exists", b"rename": b"exists"}
 ENDS_RECORD = (b"disable", b"delete", b"rename", b"remove")  # these leave no record
 MARKS = (b"lock", b"unlock", b"expire")
 EXPIRED, FORGIVEN = b"expired", b"forgiven"  # the answers to `expire` and `forgive`
+NAMES_AT_ONCE = 1000  # names to look for in the book at once
 
 
 class Foreign:
@@ -45,7 +46,10 @@ class Foreign:
         if request.word == b"forgive":
             return await self.forgive(request)
         if not request.operation.tries and request.word not in (b"known", b"show"):
-            return await self.answer_unbarred(request)
+            answer = await self.answer_unbarred(request)
+            if answer == UNLOCKED:
+                self.tries.forgive(request.words[1])
+            return answer
         name, question = request.words[1], request
         is_barred = await self.file.bars(name)
         if is_barred and request.operation.tries:
@@ -88,6 +92,31 @@ class Foreign:
     def rest(self, name: str) -> int:
         """Returns the remaining seconds of the wait for a user whom the file decides about."""
         return self.tries.rest(name.encode(errors="replace"))
+
+    async def note_records(self) -> bool:
+        """Notes that each name with a record in the book has moved, however the book got the
+        record. If the record goes, the file's must not count again. Returns False if a note
+        fails."""
+        names, are_noted = await self.file.unmoved(), True
+        for at in range(0, len(names), NAMES_AT_ONCE):
+            noted = await asyncio.gather(*map(self.note_record, names[at : at + NAMES_AT_ONCE]))
+            are_noted = are_noted and all(noted)
+        return are_noted
+
+    async def note_record(self, name: bytes) -> bool:
+        """Notes that a name has moved if the book has its record. Returns False if that fails."""
+        async with self.locks.setdefault(name, asyncio.Lock()):
+            if not has_record(await self.service.book.row(name)):
+                return True
+            if self.file.is_expired(name) and not await self.has_expired(name):
+                return False
+            return await self.file.note_moved(name)
+
+    async def has_expired(self, name: bytes) -> bool:
+        """Marks an account in the book whose password must be changed, as HTPASSWD.moved says."""
+        if not await self.service.has_room():
+            return False
+        return await self.service.book.ask(b"expire", name) == EXPIRED
 
     async def end_waits(self) -> None:
         """After an import, ends the waits of users who have a record in the book."""
@@ -140,6 +169,7 @@ class Foreign:
             return await self.answer_of_file(request, line, answer)
         if word == b"load" and answer == b"ok":
             self.end_wait(name)
+            await self.file.note_moved(name)
         await self.note_move(request, answer)
         return answer
 
@@ -217,7 +247,7 @@ class Foreign:
             return request.operation.wrong
         self.tries.forgive(name)
         is_login = not request.operation.changes
-        if is_login and not self.service.has_room():  # the user moves at a later login
+        if is_login and not await self.service.has_room():  # the user moves at a later login
             return self.answer_to_known(name, line)
         if refusal := await self.move(request, line):
             return refusal

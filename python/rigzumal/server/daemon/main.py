@@ -94,8 +94,11 @@ def log_fault(_loop: asyncio.AbstractEventLoop, context: dict[str, Any]) -> None
 async def serve_clients(service: Service) -> None:
     """Admits clients once the book answers, and serves them until the server cancels this task."""
     await asyncio.shield(service.book.ask(b"show", b"-"))  # so that nobody cancels this answer
+    await service.log_room.allocate()
     await take_in(service)
     service.transfers.remove_copy()
+    if service.foreign:
+        await asyncio.shield(service.foreign.note_records())
     for door in service.options.doors:
         accepting = door.accept(service, door.listen())
         service.accepting.append(asyncio.create_task(accepting))
@@ -106,18 +109,19 @@ async def serve_clients(service: Service) -> None:
     idle = service.options.idle or float("inf")
     beat = beat_seconds()
     while True:
-        await notify_once_answered(service.book, beat)
+        await notify_once_answered(service, beat)
         end_idle_clients(service, idle)
         await asyncio.sleep(min(beat, idle / 10))
 
 
-async def notify_once_answered(book: Book, beat: float) -> None:
+async def notify_once_answered(service: Service, beat: float) -> None:
     """Waits for the book's answer to a line. Reports to systemd that the server is alive when the
-    answer has arrived, and meanwhile at each interval in which an import has the book's file."""
-    answer = book.ask(b"show", b"-")
+    answer has arrived, and meanwhile at each interval in which an import has the book's file, as
+    long as an import may take."""
+    answer = service.book.ask(b"show", b"-")
     while not answer.done():
         await asyncio.wait([answer], timeout=beat)
-        if answer.done() or book.is_lent():
+        if answer.done() or service.book.is_lent(service.options.import_seconds()):
             notify("WATCHDOG=1")
 
 

@@ -83,6 +83,13 @@ class OldFile:
         barred = {name for name, line in self.last_lines.items() if line.bar(today())}
         return {name for name in barred if NAME.fullmatch(name)}
 
+    async def unmoved(self) -> list[bytes]:
+        """Returns the names whose records count once the book has none, if a book allows these
+        names."""
+        await self.refresh()
+        of_records = [name for name, line in self.last_lines.items() if line.record]
+        return [it for it in of_records if NAME.fullmatch(it) and not self.has_moved(it)]
+
     def has_moved(self, name: bytes) -> bool:
         return self.moved.has(name)
 

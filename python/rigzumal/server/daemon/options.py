@@ -48,6 +48,9 @@ class Options:
     http: str = option("answer HTTP at one more socket", "SOCKET")
     tries: int = option("failed tries before a name must wait; 0: no limit", "N", 10, MOST_TRIES)
     idle: int = option("seconds before the server closes an idle connection", "SECONDS", 600)
+    longest_import: int = option(
+        "seconds before the server kills an import; 0: no limit", "SECONDS", 600
+    )
     audit: str = option("append a JSON line to this file for each change", "LOG")
     audit_tries: bool = option("log failed tries too")
     metrics: str = option("print the counts of an admin socket's server", "SOCKET")
@@ -73,6 +76,10 @@ class Options:
         if costs:  # credkeep refuses a text that isn't a setting
             self.most_memory = self.most_memory or size_of(TIMES * costs.memory)
             self.most_work = self.most_work or size_of(TIMES * costs.work)
+
+    def import_seconds(self) -> float:
+        """Returns the seconds that an import may take."""
+        return self.longest_import or float("inf")
 
     def workers(self) -> int:
         """Returns the number of lines that the book hashes at the same time: those of one user, and

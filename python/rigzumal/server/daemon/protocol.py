@@ -195,7 +195,7 @@ class Operation:
 
     Its fields are NAME, OTHER (a new name), PW (the present password), NEW (a new password),
     RECORD, SETTING (costs and a salt), FROM and COUNT (of a page), and SIZE. A line with PW may be
-    a guess. A line may lack SETTING.
+    a guess. A line may lack a field in brackets.
     """
 
     fields: tuple[str, ...] = ()
@@ -215,7 +215,7 @@ class Operation:
     @cached_property
     def names(self) -> int:
         """The number of names among the operation's fields; the names come first."""
-        return sum(field in ("NAME", "OTHER") for field in self.fields)
+        return sum(field in ("NAME", "[NAME]", "OTHER") for field in self.fields)
 
     @cached_property
     def new(self) -> int:
@@ -349,7 +349,9 @@ OPERATIONS = {
         command=Command("NAME", "print the time of the last right password"),
     ),
     b"waits": Operation(
-        (), is_own=True, command=Command("", "print the names that must wait, with the seconds")
+        ("[NAME]",),
+        is_own=True,
+        command=Command("", "print the names that must wait, with the seconds"),
     ),
     b"stats": Operation((), is_own=True, command=Command("", "print the counts of answers")),
 }

@@ -11,10 +11,10 @@ from collections.abc import Coroutine
 from dataclasses import dataclass, replace
 from typing import TYPE_CHECKING, Any, Optional
 
-from .book import LACKS, LATER, LOCKED, MUST_CHANGE, NO_ACCOUNT, NO_RECORD, UNAVAILABLE
+from .book import LACKS, LATER, LOCKED, MUST_CHANGE, NO_ACCOUNT, NO_RECORD, UNAVAILABLE, UNLOCKED
 from .book import Book, Places, Rounds, password_of, seconds_to_wait
 from .clients import LONG, LONGEST, Client
-from .disk import FULL, NEEDED, has_room
+from .disk import FULL, NEEDED, LogRoom, has_room
 from .doors import Door
 from .journal import AuditLog, log_seldom, utc
 from .names import Names
@@ -71,7 +71,8 @@ class Service:
         # The files that a change writes, and their folders: SQLite writes beside the book.
         files = filter(None, (options.file, options.audit))
         self.folders = {path: os.path.dirname(os.path.realpath(path)) for path in files}
-        self.book = Book(options.book_words())
+        self.log_room = LogRoom(os.path.realpath(options.file))
+        self.book = Book(options.book_words(), self.log_room.renew)
         self.tally = Tally(options)
         self.turns = Places(TURNS)
         self.hashes = Places(options.workers())
@@ -206,13 +207,17 @@ class Service:
         so many lines wait for the audit log that the server can't record the change."""
         if request.operation.changes and self.audit.is_full():
             return UNAVAILABLE
-        if request.operation.changes and not self.has_room():
+        if request.operation.changes and not await self.has_room():
             return FULL
         return await self.answer(request)
 
-    def has_room(self) -> bool:
-        """Whether the disks have room for a change: without room, a change would end the book, or
-        lack a record in the log."""
+    async def has_room(self) -> bool:
+        """Whether a change has room: without room, a change would end the book, or lack a record in
+        the audit log."""
+        return self.has_free_space() and await self.log_room.allocate()
+
+    def has_free_space(self) -> bool:
+        """Whether the disks have enough free space for changes."""
         full = [path for path, folder in self.folders.items() if not has_room(folder)]
         for path in full:
             text = "%s: its disk has less than %d KiB left, so the server refuses changes"
@@ -228,12 +233,16 @@ class Service:
             row = await self.book.row(*fields)
             return row if word == b"show" else answer_to_known(row)
         if request.operation.tries and not request.operation.changes:
-            is_upgrading = word == b"login" and self.has_room()
+            is_upgrading = word == b"login" and await self.has_room()
             return await self.log_in(b"login" if is_upgrading else b"verify", *fields)
         if request.places is self.changes:
             is_alone = not request.operation.hashes
-            return await self.rounds.ask(request.words, is_alone=is_alone)
-        return await self.book.ask(*request.words)
+            answer = await self.rounds.ask(request.words, is_alone=is_alone)
+        else:
+            answer = await self.book.ask(*request.words)
+        if word == b"unlock" and answer == UNLOCKED:
+            await self.book.ask(b"forgive", *fields)  # each try at the locked account has failed
+        return answer
 
     async def log_in(self, *words: bytes) -> bytes:
         """Returns the answer to a login. The fastest login with a name that the book lacks measures
@@ -267,7 +276,7 @@ class Service:
     async def upgrade(self, request: Request) -> None:
         """After a right password, upgrades a record with other costs; upgrades run one at a
         time."""
-        if self.upgrading.locked() or not self.has_room():
+        if self.upgrading.locked() or not await self.has_room():
             return
         async with self.upgrading:
             name, password = request.words[1:3]

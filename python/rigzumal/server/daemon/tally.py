@@ -16,7 +16,11 @@ from .protocol import ANSWERS, NO_ANSWER, RIGHT, Operation
 
 Note = TypeVar("Note")
 EXPIRED = "expired"  # the answer to `expire`, and to a right password that the user must change
-FORGIVEN = "forgiven"
+# The answers by which an administrator ends a wait.
+ENDS_WAIT = {
+    "forgiven": "an administrator forgave it",
+    "unlocked": "an administrator unlocked it",
+}
 REMEMBERED = 65536  # names
 MOST_SHOWN, LONGEST_STATS = 1000, 4096  # names in an answer, letters of one
 
@@ -95,8 +99,8 @@ class Tally:
             self.counts["later"] += 1
             remember(self.early, name, Wait(seconds, time.monotonic()))
             log_seldom((LATER, name), "%s must wait after %d failed tries", name, self.tries)
-        if answer == FORGIVEN:
-            self.end_wait(name, "an administrator forgave it")
+        if answer in ENDS_WAIT:
+            self.end_wait(name, ENDS_WAIT[answer])
         meaning = ANSWERS.get(answer, NO_ANSWER)
         is_refused = kind.tries and answer == EXPIRED
         has_changed = kind.changes and meaning.changed and not is_refused
@@ -131,10 +135,12 @@ class Tally:
         if ended:
             log.info("%d names no longer have to wait: the book's process is new", len(ended))
 
-    def waits(self) -> list[str]:
-        """Returns the names whose wait isn't over, each as NAME:SECONDS with the remaining seconds.
-        A try at that name was too early, and no login or `forgive` has ended its wait."""
-        rests = {name: wait.rest() for name, wait in self.early.items()}
+    def waits(self, only: str = "") -> list[str]:
+        """Returns the names whose wait isn't over, or only this one of them, each as NAME:SECONDS
+        with the remaining seconds. A try at that name was too early, and no login, `forgive` or
+        `unlock` has ended its wait."""
+        names = [only] if only else list(self.early)
+        rests = {name: self.early[name].rest() for name in names if name in self.early}
         return [f"{name}:{rest}" for name, rest in rests.items() if rest > 0]
 
     def stats(self) -> str:
@@ -147,7 +153,7 @@ class Tally:
     def answer(self, operation: bytes, name: str) -> str:
         """Returns the server's own answers; `last` is the time of a right password."""
         if operation == b"waits":
-            waits = self.waits()
+            waits = self.waits(name)
             more = [f"more={len(waits) - MOST_SHOWN}"] if len(waits) > MOST_SHOWN else []
             return " ".join(["waits", *waits[:MOST_SHOWN], *more])
         if operation == b"last":

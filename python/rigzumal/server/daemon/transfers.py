@@ -34,6 +34,8 @@ ROOM_FOR_TEXT = 4
 BUSY = b"bad 14 busy"
 DATABASE_FAILED = 5  # a status of credkeep
 ENDING = b"credkeep-server: the book is ending: the server did nothing\n"
+UNNOTED = b"credkeep-server: HTPASSWD.moved can't be written: the server did nothing\n"
+HUNG = b"credkeep-server: killed credkeep, which still ran after %d s\n"
 KILLED_FIRST = "1000"  # of proc(5), oom_score_adj
 
 
@@ -139,7 +141,7 @@ class Transfers:
         """Whether the disks have room for a change, and the book's disk for this many additional
         bytes."""
         folder = self.service.folders[self.file]
-        return self.service.has_room() and has_room(folder, size + NEEDED)
+        return self.service.has_free_space() and has_room(folder, size + NEEDED)
 
     def drop(self, incoming: Incoming) -> None:
         """Drops a text that didn't arrive completely."""
@@ -197,6 +199,8 @@ class Transfers:
         """Imports the text into the book, whose lines wait meanwhile."""
         words = self.import_words(request)
         text = await self.with_names_of_book(text)
+        if not await self.has_noted_records():  # of which this import may remove some
+            return Result(DATABASE_FAILED, faults=UNNOTED)
         try:
             async with self.service.book.lent() as status:
                 if status:
@@ -206,8 +210,13 @@ class Transfers:
                 log.info("the import has ended with status %d", result.status)
         finally:
             await self.service.end_waits()
+        await self.has_noted_records()
         self.service.tally.counts["changes"] += not result.status
         return result
+
+    async def has_noted_records(self) -> bool:
+        """Notes which users have left an old file. Returns False if a note fails."""
+        return not self.service.foreign or await self.service.foreign.note_records()
 
     async def use_copy(self, request: Request, text: Optional[BinaryIO]) -> Result:
         """Runs a request on a copy, while the server uses the book."""
@@ -277,11 +286,23 @@ class Transfers:
             text.close()
         have_killed_first(process.pid)
         assert process.stderr is not None
-        result.faults = await beginning_of(process.stderr)
-        status = await process.wait()
+        loop, seconds = asyncio.get_running_loop(), options.import_seconds()
+        hung = loop.call_later(seconds, self.kill_hung, result, seconds)
+        try:
+            faults = await beginning_of(process.stderr)
+            status = await process.wait()
+        finally:
+            hung.cancel()
         self.running = None
+        result.faults = faults + result.faults
         result.status = status if status >= 0 else 128 - status
         return result
+
+    def kill_hung(self, result: Result, seconds: float) -> None:
+        """Kills the running credkeep, whose file may be on a disk that hangs."""
+        log.error("killing credkeep, which still runs after %d s", seconds)
+        result.faults = HUNG % seconds
+        self.kill()
 
     def kill(self) -> None:
         """Kills the running credkeep: a killed import has imported all lines, or none."""

@@ -115,18 +115,16 @@ class Commands:
         return "\n".join(items)
 
     def marks(self, names: list[str]) -> str:
-        """Returns the marks of all names, or of one name, one mark on each line."""
+        """Returns the marks of all names, or the marks and the wait of one name, each on its own
+        line."""
         if not names:
             found = self.server.pages("marks")
-        else:
-            said = self.server.ask("show", names[0])
-            if said == "noaccount":
-                return said
-            found = {names[0]: marks_of(said)}
-        lines = list[str]()
-        for name, marks in found.items():
-            lines += [f"{name}:{word}" for mark, word in MARKS.items() if mark in marks]
-        return "\n".join(lines)
+            return "\n".join(line for name in found for line in lines_of(name, found[name]))
+        said, waits = self.server.ask("show", names[0]), self.server.send("waits", names[0])
+        lines = lines_of(names[0], marks_of(said))
+        if wait := re.fullmatch(r"waits \S+:(\d+)", waits):
+            lines.append(f"{names[0]}:later:{wait[1]}")
+        return said if said == "noaccount" and not lines else "\n".join(lines)
 
     def show(self, name: str, is_whole: bool) -> str:
         """Returns the marks, followed by the costs of a record or by the whole record."""
@@ -173,6 +171,11 @@ class Commands:
                 return subprocess.run([PROGRAM, copy.name, "backup", file]).returncode
             except OSError as fault:
                 end(1, f"{PROGRAM}: {fault.strerror}")
+
+
+def lines_of(name: str, marks: str) -> list[str]:
+    """Returns a line for each mark of a name."""
+    return [f"{name}:{word}" for mark, word in MARKS.items() if mark in marks]
 
 
 def marks_of(said: str) -> str:
