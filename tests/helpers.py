@@ -41,13 +41,9 @@ from tests.needs import need_module, need_root  # noqa: F401 (for the tests)
 TOP = pathlib.Path(__file__).resolve().parent.parent
 PYTHON, LIBRARIES = TOP / "python", TOP / "c/out"
 TIMES = int(os.environ.get("RIGZUMAL_TIMES", "1"))
-# The factor by which everything may take longer, while other work uses our processors.
-BUSY = max(1, int(os.getloadavg()[0] / len(os.sched_getaffinity(0))))
 TRIPLET = "x86_64-linux-gnu" if IS_NATIVE else "aarch64-linux-gnu"
 # Programs of another processor run under qemu-user, over Debian's cross libraries.
 EMULATOR = ["qemu-aarch64", "-L", f"/usr/{TRIPLET}"]
-# The tests kill a run that hasn't ended after this many seconds.
-LONGEST = 120 * BUSY
 LIMIT = float(os.environ.get("TEST_LIMIT", "1800"))
 
 Found = TypeVar("Found")
@@ -63,6 +59,17 @@ if sys.version_info < (3, 11):
     unittest.TestCase.enterContext = enter_context
 
 
+def busy() -> int:
+    """Returns the factor by which everything may take longer, while other work uses our
+    processors."""
+    return max(1, int(os.getloadavg()[0] / len(os.sched_getaffinity(0))))
+
+
+def longest() -> int:
+    """Returns the seconds after which the tests kill a run that hasn't ended."""
+    return 120 * busy()
+
+
 class Case(unittest.TestCase):
     """A test that fails after this many seconds, wherever it waits."""
 
@@ -73,7 +80,7 @@ class Case(unittest.TestCase):
             raise TimeoutError(f"over {self.seconds} s")
 
         signal.signal(signal.SIGALRM, too_long)
-        signal.alarm(self.seconds * BUSY)
+        signal.alarm(self.seconds * busy())
         self.addCleanup(signal.alarm, 0)
 
     def room(self) -> pathlib.Path:
@@ -141,7 +148,7 @@ def ended(command: list[str], given: str = "", **options: Any) -> Ended:
     options = {"stdout": subprocess.PIPE, "stderr": subprocess.PIPE, **options}
     if "stdin" not in options:
         options["input"] = given.encode()
-    done = subprocess.run(command, timeout=LONGEST, **options)
+    done = subprocess.run(command, timeout=longest(), **options)
     return Ended(done.returncode, *(text_of(it or b"") for it in (done.stdout, done.stderr)))
 
 
@@ -171,9 +178,9 @@ def run(
     return text
 
 
-def until(fact: Callable[[], bool], said: str, seconds: float = LONGEST) -> None:
+def until(fact: Callable[[], bool], said: str, seconds: float | None = None) -> None:
     """Waits until a condition holds, as long as a slow and busy machine may need."""
-    end, pause = time.monotonic() + seconds, 0.01
+    end, pause = time.monotonic() + (longest() if seconds is None else seconds), 0.01
     while not fact():
         assert time.monotonic() < end, f"never: {said}"
         time.sleep(pause)

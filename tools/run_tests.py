@@ -41,8 +41,6 @@ from tree import TOP, tell_each
 sys.path.insert(0, str(TOP))
 from tests import helpers, needs  # noqa: E402
 
-# The run ends a job after this many seconds.
-LIMIT = int(os.environ.get("JOB_LIMIT", 10 * helpers.LONGEST))
 EVERY = 30
 # A mark in the environment of each process that a job started. The run finds the process by this
 # mark, whatever its parent.
@@ -52,6 +50,11 @@ RUN = f"run-{os.getpid()}"
 SIGNALS = (signal.SIGINT, signal.SIGTERM, signal.SIGHUP)
 INTERRUPTED = threading.Event()
 BUILD = ["make", "-s"]
+
+
+def limit() -> int:
+    """Returns the seconds after which the run ends a job that begins now."""
+    return int(os.environ.get("JOB_LIMIT", 10 * helpers.longest()))
 
 
 def end_all(mark: str) -> None:
@@ -116,10 +119,10 @@ class Done:
                 stderr=subprocess.STDOUT,
                 start_new_session=True,
             )
-        limit = threading.Timer(LIMIT, end_all, [mark])
-        limit.start()
+        timer = threading.Timer(limit(), end_all, [mark])
+        timer.start()
         _, status, used = os.wait4(process.pid, 0)
-        limit.cancel()
+        timer.cancel()
         end_all(mark)
         self.seconds = time.monotonic() - began
         self.processor = used.ru_utime + used.ru_stime

@@ -15,7 +15,7 @@ import unittest
 from collections.abc import Callable, Iterable
 from typing import Any, NamedTuple
 
-from tests.helpers import LONGEST, Ended, Found, Stop, ended, in_turn, program, text_of
+from tests.helpers import Ended, Found, Stop, ended, in_turn, longest, program, text_of
 
 # Costs that a test can afford, and a salt.
 CHEAP = "$argon2id$v=19$m=8,t=1,p=1"
@@ -157,7 +157,7 @@ class Service(contextlib.AbstractContextManager["Service"]):
         run = subprocess.Popen(command, stdin=pipe, stdout=pipe, stderr=pipe, **options)
         assert run.stdin and run.stdout and run.stderr
         self.process, self.stdin, self.stdout, self.stderr = run, run.stdin, run.stdout, run.stderr
-        self.guard = threading.Timer(LONGEST, self.process.kill)
+        self.guard = threading.Timer(longest(), self.process.kill)
         self.guard.daemon = True
         self.guard.start()
 
@@ -196,7 +196,7 @@ class Service(contextlib.AbstractContextManager["Service"]):
 
     def end(self, given: str = "") -> Ended:
         """The service's end after this last input, with the output until then."""
-        written, faults = self.process.communicate(given.encode(), LONGEST)
+        written, faults = self.process.communicate(given.encode(), longest())
         return Ended(self.process.returncode, text_of(written), text_of(faults))
 
     def kill(self) -> None:

@@ -20,7 +20,7 @@ HERE = pathlib.Path(__file__).resolve().parent
 TOP = HERE.parent.parent
 sys.path.insert(0, str(TOP))
 from tests import helpers, hostile_fields  # noqa: E402
-from tests.helpers import LONGEST, program  # noqa: E402
+from tests.helpers import longest, program  # noqa: E402
 from tests.helpers import need, need_root, until  # noqa: E402, F401 (for the tests)
 from tests.needs import lacking  # noqa: E402
 
@@ -140,7 +140,7 @@ class Client(contextlib.AbstractContextManager["Client"]):
 
     def __init__(self, path: pathlib.Path) -> None:
         self.socket = socket.socket(socket.AF_UNIX)
-        self.socket.settimeout(LONGEST)
+        self.socket.settimeout(longest())
         self.rest, self.asked = b"", 0
         try:
             self.socket.connect(str(path))
@@ -308,11 +308,11 @@ class Service:
     def stop(self) -> None:
         """Ends the server in order."""
         self.process.terminate()
-        same(self.process.wait(timeout=LONGEST), 0, self.log())
+        same(self.process.wait(timeout=longest()), 0, self.log())
 
     def ended(self) -> tuple[int, str]:
         """The status with which it ends by itself, and its log."""
-        return self.process.wait(timeout=LONGEST), self.log()
+        return self.process.wait(timeout=longest()), self.log()
 
     def end(self) -> None:
         """Ends the server and its clients, whatever they do."""
@@ -320,7 +320,7 @@ class Service:
             client.close()
         self.process.terminate()
         try:
-            self.process.wait(timeout=LONGEST)
+            self.process.wait(timeout=longest())
         except subprocess.TimeoutExpired:
             self.process.kill()
             self.process.wait()

@@ -15,7 +15,7 @@ from typing import Any
 
 from machine import commands_on_page, shell
 from served import CHEAP, TOP, Case, need, need_root, real_book, same
-from tests.helpers import BUSY, at_a_terminal
+from tests.helpers import at_a_terminal, busy
 from tests.needs import lacking, need_file
 from walk import packages
 
@@ -142,7 +142,10 @@ def booted(room: pathlib.Path, command: str, *options: str) -> str:
     pipes: Any = {"stdout": subprocess.PIPE, "stderr": subprocess.STDOUT}
     try:
         done = subprocess.run(
-            [*words.split(), room, *options], stdin=subprocess.DEVNULL, timeout=400 * BUSY, **pipes
+            [*words.split(), room, *options],
+            stdin=subprocess.DEVNULL,
+            timeout=400 * busy(),
+            **pipes,
         )
     finally:  # what it leaves of control groups where no systemd runs
         for name in ("payload", "supervisor"):

@@ -181,7 +181,7 @@ class RunTests(Case):
         at_work = self.top / "at_work"
         helpers.until(at_work.exists, "it is at work")
         run.send_signal(number)
-        written, _ = run.communicate(timeout=helpers.LONGEST)
+        written, _ = run.communicate(timeout=helpers.longest())
         self.assertEqual(written, "tests: interrupted\n")
         self.assertEqual(run.returncode, 128 + number)
         for process in at_work.read_text().split():
