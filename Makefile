@@ -86,6 +86,7 @@ prove:
 proved:
 	$(PYTHON) tools/compile_proved.py $(RT) ci
 
+test: export RIGZUMAL_WHOLE = 1
 test:
 	.ci/run
 	$(PYTHON) tools/run_tests.py --long

@@ -11,7 +11,6 @@ import atexit
 import contextlib
 import functools
 import inspect
-import itertools
 import os
 import pathlib
 import pty
@@ -30,10 +29,8 @@ import termios
 import threading
 import time
 import unittest
-from collections import deque
 from collections.abc import Callable, Iterable, Iterator
-from concurrent.futures import ThreadPoolExecutor
-from typing import Any, NamedTuple, Optional, TypeVar
+from typing import Any, NamedTuple
 
 from tests.needs import ARCH, IS_NATIVE, need, need_native
 from tests.needs import need_module, need_root  # noqa: F401 (for the tests)
@@ -45,8 +42,6 @@ TRIPLET = "x86_64-linux-gnu" if IS_NATIVE else "aarch64-linux-gnu"
 # Programs of another processor run under qemu-user, over Debian's cross libraries.
 EMULATOR = ["qemu-aarch64", "-L", f"/usr/{TRIPLET}"]
 LIMIT = float(os.environ.get("TEST_LIMIT", "1800"))
-
-Found = TypeVar("Found")
 
 if sys.version_info < (3, 11):
 
@@ -281,21 +276,6 @@ def small_disk(folder: pathlib.Path, options: str, kind: str = "tmpfs") -> Itera
         subprocess.run(["umount", str(folder)], check=True)
 
 
-# Stops a command at its call with a number. Returns its end, or nothing if it made fewer calls.
-Stop = Callable[..., Optional[Ended]]
-
-
-def in_turn(attempt: Callable[[int], Found | None]) -> Iterator[Found]:
-    """Yields the results of attempts, several at once: the Nth attempt has its Nth call refused.
-    The first attempt without a result ends the series."""
-    at_once, numbers = os.cpu_count() or 1, itertools.count(1)
-    with ThreadPoolExecutor(at_once) as pool:
-        running = deque(pool.submit(attempt, next(numbers)) for _ in range(at_once))
-        while (found := running.popleft().result()) is not None:
-            running.append(pool.submit(attempt, next(numbers)))
-            yield found
-
-
 class Shown(NamedTuple):
     """A program's status; the text on its terminal, with a bar at each input; and whether the
     terminal echoed then and at the end."""
@@ -343,7 +323,7 @@ def at_a_terminal(
 # ---- the shims before the C library, tests/shims
 
 BUILDING = threading.Lock()
-TOLD = r"(REFUSED|SYNCS|THREADS|PEAK|ASKED) (\d+)\n"
+TOLD = r"(REFUSED|SYNCS|THREADS|PEAK|ASKED|REQUESTS) (\d+)\n"
 
 
 def shim_compiler() -> list[str]:
@@ -385,9 +365,14 @@ def shimmed(
     return done._replace(faults=re.sub(TOLD, "", done.faults)), found
 
 
-def counts(command: list[str], given: str = "") -> tuple[Ended, dict[str, int]]:
+def counts(command: list[str], given: str = "", **options: Any) -> tuple[Ended, dict[str, int]]:
     """Runs a command, and returns its end with the counts of SYNCS, THREADS and memory."""
-    return shimmed(command, given, 0)
+    return shimmed(command, given, 0, **options)
+
+
+def requests_of(command: list[str], given: str = "", **options: Any) -> range:
+    """Returns the numbers of a command's requests for memory, from 1."""
+    return range(1, counts(command, given, **options)[1]["REQUESTS"] + 1)
 
 
 def without_request(nth: int, command: list[str], given: str = "", **options: Any) -> Ended | None:

@@ -4,11 +4,13 @@
     python3 tools/run_tests.py [--quick | --slow | --long] [--note] [--first] [WORD..]
 
 The script first runs `make`, and then the jobs of tools/jobs.py that have one of the words in their
-names. Each test module is a separate process, and so are some tools. The script prints the output of failed jobs. Every half minute a line lists the running jobs. A test
-may skip itself only if tests/needs.py finds that the thing it names is missing, and if the table
-there has the program that it names. The last line is `tests: N passed, M failed, K skipped`, and
-the status is 1 if any test failed. A signal ends the run and everything that its jobs started; the
-last line is then `tests: interrupted`.
+names. Each test module is a separate process, and so are some tools. The script prints the output
+of failed jobs. Every half minute a line lists the running jobs. A test may skip itself only if
+tests/needs.py finds that the thing it names is missing, and if the table there has the program that
+it names. Tests of long series take samples (tests/samples.py): the first line, and one after a
+failure, has their seed. The last line is `tests: N passed, M failed, K skipped`, and the status is
+1 if any test failed. A signal ends the run and everything that its jobs started; the last line is
+then `tests: interrupted`.
 
 --quick runs only the modules that take less than half a minute by tools/job_seconds.json, and --slow
 only the others; --long runs the modules that every other run omits. --note stores the time of each
@@ -39,7 +41,7 @@ from jobs import QUICK, SECONDS, Job, jobs, seconds
 from tree import TOP, tell_each
 
 sys.path.insert(0, str(TOP))
-from tests import helpers, needs  # noqa: E402
+from tests import helpers, needs, samples  # noqa: E402
 
 EVERY = 30
 # A mark in the environment of each process that a job started. The run finds the process by this
@@ -222,6 +224,8 @@ class Progress:
         for reason, count in sorted(skips.items()):
             print(f"{reason}: {count}")
         failed = [f"{done.job.name}: {name}" for done in self.done for name in done.failed()]
+        if failed:
+            print(samples.told())
         for name in failed:
             print(f"FAILED: {name}")
         passed = words.count("passed")
@@ -263,6 +267,8 @@ def main() -> int:
     if helpers.IS_NATIVE and (fault := fault_of_build()):
         print(f"{fault}\nFAILED: {' '.join(BUILD)}\ntests: 0 passed, 1 failed, 0 skipped")
         return 1
+    samples.draw()
+    print(samples.told(), flush=True)
     progress = Progress(len(chosen), asked.first)
     progress.run_beside([it for it in chosen if not it.is_quiet])
     progress.run_beside([it for it in chosen if it.is_quiet])

@@ -83,6 +83,12 @@ SLOW = """
         os.rename("at_work.new", "at_work")
         sleeper.wait()
 """
+# A failed test that tells its sample.
+SAMPLED = """
+    def test_fails(self):
+        from tests.samples import sample
+        self.fail(f"chosen: {[*sample(range(1000, 1020))]}")
+"""
 # What stands in place of whole modules.
 TEXTS = {
     "tests/packages/test_install.py": "import no_such_module\n",
@@ -94,7 +100,7 @@ TEXTS = {
 # What is copied of the tree.
 COPIED = {
     "tools": ("run_tests.py", "jobs.py", "tree.py"),
-    "tests": ("told.py", "helpers.py", "needs.py"),
+    "tests": ("told.py", "helpers.py", "needs.py", "samples.py"),
 }
 FAILED = {
     "tests/credbook/test_false": {
@@ -193,6 +199,20 @@ class RunTests(Case):
         done = self.run_tests("--first", "test_false", "server/test_clients")
         self.assertEqual(done.written.splitlines()[-1], "tests: 0 passed, 1 failed, 0 skipped")
         self.assertFalse((self.top / "order").exists())
+
+    def test_samples(self) -> None:
+        """A run prints the seed of its samples, and after a failure again; the seed repeats
+        them."""
+        write_files(self.top, {"tests/credbook/test_sampled.py": HEAD + SAMPLED})
+        variables = {"RIGZUMAL_WHOLE": "", "RIGZUMAL_SEED": ""}
+        first = self.run_tests("test_sampled", **variables).written
+        seeds = re.findall(r"^samples: a seventh, by RIGZUMAL_SEED=(\d+)$", first, re.M)
+        self.assertEqual(seeds, seeds[:1] * 2)
+        again = self.run_tests("test_sampled", **{**variables, "RIGZUMAL_SEED": seeds[0]}).written
+        chosen = re.compile(r"chosen: .*")
+        self.assertEqual(chosen.findall(again), chosen.findall(first))
+        whole = self.run_tests("test_sampled", **{**variables, "RIGZUMAL_WHOLE": "1"}).written
+        self.assertIn(f"chosen: {[*range(1000, 1020)]}", whole)
 
     def test_what_passes(self) -> None:
         done = self.run_tests("c/tests", "tests/tools")
