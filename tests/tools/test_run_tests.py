@@ -95,7 +95,11 @@ TEXTS = {
     "docs/tests/test_pages.py": "import unittest\nraise unittest.SkipTest('needs a newer cargo')\n",
     "tests/credkeep/test_large.py": "raise SystemExit('a long one ran')\n",
     "Makefile": "all:\n\t@test ! -e broken || { echo this is broken; exit 1; }\n",
-    "tools/job_seconds.json": '{"c/tests/test_calls:1": 30, "c/tests/test_calls:2": 31, "tests/tools/test_well": 29}',
+    "tools/job_seconds.json": """{
+    "c/tests/test_calls:1": 30,
+    "c/tests/test_calls:2": 31,
+    "tests/tools/test_well": 29
+}""",
 }
 # What is copied of the tree.
 COPIED = {
