@@ -8,9 +8,10 @@ import unittest
 from harness import HERE, IS_NATIVE, ORIGINAL, OURS, OUT, ROOM
 from harness import lacking, need, need_host, need_module, need_original, python, run
 from harness import run_sanitized
+from tests.samples import sample
 
 # Fewer under qemu-user, which frees no memory of threads.
-TURNS = () if IS_NATIVE else ("10",)
+TURNS = range(200 if IS_NATIVE else 10)
 
 
 def need_php():
@@ -23,15 +24,17 @@ def need_php():
 
 class Libargon2(unittest.TestCase):
     def test_against_libargon2(self):
-        """The original's answers over random calls, good and bad."""
+        """The original's answers over random calls, good and bad: a sample of them."""
         need_original()
-        python(HERE / "against_libargon2.py", OUT / "libargon2.so.1", ORIGINAL, "1", *TURNS)
+        words = (OUT / "libargon2.so.1", ORIGINAL, 1, *sample(TURNS))
+        python(HERE / "against_libargon2.py", *words)
 
     def test_against_libargon2_sanitized(self):
         """The original's answers, with our C under the sanitizers and all lanes in threads, over
         other calls."""
         need_original()
-        run_sanitized("against_libargon2.py", ROOM / "sanitized.so", ORIGINAL, "2", *TURNS)
+        words = (ROOM / "sanitized.so", ORIGINAL, 2, *sample(TURNS))
+        run_sanitized("against_libargon2.py", *words)
 
     def test_passlib_argon2(self):
         """passlib's own tests for Argon2 run as with the original."""
