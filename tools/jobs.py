@@ -25,9 +25,6 @@ class Folder:
     options: tuple[str, ...] = ()
     # Long modules, with the number of processes that share their tests.
     parts: Mapping[str, int] = dataclasses.field(default_factory=dict)
-    # Modules that bound a time from above, and wait more than they compute: they run after all
-    # others.
-    quiet: Collection[str] = ()
     # Modules that write into the folders out/ of c/ and python/: no two of them run at once.
     packing: Collection[str] = ()
     # Modules that are too long for every run: `make test` runs them.
@@ -42,13 +39,12 @@ FOLDERS = (
     Folder(
         "tests/credkeep",
         is_package=True,
-        parts={"refused_memory": 4, "refused_calls": 4, "work": 2, "kills": 2, "import": 2},
+        parts={"refused_memory": 3, "refused_calls": 4, "work": 2, "kills": 2, "import": 2},
         long=["large"],
     ),
     Folder(
         "tests/server",
-        parts={"sites": 2, "logins": 2},
-        quiet=["starts_and_ends", "clients"],
+        parts={"sites": 2, "logins": 2, "starts_and_ends": 2},
         long=["booted", "torture", "many_kills"],
     ),
     Folder("tests/tools", is_package=True),
@@ -56,14 +52,14 @@ FOLDERS = (
     Folder(
         "c/tests",
         packing=["package"],
-        parts={"programs": 3, "secrets": 2, "calls": 2},
+        parts={"programs": 4, "secrets": 4, "calls": 2, "libargon2": 2},
         long=["older_builds"],
     ),
-    Folder("c/pam/tests", quiet=["answers"]),
+    Folder("c/pam/tests"),
     Folder("python/tests/hashers", options=WARNINGS),
     Folder("python/tests/package", options=WARNINGS, packing=["package"]),
     Folder("python/tests/accounts", parts={"engines": 4}),
-    Folder("python/tests/frameworks", parts={"on_their_own": 2}),
+    Folder("python/tests/frameworks", parts={"on_their_own": 3}),
     Folder("docs/tests", parts={"pages": 2}),
     Folder("rust/tests"),
 )
@@ -86,7 +82,6 @@ class Job:
     folder: str
     command: tuple[str, ...]
     at: Path
-    is_quiet: bool = False
     is_packing: bool = False
     is_long: bool = False
     # The part that the machine lacks, so that the run skips the job.
@@ -111,7 +106,6 @@ def modules_of(folder: Folder) -> Iterator[Job]:
                 folder=folder.path,
                 command=(*folder.options, str(TOLD), "{told}", str(file.relative_to(at)), *shared),
                 at=at,
-                is_quiet=word in folder.quiet,
                 is_packing=word in folder.packing,
                 is_long=word in folder.long,
             )

@@ -270,8 +270,7 @@ def main() -> int:
     samples.draw()
     print(samples.told(), flush=True)
     progress = Progress(len(chosen), asked.first)
-    progress.run_beside([it for it in chosen if not it.is_quiet])
-    progress.run_beside([it for it in chosen if it.is_quiet])
+    progress.run_beside(chosen)
     if asked.note:
         progress.note()
     progress.tell_folders()

@@ -53,10 +53,7 @@ MODULES = {
         time.sleep(1000)
 """,
     "tests/server/test_turns.py": """
-    def test_has_no_class_above(self): time.sleep(1); print("turned", file=open("../../order", "a"))
-""",
-    "tests/server/test_clients.py": """
-    def test_quiet(self): print("quiet", file=open("../../order", "a"))
+    def test_beside_its_module(self): self.assertEqual(os.getcwd(), os.path.dirname(__file__))
 """,
     "c/tests/test_calls.py": """
     def test_one(self): pass
@@ -156,7 +153,7 @@ class RunTests(Case):
         done = self.run_tests("tests/tools", "book", "server", "c/", "python", "docs", "packages")
         self.assertEqual(done.faults, "")
         lines = done.written.splitlines()
-        self.assertEqual(lines[-1], "tests: 8 passed, 11 failed, 3 skipped")
+        self.assertEqual(lines[-1], "tests: 7 passed, 11 failed, 3 skipped")
         found = re.findall(r"^FAILED: (\S+): (\S+)$", done.written, re.M)
         wanted = {(job, name) for job, names in FAILED.items() for name in names}
         self.assertEqual({*found}, wanted)
@@ -167,7 +164,6 @@ class RunTests(Case):
         lost = ", ".join(f"tests.credbook.test_never.{it}" for it in never)
         self.assertIn(f"nothing runs {lost}\n", done.written)
         self.assertEqual(done.status, 1)
-        self.assertEqual((self.top / "order").read_text(), "turned\nquiet\n")
 
     def test_what_hangs(self) -> None:
         """A hanging job is ended with all that it started, and its output is printed."""
@@ -192,7 +188,7 @@ class RunTests(Case):
         helpers.until(at_work.exists, "it is at work")
         run.send_signal(number)
         written, _ = run.communicate(timeout=helpers.longest())
-        self.assertEqual(written, "tests: interrupted\n")
+        self.assertEqual(written.splitlines()[1:], ["tests: interrupted"])
         self.assertEqual(run.returncode, 128 + number)
         for process in at_work.read_text().split():
             helpers.until(functools.partial(has_ended, process), "it has ended")
@@ -200,9 +196,11 @@ class RunTests(Case):
 
     def test_first_failure(self) -> None:
         """With --first nothing begins after a failure: no test of its module, and no other job."""
-        done = self.run_tests("--first", "test_false", "server/test_clients")
-        self.assertEqual(done.written.splitlines()[-1], "tests: 0 passed, 1 failed, 0 skipped")
-        self.assertFalse((self.top / "order").exists())
+        write_files(self.top, {"c/tests/test_package.py": "raise SystemExit('it began')\n"})
+        for words in (["test_false"], ["test_install", "c/tests/test_package"]):
+            done = self.run_tests("--first", *words)
+            self.assertEqual(done.written.splitlines()[-1], "tests: 0 passed, 1 failed, 0 skipped")
+            self.assertNotIn("it began", done.written)
 
     def test_samples(self) -> None:
         """A run prints the seed of its samples, and after a failure again; the seed repeats
@@ -377,6 +375,6 @@ class Jobs(unittest.TestCase):
 
     def test_named_modules_are_there(self) -> None:
         for folder in jobs.FOLDERS:
-            for word in (*folder.parts, *folder.quiet, *folder.packing, *folder.long):
+            for word in (*folder.parts, *folder.packing, *folder.long):
                 with self.subTest(folder.path, word=word):
                     self.assertTrue((TOP / folder.path / f"test_{word}.py").exists())
