@@ -64,11 +64,12 @@ FOLDERS = (
     Folder("rust/tests"),
 )
 
-# Programs of tools/ that are tests too, with their words and the program that they run.
+# Programs of tools/ that are tests too, with their words and, if only rt builds it, the program that
+# they run.
 PROGRAMS = {
     "refuse_memory": ((), "crates/book_tests/out/book_tests_tests"),
     "peak_memory": ((), "crates/hash_tests/out/hash_tests_tests"),
-    "readme": (("README.md",), "out/credkeep"),
+    "readme": (("README.md",), ""),
 }
 # A module of fewer seconds is in the quick run.
 QUICK = 30
@@ -114,8 +115,8 @@ def modules_of(folder: Folder) -> Iterator[Job]:
 def programs() -> Iterator[Job]:
     for name, (words, built) in PROGRAMS.items():
         command = (str(TOP / f"tools/{name}.py"), *words)
-        # only rt builds the tests of a crate
-        lacks = "" if has_rt() or (TOP / built).exists() else "the program rt"
+        is_there = not built or has_rt() or (TOP / built).exists()
+        lacks = "" if is_there else "the program rt"
         yield Job(f"tools/{name}", "tools", command, TOP, lacks=lacks)
 
 

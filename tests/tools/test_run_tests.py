@@ -237,6 +237,8 @@ class RunTests(Case):
         self.assertEqual(done.status, 0)
         done = self.run_tests("tools/peak", "tests/tools", PATH=path, RT="true")
         self.assertIn("FAILED: tools/peak_memory: tools/peak_memory\n", done.written)
+        done = self.run_tests("tools/readme", PATH=path)  # of what make links
+        self.assertIn("FAILED: tools/readme: tools/readme\n", done.written)
 
     def test_long_ones(self) -> None:
         done = self.run_tests("--long", "credkeep")
