@@ -1,21 +1,23 @@
 # Rigzumal as a whole. docs/BUILDING.md lists the needs of each part.
 #
-#     make build                    the programs, the library for C and Python, libargon2, and the PAM module
+#     make                          the programs, the library for C and Python, libargon2 and the PAM module, from
+#                                   c/proved, which rt compiled from the same sources: seconds, by a C compiler alone.
+#                                   If the sources have changed, `make proved` comes first
+#     make check                    the quick tests of every folder
+#     make prove                    by rt: every proof from nothing, the named wrong bodies, and c/proved compiled again
+#                                   and compared byte for byte
+#     make proved                   c/proved again, by rt, after a change of a proved crate
 #     make test                     the gate with the tests of every folder, and the long ones that the gate omits
 #     make wrong-bodies             the gate with every wrong body, as before a release
-#     make deb                      Debian's packages: in c/out, python/out and c/pam/out, with programs that run
-#                                   on every x86-64 processor
+#     make deb                      Debian's packages: in c/out, python/out and c/pam/out
 #     make wheel                    the package for Python with the library in it, in python/out
-#     make proved                   c/proved, by rt: the proved code compiled, for machines without rt
-#     make dist                     out/rigzumal-VERSION.tar.xz, by rt: the tree with the programs' compiled code, from which
-#                                   a C compiler and Python build and install everything
+#     make dist                     out/rigzumal-VERSION.tar.xz, of the committed files
 #     make html                     the pages as a site to search, in out/html, with the references of Python and C
 #     make bench                    the library beside libargon2, libsodium and OpenSSL
 #     make install PREFIX=/usr/local [DESTDIR=..]
 #     make uninstall PREFIX=/usr/local [DESTDIR=..]
 #
-# make compiles programs for the processor of this machine. `make build CPU=x86-64-v2` builds programs that run on
-# others too (pass CPU to install too), and `make programs library ARCH=arm64` builds those for ARM64.
+# `make programs library ARCH=arm64` builds the programs and the library for ARM64.
 
 PREFIX ?= /usr/local
 DESTDIR ?=
@@ -39,26 +41,52 @@ MODULES_OF_ASK := $(notdir $(wildcard $(SOURCES)/ask/*.py))
 MAN := $(PREFIX)/share/man
 PAGES := man1/credbook.1 man1/credkeep.1 man1/credkeep-ask.1 man5/rigzumal-script.5 man8/credkeep-server.8
 UNITS := $(notdir $(wildcard units/*))
-CPU ?=
+# The folder of the programs, and the processor for which it has them.
+ARCH ?= $(if $(filter aarch64,$(shell uname -m)),arm64,x86_64)
+OUT := $(if $(filter x86_64-arm64,$(shell uname -m)-$(ARCH)),out/arm64,out)
+BUILT := $(PROGRAMS:%=$(OUT)/%)
 HAS_PAM := $(wildcard /usr/include/security/pam_modules.h)
 PAM_WORDS = DESTDIR='$(DESTDIR)' PAMDIR='$(PAMDIR)' MANDIR='$(MAN)'
 
-.PHONY: build programs library test wrong-bodies deb wheel proved dist html bench install install-programs uninstall
+.PHONY: build programs library present proved prove check test wrong-bodies deb wheel dist html bench install install-programs uninstall
 .DELETE_ON_ERROR:
-# Two of these targets must not work on the same crates at the same time.
+# Two of these targets must not work on the same folders at the same time.
 .NOTPARALLEL:
 
-# The library first: its build takes minutes, and a user who needs only the library can stop afterwards.
-build: library programs
+# The library comes first: make builds it in seconds, even if a program can't be built.
+build: present library programs
 	$(if $(HAS_PAM),$(MAKE) -C c/pam,@echo 'pam_rigzumal.so is left out: libpam0g-dev is not there')
 
-# tools/build.py skips a program that is up to date.
-programs:
-	@for name in $(PROGRAMS); do RT='$(RT)' $(PYTHON) tools/build.py $(patsubst %,--cpu %,$(or $(filter arm64,$(ARCH)),$(CPU))) $$name || exit 1; done
+# rt compiles c/proved again if it is of other sources. Without rt, make stops.
+present:
+	@said=$$(for part in library programs; do tools/check_proved $$part $(ARCH) 2>&1 || exit 1; done) || \
+		if command -v '$(RT)' > /dev/null; then $(MAKE) proved; else echo "$$said" >&2; exit 1; fi
+
+programs: $(BUILT)
+
+# A program for every x86-64 processor has its lanes for three levels.
+LINK := -O2 -std=c11 -Wall -Wextra -Wpedantic -Werror -pie -pthread -Wl,-z,relro,-z,now -Wl,-z,noexecstack
+LINKED := c/programs/calls.c $(if $(filter x86_64,$(ARCH)),c/programs/lanes.c c/src/x86_64_level.c)
+LANES := $(if $(filter x86_64,$(ARCH)),$(wildcard c/proved/x86_64/lanes_*.o))
+COMPILER = $(if $(filter out/arm64,$(OUT)),aarch64-linux-gnu-gcc,$(CC))
+$(BUILT): $(OUT)/%: c/proved/$(ARCH)/%.o $(LANES) $(LINKED) c/src/x86_64_level.h | present
+	mkdir -p $(OUT)
+	$(COMPILER) $(LINK) $(filter %.o %.c,$^) -o $@
 
 library:
-	$(MAKE) -C c RT='$(RT)' PYTHON='$(PYTHON)'
+	$(MAKE) -C c
 
+check: build
+	$(PYTHON) tools/run_tests.py --quick
+
+prove:
+	$(PYTHON) tools/compile_proved.py --check $(PYTHON) tools/wrong_bodies.py -- $(RT) ci --anew
+	@echo 'Every crate is proved from nothing, the named wrong bodies are refused, and c/proved is what rt compiles.'
+
+proved:
+	$(PYTHON) tools/compile_proved.py $(RT) ci
+
+test: export RIGZUMAL_WHOLE = 1
 test:
 	.ci/run
 	$(PYTHON) tools/run_tests.py --long
@@ -66,21 +94,13 @@ test:
 wrong-bodies:
 	$(PYTHON) tools/wrong_bodies.py --all -- $(RT) ci
 
-deb: library
-	$(MAKE) programs CPU=x86-64 RT='$(RT)' PYTHON='$(PYTHON)'
+deb: library programs
 	for folder in c python c/pam; do $(MAKE) -C $$folder deb PYTHON='$(PYTHON)' || exit 1; done
 
 wheel: library
-	$(MAKE) -C python wheel RT='$(RT)' PYTHON='$(PYTHON)'
+	$(MAKE) -C python wheel PYTHON='$(PYTHON)'
 
-proved:
-	$(MAKE) -C c proved RT='$(RT)' PYTHON='$(PYTHON)'
-
-# For each level in the tarball, the highest last: its programs stay built.
-dist:
-	$(MAKE) -C c check-proved RT='$(RT)' PYTHON='$(PYTHON)'
-	for level in x86-64 x86-64-v3; do for name in $(PROGRAMS); do \
-		RT='$(RT)' $(PYTHON) tools/build.py --object --cpu $$level $$name || exit 1; done; done
+dist: present
 	$(PYTHON) tools/dist.py
 
 # The reference of Python comes from docstrings of the package, which needs the library.
@@ -97,7 +117,7 @@ bench: library
 install: build install-programs
 	$(MAKE) -C python install PREFIX='$(PREFIX)' DESTDIR='$(DESTDIR)' PYTHON='$(PYTHON)'
 	$(if $(HAS_PAM),$(MAKE) -C c/pam install $(PAM_WORDS))
-	$(MAKE) -C c install PREFIX='$(PREFIX)' DESTDIR='$(DESTDIR)' RT='$(RT)'
+	$(MAKE) -C c install PREFIX='$(PREFIX)' DESTDIR='$(DESTDIR)'
 
 # The target folders, for a shell: paths may have spaces.
 TO_PREFIX = '$(DESTDIR)$(PREFIX)'
@@ -114,7 +134,7 @@ install-programs:
 	packaging/folders make $(NOTED) programs $(TO_LIBEXEC) $(TO_PREFIX)/bin $(TO_PREFIX)/sbin $(TO_DAEMON) $(TO_DAEMON)/ask \
 		$(TO_MAN)/man1 $(TO_MAN)/man5 $(TO_MAN)/man8 $(TO_UNITS) $(TO_SHELLS)
 	for name in $(PROGRAMS); do \
-		install -m 755 crates/$$name/out/$$name $(TO_LIBEXEC) && \
+		install -m 755 $(OUT)/$$name $(TO_LIBEXEC) && \
 		sed "s|@PROGRAM@|$(LIBEXEC)/$$name|" bin/launcher.in > $(TO_PREFIX)/bin/$$name && \
 		chmod 755 $(TO_PREFIX)/bin/$$name || exit 1; \
 	done

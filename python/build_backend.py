@@ -15,7 +15,6 @@ import os
 import pathlib
 import platform
 import re
-import shutil
 import subprocess
 import sys
 import zipfile
@@ -91,10 +90,9 @@ Tag: {tag()}
 
 
 def is_built(top: pathlib.Path) -> bool:
-    """Whether c/out has the library, no source of it is newer, and rt is missing if make took the
-    code from c/proved. Otherwise make decides what to build."""
-    is_taken = (OUT / "taken").exists() and shutil.which(os.environ.get("RT", "rt"))
-    if not LIBRARY.exists() or is_taken:
+    """Whether c/out has the library, and no source of it is newer. Otherwise make decides what to
+    build."""
+    if not LIBRARY.exists():
         return False
     sources = [top / "crates.txt", top / "c/Makefile"]
     for part in PARTS:

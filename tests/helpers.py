@@ -11,7 +11,6 @@ import atexit
 import contextlib
 import functools
 import inspect
-import itertools
 import os
 import pathlib
 import pty
@@ -30,10 +29,8 @@ import termios
 import threading
 import time
 import unittest
-from collections import deque
 from collections.abc import Callable, Iterable, Iterator
-from concurrent.futures import ThreadPoolExecutor
-from typing import Any, NamedTuple, Optional, TypeVar
+from typing import Any, NamedTuple
 
 from tests.needs import ARCH, IS_NATIVE, need, need_native
 from tests.needs import need_module, need_root  # noqa: F401 (for the tests)
@@ -41,16 +38,10 @@ from tests.needs import need_module, need_root  # noqa: F401 (for the tests)
 TOP = pathlib.Path(__file__).resolve().parent.parent
 PYTHON, LIBRARIES = TOP / "python", TOP / "c/out"
 TIMES = int(os.environ.get("RIGZUMAL_TIMES", "1"))
-# The factor by which everything may take longer, while other work uses our processors.
-BUSY = max(1, int(os.getloadavg()[0] / len(os.sched_getaffinity(0))))
 TRIPLET = "x86_64-linux-gnu" if IS_NATIVE else "aarch64-linux-gnu"
 # Programs of another processor run under qemu-user, over Debian's cross libraries.
 EMULATOR = ["qemu-aarch64", "-L", f"/usr/{TRIPLET}"]
-# The tests kill a run that hasn't ended after this many seconds.
-LONGEST = 120 * BUSY
 LIMIT = float(os.environ.get("TEST_LIMIT", "1800"))
-
-Found = TypeVar("Found")
 
 if sys.version_info < (3, 11):
 
@@ -63,6 +54,17 @@ if sys.version_info < (3, 11):
     unittest.TestCase.enterContext = enter_context
 
 
+def busy() -> int:
+    """Returns the factor by which everything may take longer, while other work uses our
+    processors."""
+    return max(1, int(os.getloadavg()[0] / len(os.sched_getaffinity(0))))
+
+
+def longest() -> int:
+    """Returns the seconds after which the tests kill a run that hasn't ended."""
+    return 120 * busy()
+
+
 class Case(unittest.TestCase):
     """A test that fails after this many seconds, wherever it waits."""
 
@@ -73,7 +75,7 @@ class Case(unittest.TestCase):
             raise TimeoutError(f"over {self.seconds} s")
 
         signal.signal(signal.SIGALRM, too_long)
-        signal.alarm(self.seconds * BUSY)
+        signal.alarm(self.seconds * busy())
         self.addCleanup(signal.alarm, 0)
 
     def room(self) -> pathlib.Path:
@@ -141,7 +143,7 @@ def ended(command: list[str], given: str = "", **options: Any) -> Ended:
     options = {"stdout": subprocess.PIPE, "stderr": subprocess.PIPE, **options}
     if "stdin" not in options:
         options["input"] = given.encode()
-    done = subprocess.run(command, timeout=LONGEST, **options)
+    done = subprocess.run(command, timeout=longest(), **options)
     return Ended(done.returncode, *(text_of(it or b"") for it in (done.stdout, done.stderr)))
 
 
@@ -171,9 +173,9 @@ def run(
     return text
 
 
-def until(fact: Callable[[], bool], said: str, seconds: float = LONGEST) -> None:
+def until(fact: Callable[[], bool], said: str, seconds: float | None = None) -> None:
     """Waits until a condition holds, as long as a slow and busy machine may need."""
-    end, pause = time.monotonic() + seconds, 0.01
+    end, pause = time.monotonic() + (longest() if seconds is None else seconds), 0.01
     while not fact():
         assert time.monotonic() < end, f"never: {said}"
         time.sleep(pause)
@@ -188,11 +190,10 @@ def text_of(written: bytes) -> str:
 def program(name: str) -> str:
     """Returns the path of a program that each user may run: a copy of the file that the variable
     NAME names, or of the built program."""
-    out = TOP / "crates" / name / "out" / ("" if IS_NATIVE else ARCH)
+    out = TOP / "out" / ("" if IS_NATIVE else ARCH)
     source = pathlib.Path(os.environ.get(name.upper(), out / name))
     if not source.is_file():
-        need("rt")  # only rt builds the program
-        raise FileNotFoundError(f"{source}: build it by make programs, or by rt ci")
+        raise FileNotFoundError(f"{source}: build it by make programs")
     return str(runnable(pathlib.Path(shutil.copy(source, common_folder()))))
 
 
@@ -275,21 +276,6 @@ def small_disk(folder: pathlib.Path, options: str, kind: str = "tmpfs") -> Itera
         subprocess.run(["umount", str(folder)], check=True)
 
 
-# Stops a command at its call with a number. Returns its end, or nothing if it made fewer calls.
-Stop = Callable[..., Optional[Ended]]
-
-
-def in_turn(attempt: Callable[[int], Found | None]) -> Iterator[Found]:
-    """Yields the results of attempts, several at once: the Nth attempt has its Nth call refused.
-    The first attempt without a result ends the series."""
-    at_once, numbers = os.cpu_count() or 1, itertools.count(1)
-    with ThreadPoolExecutor(at_once) as pool:
-        running = deque(pool.submit(attempt, next(numbers)) for _ in range(at_once))
-        while (found := running.popleft().result()) is not None:
-            running.append(pool.submit(attempt, next(numbers)))
-            yield found
-
-
 class Shown(NamedTuple):
     """A program's status; the text on its terminal, with a bar at each input; and whether the
     terminal echoed then and at the end."""
@@ -337,7 +323,7 @@ def at_a_terminal(
 # ---- the shims before the C library, tests/shims
 
 BUILDING = threading.Lock()
-TOLD = r"(REFUSED|SYNCS|THREADS|PEAK|ASKED) (\d+)\n"
+TOLD = r"(REFUSED|SYNCS|THREADS|PEAK|ASKED|REQUESTS) (\d+)\n"
 
 
 def shim_compiler() -> list[str]:
@@ -379,9 +365,14 @@ def shimmed(
     return done._replace(faults=re.sub(TOLD, "", done.faults)), found
 
 
-def counts(command: list[str], given: str = "") -> tuple[Ended, dict[str, int]]:
+def counts(command: list[str], given: str = "", **options: Any) -> tuple[Ended, dict[str, int]]:
     """Runs a command, and returns its end with the counts of SYNCS, THREADS and memory."""
-    return shimmed(command, given, 0)
+    return shimmed(command, given, 0, **options)
+
+
+def requests_of(command: list[str], given: str = "", **options: Any) -> range:
+    """Returns the numbers of a command's requests for memory, from 1."""
+    return range(1, counts(command, given, **options)[1]["REQUESTS"] + 1)
 
 
 def without_request(nth: int, command: list[str], given: str = "", **options: Any) -> Ended | None:

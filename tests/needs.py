@@ -175,7 +175,6 @@ UNSEEN = {
     "a processor with that build",
     "a toolchain that makes that build",
     "bytes out of band at Unix sockets",
-    "programs of `make dist`",
     "set-user-ID programs in the temporary folder",
 }
 HUGE_PAGES = pathlib.Path("/sys/kernel/mm/transparent_hugepage/enabled")

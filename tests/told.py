@@ -126,6 +126,8 @@ def main() -> int | str:
         return f"{module}: nothing runs {', '.join(lost)}"
     if part:
         tests = tests[int(part[0]) - 1 :: int(part[1])]
+    if not tests:
+        return f"{module}: no test is in part {part[0]}"
     is_first = "--first" in sys.argv
     runner = unittest.TextTestRunner(resultclass=Told, verbosity=2, failfast=is_first)
     done = runner.run(unittest.TestSuite(tests))

@@ -19,7 +19,7 @@ TOP = pathlib.Path(__file__).resolve().parent.parent
 sys.path.insert(0, str(TOP / "python/rigzumal/server"))
 from daemon.ask.commands import COMMANDS  # noqa: E402
 
-PROGRAMS = {"credbook": "crates/credbook/out/credbook", "credkeep": "crates/credkeep/out/credkeep"}
+PROGRAMS = {"credbook": "out/credbook", "credkeep": "out/credkeep"}
 PROGRAMS |= {"credkeep-server": "bin/credkeep-server"}
 # An option in a help text: its name, the name of its value, and its text, perhaps on the next line.
 OPTION = re.compile(

@@ -3,10 +3,8 @@
 
     python3 tools/dist.py
 
-The tarball contains each committed file, the objects of programs that tools/build.py --object kept
-(see tools/programs.py), and a list of its compiled code with the licences. Without rt, a C
-compiler, make and Python can build and install the tarball. One commit and its objects always give
-the same bytes, wherever, whenever and by whomever they are packed.
+The tarball contains each committed file, and a list of its compiled code with the licences. One
+commit always gives the same bytes, wherever, whenever and by whomever they are packed.
 """
 
 import hashlib
@@ -16,7 +14,6 @@ import subprocess
 import sys
 import tarfile
 
-import programs
 from tree import TOP
 
 sys.path.insert(0, str(TOP / "packaging"))
@@ -42,22 +39,6 @@ def committed():
         return {it.name: (archive.extractfile(it).read(), bool(it.mode & 0o100)) for it in files}
 
 
-def objects():
-    """Returns the objects of the programs, and the sources of each object."""
-    for level in (*programs.LEVELS, programs.ARM64):
-        for program in programs.PROGRAMS:
-            if programs.is_kept(program, level):
-                folder = programs.kept(program) / level
-                for name in (f"{program}.o", f"{program}.sum"):
-                    packed = programs.PACKED.relative_to(TOP) / level / name
-                    yield str(packed), ((folder / name).read_bytes(), False)
-            elif level == programs.ARM64:
-                hint = "run make programs ARCH=arm64"
-                print(f"{program} for {level} isn't built, and is omitted: {hint}")
-            else:
-                sys.exit(f"{program} for {level} isn't built: run make dist")
-
-
 def tarball(files, seconds):
     """Packs a tarball of these files in the order of their names, without owners."""
     packed = io.BytesIO()
@@ -71,8 +52,8 @@ def tarball(files, seconds):
 
 
 def main():
-    files = {**committed(), **dict(objects())}
-    compiled = {name: data for name, (data, _) in files.items() if name.endswith((".a", ".o"))}
+    files = committed()
+    compiled = {name: data for name, (data, _) in files.items() if name.endswith(".o")}
     files[f"{NAME}.spdx.json"] = (components.spdx("rigzumal", compiled), False)
     OUT.mkdir(exist_ok=True)
     written = OUT / f"{NAME}.tar.xz"

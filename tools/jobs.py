@@ -8,7 +8,7 @@ import sys
 from collections.abc import Collection, Iterator, Mapping
 from pathlib import Path
 
-from tree import CRATES, TOP, has_rt
+from tree import TOP, has_rt
 
 SECONDS = TOP / "tools/job_seconds.json"
 TOLD = TOP / "tests/told.py"
@@ -21,15 +21,10 @@ class Folder:
     path: str
     # Whether its modules are in the package `tests`, instead of on the path of their own folder.
     is_package: bool = False
-    # Whether its modules need the library for C, and wait until it is built.
-    needs_library: bool = True
     # Options for Python, such as the one that makes a warning an error.
     options: tuple[str, ...] = ()
     # Long modules, with the number of processes that share their tests.
     parts: Mapping[str, int] = dataclasses.field(default_factory=dict)
-    # Modules that bound a time from above, and wait more than they compute: they run after all
-    # others.
-    quiet: Collection[str] = ()
     # Modules that write into the folders out/ of c/ and python/: no two of them run at once.
     packing: Collection[str] = ()
     # Modules that are too long for every run: `make test` runs them.
@@ -40,44 +35,44 @@ class Folder:
 WARNINGS = ("-W", "error", "-W", "ignore:memory_cost=")
 
 FOLDERS = (
-    Folder("tests/credbook", is_package=True, needs_library=False),
+    Folder("tests/credbook", is_package=True),
     Folder(
         "tests/credkeep",
         is_package=True,
-        needs_library=False,
-        parts={"refused_memory": 4, "refused_calls": 4, "work": 2, "kills": 2, "import": 2},
+        parts={"refused_memory": 3, "refused_calls": 4, "work": 2, "kills": 2, "import": 2},
         long=["large"],
     ),
     Folder(
         "tests/server",
-        parts={"sites": 2, "logins": 2},
-        quiet=["starts_and_ends", "clients"],
+        parts={"sites": 2, "logins": 2, "starts_and_ends": 2},
         long=["booted", "torture", "many_kills"],
     ),
-    Folder("tests/tools", is_package=True, needs_library=False),
+    Folder("tests/tools", is_package=True),
     Folder("tests/packages", is_package=True, packing=["install"], long=["empty_root"]),
     Folder(
         "c/tests",
         packing=["package"],
-        parts={"programs": 3, "secrets": 2, "calls": 2},
+        parts={"programs": 4, "secrets": 4, "calls": 2, "libargon2": 2},
         long=["older_builds"],
     ),
-    Folder("c/pam/tests", quiet=["answers"]),
+    Folder("c/pam/tests"),
     Folder("python/tests/hashers", options=WARNINGS),
     Folder("python/tests/package", options=WARNINGS, packing=["package"]),
     Folder("python/tests/accounts", parts={"engines": 4}),
-    Folder("python/tests/frameworks", parts={"on_their_own": 2}),
+    Folder("python/tests/frameworks", parts={"on_their_own": 3}),
     Folder("docs/tests", parts={"pages": 2}),
     Folder("rust/tests"),
 )
 
-# Programs of tools/ that are tests too, with their words and the crate whose program they run,
-# which only rt builds. README's sessions need the library.
+# Programs of tools/ that are tests too, with their words and, if only rt builds it, the program that
+# they run.
 PROGRAMS = {
-    "refuse_memory": ((), "book_tests/out/book_tests_tests"),
-    "peak_memory": ((), "hash_tests/out/hash_tests_tests"),
-    "readme": (("README.md",), "credkeep/out/credkeep"),
+    "refuse_memory": ((), "crates/book_tests/out/book_tests_tests"),
+    "peak_memory": ((), "crates/hash_tests/out/hash_tests_tests"),
+    "readme": (("README.md",), ""),
 }
+# A module of fewer seconds is in the quick run.
+QUICK = 30
 
 
 @dataclasses.dataclass(frozen=True)
@@ -88,8 +83,6 @@ class Job:
     folder: str
     command: tuple[str, ...]
     at: Path
-    needs_library: bool = True
-    is_quiet: bool = False
     is_packing: bool = False
     is_long: bool = False
     # The part that the machine lacks, so that the run skips the job.
@@ -114,8 +107,6 @@ def modules_of(folder: Folder) -> Iterator[Job]:
                 folder=folder.path,
                 command=(*folder.options, str(TOLD), "{told}", str(file.relative_to(at)), *shared),
                 at=at,
-                needs_library=folder.needs_library,
-                is_quiet=word in folder.quiet,
                 is_packing=word in folder.packing,
                 is_long=word in folder.long,
             )
@@ -124,9 +115,9 @@ def modules_of(folder: Folder) -> Iterator[Job]:
 def programs() -> Iterator[Job]:
     for name, (words, built) in PROGRAMS.items():
         command = (str(TOP / f"tools/{name}.py"), *words)
-        lacks = "" if has_rt() or (CRATES / built).exists() else "the program rt"
-        is_readme = name == "readme"
-        yield Job(f"tools/{name}", "tools", command, TOP, needs_library=is_readme, lacks=lacks)
+        is_there = not built or has_rt() or (TOP / built).exists()
+        lacks = "" if is_there else "the program rt"
+        yield Job(f"tools/{name}", "tools", command, TOP, lacks=lacks)
 
 
 def seconds() -> dict[str, float]:

@@ -72,9 +72,8 @@ VERSIONED = {
     "crates/cred_cli/src/arguments.rt": r'\.version\("(.*)"\)',
     "crates/credkeep_words/src/arguments.rt": r'\.version\("(.*)"\)',
 }
-# The rows of BUILDING's table of times that README repeats for its two commands: "7 and 34
-# minutes".
-TIMES = ("README's first command from nothing", "`.ci/run` from nothing")
+# The rows of BUILDING's table of times that README repeats: "34 to 79 minutes".
+TIMES = ("`.ci/run` from nothing",)
 
 # The faults of the tree; None means a right claim.
 Facts = Iterable["str | None"]
@@ -124,6 +123,15 @@ def house() -> Facts:
     for what, count in counts.items():
         wrong = f"{count} {what}: the limit is {MOST[what]}"
         yield wrong if count > MOST[what] else None
+
+
+def compiled() -> Facts:
+    """Yields the fault of each part of c/proved that is of other sources than these, or damaged."""
+    for part in ("library", "programs"):
+        for processor in ("x86_64", "arm64"):
+            words = [str(TOP / "tools/check_proved"), part, processor]
+            done = subprocess.run(words, capture_output=True, text=True)
+            yield (done.stdout + done.stderr).strip() if done.returncode else None
 
 
 def merges() -> Facts:
@@ -329,6 +337,7 @@ def walks() -> Facts:
 OF_TREE = (
     house,
     merges,
+    compiled,
     figures,
     times,
     variables,

@@ -30,7 +30,7 @@ from tree import TOP
 
 # The built files that the tests need.
 BUILT = ["c/out/*", "c/out/arm64/*", "c/pam/out/*.so", "crates/*/out/*_tests"]
-BUILT += [f"crates/{name}/out/{name}" for name in ("credbook", "credkeep")]
+BUILT += ["out/credbook", "out/credkeep"]
 
 
 class Plant(NamedTuple):
@@ -76,7 +76,7 @@ PLANTS = (
     ),
     Plant("c/programs/calls.c", "if (at >= word_count)", "if (at > word_count)", "test_programs"),
     Plant("c/cmake/rigzumal-config.cmake.in", "@TO_PREFIX@", "@TO_PREFIX", "c/tests/test_package"),
-    Plant("c/proved/proved.sum", "# cred_pool:", "# cred_pool: std", "packages/test_without_rt"),
+    Plant("c/proved/library.sum", "# cred_pool:", "# cred_pool: std", "packages/test_without_rt"),
     # The package for Python
     Plant(
         "python/rigzumal/accounts/_accounts.py",

@@ -5,9 +5,9 @@ each.
     python3 tools/readme.py [FILE..]          (README.md, docs/*.md and crates/*/README.md)
 
 A session is a block marked `sh`; the block marked `text` just below it is its output. All sessions
-of a page run in one bash and one folder, in order. Their path has the built programs of
-crates/*/out (`rt run` builds them) and this Python as `python3`, with the Python package. The
-folder contains only links to crates/, c/ and python/. The script lists, but doesn't run, a session
+of a page run in one bash and one folder, in order. Their path has the programs that `make` links,
+and this Python as `python3`, with the Python package. The folder contains only links to crates/,
+c/, out/ and python/. The script lists, but doesn't run, a session
 without a text below it or one that installs something. The script also lists and skips a session
 whose program is missing. The last line is `N passed, M failed`, and the status is 1 if anything
 failed or nothing passed.
@@ -78,7 +78,7 @@ def missing(script, path):
 
 def printed(scripts, path, folder):
     """Returns the output of each of these scripts, in one bash and one folder."""
-    for name in ("crates", "c", "python"):
+    for name in ("crates", "c", "out", "python"):
         (folder / name).symlink_to(TOP / name)
     whole = "".join(f"{script}\nprintf '%s\\n' '{MARK}'\n" for script in scripts)
     env = {**os.environ, "PATH": path, "PYTHONPATH": str(TOP / "python")}
@@ -95,8 +95,7 @@ def run(name):
         prefix="readme-"
     ) as folder:
         pathlib.Path(own, "python3").symlink_to(sys.executable)
-        built = [str(it) for it in TOP.glob("crates/*/out") if it.is_dir()]
-        path, taken = os.pathsep.join([own, *built, os.environ["PATH"]]), []
+        path, taken = os.pathsep.join([own, str(TOP / "out"), os.environ["PATH"]]), []
         for line, script, wanted in sessions_of((TOP / name).read_text()):
             lacks = "no text below it" if wanted is None else missing(script, path)
             if lacks:

@@ -6,11 +6,11 @@ on.
 
 The script runs the tests with the word in their names, `::refused` by default, in the program that
 `rt test` or `rt ci` built last (crates/CRATE/out/CRATE_tests). Without a crate, the script runs
-those of all test crates. Each test runs with its Nth memory request refused, for N from 1 to the
-first N that refuses nothing. A line for each test has the number of refused requests, and the
-numbers at which the test failed; the last line is `N passed, M failed`. `rt try --test --fail-alloc
-N` refuses memory for a single N, and builds each time. The script needs only the toolchain, whose
-compiler builds the shim that refuses memory.
+those of all test crates. Each test runs with its Nth memory request refused, for each N of a run
+that refuses none. A line for each test has the number of refused requests, and the numbers at which
+the test failed; the last line is `N passed, M failed`. `rt try --test --fail-alloc N` refuses
+memory for a single N, and builds each time. The script needs only the toolchain, whose compiler
+builds the shim that refuses memory.
 """
 
 import pathlib
@@ -20,7 +20,8 @@ import sys
 from tree import CRATES, TOP, report
 
 sys.path.insert(0, str(TOP))
-from tests.helpers import Ended, ended, in_turn, without_request  # noqa: E402
+from tests.helpers import Ended, ended, requests_of, without_request  # noqa: E402
+from tests.samples import attempts  # noqa: E402
 
 
 def sweep(test):
@@ -33,8 +34,9 @@ def sweep(test):
         except subprocess.TimeoutExpired:
             return Ended(-1)
 
-    ends = [*in_turn(attempt), ended(test)]
-    return len(ends) - 1, [nth for nth, done in enumerate(ends, 1) if done.status]
+    ends = dict(attempts(attempt, requests_of(test)))
+    failed = [nth for nth, done in ends.items() if done.status]
+    return len(ends), failed + [len(ends) + 1] * (ended(test).status != 0)
 
 
 def tests_of(crate, word):

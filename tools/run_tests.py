@@ -1,20 +1,21 @@
 #!/usr/bin/env python3
-"""Runs the tests over the results of `rt ci`, as many in parallel as the machine has processors.
+"""Runs the tests over what `make` links, as many in parallel as the machine has processors.
 
-    python3 tools/run_tests.py [--long] [--note] [--first] [WORD..]
+    python3 tools/run_tests.py [--quick | --slow | --long] [--note] [--first] [WORD..]
 
-The script runs the jobs of tools/jobs.py that have one of the words in their names. Each test
-module is a separate process, and so are some tools. Meanwhile `make` builds the PAM module, and the
-library from the proved code, or from c/proved if rt is missing. The jobs that need them wait.
-The script prints the output of failed jobs. Every half minute a line lists the running jobs. A test
-may skip itself only if tests/needs.py finds that the thing it names is missing, and if the table
-there has the program that it names. The last line is `tests: N passed, M failed, K skipped`, and
-the status is 1 if any test failed. A signal ends the run and everything that its jobs started; the
-last line is then `tests: interrupted`.
+The script first runs `make`, and then the jobs of tools/jobs.py that have one of the words in their
+names. Each test module is a separate process, and so are some tools. The script prints the output
+of failed jobs. Every half minute a line lists the running jobs. A test may skip itself only if
+tests/needs.py finds that the thing it names is missing, and if the table there has the program that
+it names. Tests of long series take samples (tests/samples.py): the first line, and one after a
+failure, has their seed. The last line is `tests: N passed, M failed, K skipped`, and the status is
+1 if any test failed. A signal ends the run and everything that its jobs started; the last line is
+then `tests: interrupted`.
 
---long runs the modules that every other run omits. --note stores the time of each job in
-tools/job_seconds.json, so that the longest jobs begin first. --first begins no job after a failed
-one, and no test of a module after a failed one.
+--quick runs only the modules that take less than half a minute by tools/job_seconds.json, and --slow
+only the others; --long runs the modules that every other run omits. --note stores the time of each
+job in that file, so that the longest jobs begin first. --first begins no job after a failed one, and
+no test of a module after a failed one.
 """
 
 from __future__ import annotations
@@ -36,14 +37,12 @@ import traceback
 from collections.abc import Sequence
 from typing import Any
 
-from jobs import SECONDS, Job, jobs, seconds
-from tree import TOP, has_rt, tell_each
+from jobs import QUICK, SECONDS, Job, jobs, seconds
+from tree import TOP, tell_each
 
 sys.path.insert(0, str(TOP))
-from tests import helpers, needs  # noqa: E402
+from tests import helpers, needs, samples  # noqa: E402
 
-# The run ends a job after this many seconds.
-LIMIT = int(os.environ.get("JOB_LIMIT", 10 * helpers.LONGEST))
 EVERY = 30
 # A mark in the environment of each process that a job started. The run finds the process by this
 # mark, whatever its parent.
@@ -52,11 +51,12 @@ MARK = "RIGZUMAL_JOB"
 RUN = f"run-{os.getpid()}"
 SIGNALS = (signal.SIGINT, signal.SIGTERM, signal.SIGHUP)
 INTERRUPTED = threading.Event()
-BUILDS = [["make", "-s", "-C", "c"]]
-if has_rt():  # it then compiles the proved code, and the job compares c/proved byte for byte
-    BUILDS.append(["make", "-s", "-C", "c", "check-proved"])
-if pathlib.Path("/usr/include/security/pam_modules.h").exists():
-    BUILDS.append(["make", "-s", "-C", "c/pam"])
+BUILD = ["make", "-s"]
+
+
+def limit() -> int:
+    """Returns the seconds after which the run ends a job that begins now."""
+    return int(os.environ.get("JOB_LIMIT", 10 * helpers.longest()))
 
 
 def end_all(mark: str) -> None:
@@ -121,10 +121,10 @@ class Done:
                 stderr=subprocess.STDOUT,
                 start_new_session=True,
             )
-        limit = threading.Timer(LIMIT, end_all, [mark])
-        limit.start()
+        timer = threading.Timer(limit(), end_all, [mark])
+        timer.start()
         _, status, used = os.wait4(process.pid, 0)
-        limit.cancel()
+        timer.cancel()
         end_all(mark)
         self.seconds = time.monotonic() - began
         self.processor = used.ru_utime + used.ru_stime
@@ -157,17 +157,15 @@ class Done:
 
 
 def fault_of_build() -> str:
-    """Builds the library, and returns the output of a failed build, or nothing."""
-    for command in BUILDS if helpers.IS_NATIVE else []:
-        pipes: dict[str, Any] = {"stdout": subprocess.PIPE, "stderr": subprocess.STDOUT}
-        pipes |= {"stdin": subprocess.DEVNULL, "errors": "replace"}
-        try:
-            done = subprocess.run(command, cwd=TOP, **pipes)
-        except OSError as fault:  # make is missing
-            return f"{' '.join(command)}: {fault}"
-        if done.returncode:
-            return f"{done.stdout}\n{' '.join(command)}: status {done.returncode}"
-    return ""
+    """Builds the programs and the libraries, and returns the output of a failed build, or
+    nothing."""
+    pipes: dict[str, Any] = {"stdout": subprocess.PIPE, "stderr": subprocess.STDOUT}
+    pipes |= {"stdin": subprocess.DEVNULL, "errors": "replace"}
+    try:
+        done = subprocess.run(BUILD, cwd=TOP, **pipes)
+    except OSError as fault:  # make is missing
+        return f"{' '.join(BUILD)}: {fault}"
+    return f"{done.stdout}\n{' '.join(BUILD)}: status {done.returncode}" if done.returncode else ""
 
 
 class Progress:
@@ -178,39 +176,24 @@ class Progress:
         self.count, self.done = count, list[Done]()
         self.is_first = is_first  # whether the run ends at the first failure
         self.running: dict[str, float] = {}
-        # The output of a failed build, once it has ended.
-        self.library = concurrent.futures.Future[str]()
         tell_each(EVERY, self.tell)
 
     def tell(self) -> None:
         longest = ", ".join(sorted({**self.running}, key=self.running.__getitem__)[:4])
         print(f"tests: {len(self.done)} of {self.count} jobs; at work: {longest}", flush=True)
 
-    def build(self) -> None:
-        """Builds the library."""
-        self.running["make -C c"] = time.monotonic()
-        try:
-            self.library.set_result(fault_of_build())
-        except Exception:  # jobs wait for a result
-            self.library.set_result(traceback.format_exc())
-        del self.running["make -C c"]
-
     def run_beside(self, chosen: list[Job]) -> None:
         """Runs jobs in parallel, except that those which write into the same folders run one after
-        another. If a job needs the library, the script first builds the library, in parallel with
-        jobs that don't need it."""
+        another."""
         packing = [it for it in chosen if it.is_packing]
         queues = [packing, *([it] for it in chosen if not it.is_packing)]
-        queues.sort(key=lambda queue: any(it.needs_library for it in queue))
         with concurrent.futures.ThreadPoolExecutor(len(os.sched_getaffinity(0))) as pool:
-            if any(it.needs_library for it in chosen) and not self.library.done():
-                pool.submit(self.build)
             list(pool.map(self.run, queues))
 
     def run(self, queue: list[Job]) -> None:
-        """Runs jobs one after another, unless the library that they need couldn't be built."""
+        """Runs jobs one after another."""
         for job in queue:
-            if INTERRUPTED.is_set() or job.needs_library and self.library.result():
+            if INTERRUPTED.is_set():
                 return
             if self.is_first and any(it.failed() for it in self.done):
                 return
@@ -241,9 +224,8 @@ class Progress:
         for reason, count in sorted(skips.items()):
             print(f"{reason}: {count}")
         failed = [f"{done.job.name}: {name}" for done in self.done for name in done.failed()]
-        if self.library.done() and (fault := self.library.result()):
-            print(fault)
-            failed.append("the library")
+        if failed:
+            print(samples.told())
         for name in failed:
             print(f"FAILED: {name}")
         passed = words.count("passed")
@@ -251,22 +233,49 @@ class Progress:
         return 1 if failed or not passed else 0
 
 
+def chosen_jobs(asked: argparse.Namespace) -> tuple[list[Job], list[Job]]:
+    """Returns the jobs of a run, and those that it leaves out because they are long."""
+    every, known = jobs(asked.words, asked.long), seconds()
+    slow = [it for it in every if known.get(it.name, 0) >= QUICK]
+    quick = [it for it in every if it not in slow]
+    return (quick, slow) if asked.quick else (slow if asked.slow else every, [])
+
+
+def tell_left_out(left_out: list[Job]) -> None:
+    """Prints what a longer run adds to a quick one."""
+    took = sum(seconds().get(it.name, QUICK) for it in left_out)
+    minutes = took / len(os.sched_getaffinity(0)) / 60
+    print(
+        f"tests: {len(left_out)} longer modules are left out: tools/run_tests.py --slow runs them "
+        f"in about {minutes:.0f} minutes, and --long runs those of kills and empty machines"
+    )
+
+
 def main() -> int:
     reader = argparse.ArgumentParser(usage=(__doc__ or "").split("\n\n")[1].strip())
-    reader.add_argument("--long", action="store_true")
+    length = reader.add_mutually_exclusive_group()
+    length.add_argument("--quick", action="store_true")
+    length.add_argument("--slow", action="store_true")
+    length.add_argument("--long", action="store_true")
     reader.add_argument("--note", action="store_true")
     reader.add_argument("--first", action="store_true")
     reader.add_argument("words", nargs="*")
     asked = reader.parse_args()
     for number in SIGNALS:
         signal.signal(number, interrupt)
-    chosen = jobs(asked.words, asked.long)
+    chosen, left_out = chosen_jobs(asked)
+    if helpers.IS_NATIVE and (fault := fault_of_build()):
+        print(f"{fault}\nFAILED: {' '.join(BUILD)}\ntests: 0 passed, 1 failed, 0 skipped")
+        return 1
+    samples.draw()
+    print(samples.told(), flush=True)
     progress = Progress(len(chosen), asked.first)
-    progress.run_beside([it for it in chosen if not it.is_quiet])
-    progress.run_beside([it for it in chosen if it.is_quiet])
+    progress.run_beside(chosen)
     if asked.note:
         progress.note()
     progress.tell_folders()
+    if left_out:
+        tell_left_out(left_out)
     return progress.end()
 
 

@@ -22,8 +22,7 @@ CRATES = TOP / "crates"
 RT = os.environ.get("RT", "rt")
 NO_RT = """\
 {rt} isn't there: only the Rattle toolchain, which isn't published, can {what}.
-Without it `make -C c` builds the library for C, Python, Rust and PHP, by a C compiler alone.
-Then `/usr/bin/python3 tools/run_tests.py` runs the tests that need no rt."""
+Without it `make` links everything from c/proved, and `make check` tests the results."""
 
 
 def has_rt() -> bool:

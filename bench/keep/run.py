@@ -4,7 +4,7 @@
 
     bench/keep/run.py [--turns N] [--accounts N [N ..]] [--program PROGRAM]
 
-PROGRAM is the built credkeep, by default crates/credkeep/out/credkeep; htpasswd is that of Debian's
+PROGRAM is the built credkeep, by default out/credkeep; htpasswd is that of Debian's
 apache2-utils. Names come in random order. The hashes are the cheapest of each program (Argon2id
 with 8 KiB and one pass, bcrypt with cost 4), so that the times are those of the storage. Each
 figure is the best of the turns. credkeep syncs twice at each change, Python's sqlite3 once here
@@ -210,9 +210,7 @@ def main() -> None:
     )
     parser.add_argument("--turns", type=int, default=3)
     parser.add_argument("--accounts", type=int, nargs="+", default=[1000, 10000, 100000])
-    parser.add_argument(
-        "--program", type=pathlib.Path, default=TOP / "crates/credkeep/out/credkeep"
-    )
+    parser.add_argument("--program", type=pathlib.Path, default=TOP / "out/credkeep")
     words = parser.parse_args()
     if not words.program.is_file():
         sys.exit(f"{words.program} is not there: `make programs` builds it, by the toolchain's rt")

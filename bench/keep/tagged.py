@@ -75,7 +75,7 @@ def main() -> None:
     parser = argparse.ArgumentParser(description="Times changes at credkeep serve --tagged.")
     parser.add_argument("--seconds", type=float, default=10)
     parser.add_argument("--sync", type=float, default=4, metavar="MS")
-    credkeep = TOP / "crates/credkeep/out/credkeep"
+    credkeep = TOP / "out/credkeep"
     parser.add_argument("program", nargs="?", type=pathlib.Path, default=credkeep)
     words = parser.parse_args()
     changes_together(words.program, words.seconds, words.sync)

@@ -58,7 +58,7 @@ class Tree:
 
     def __init__(self, top: pathlib.Path, folder: pathlib.Path, setting: str) -> None:
         self.top, self.folder, self.setting = top, folder, setting
-        self.program = top / "crates/credkeep/out/credkeep"
+        self.program = top / "out/credkeep"
         if not self.program.is_file():
             sys.exit(
                 f"{self.program} is not there: `make programs` builds it, by the toolchain's rt"

@@ -1,8 +1,8 @@
 """Compares out/libargon2.so.1 with Debian's over random calls, good and bad.
 
-    /usr/bin/python3 tests/against_libargon2.py OURS THEIRS SEED [TURNS]
+    /usr/bin/python3 tests/against_libargon2.py OURS THEIRS SEED TURN..
 
-Each of the 22 calls runs on both. Their answers must be the same, and all bytes that they could
+Each of the 22 calls runs on both, in turns of these numbers. Their answers must be the same, and all bytes that they could
 write, and their requests to a context's callbacks. src/libargon2.c lists the calls that only ours
 refuses: these return the listed answer, and write nothing.
 """
@@ -329,7 +329,6 @@ def compare_words_and_nulls(comparison):
 
 def main():
     ours, theirs = map(library, sys.argv[1:3])
-    draw = random.Random(int(sys.argv[3]))
     comparison = Comparison(ours, theirs)
     compare_words_and_nulls(comparison)
     compare_memory_beyond_ours(ours)
@@ -340,8 +339,9 @@ def main():
     compare_large_numbers(comparison)
     compare_long_password(ours, theirs)
     compare_long_sizes(comparison)
-    for _ in range(int(sys.argv[4]) if len(sys.argv) > 4 else 200):
-        compare(draw, comparison)
+    seed, *turns = sys.argv[3:]
+    for turn in turns:
+        compare(random.Random(f"{seed} {turn}"), comparison)
     numbers = sorted(it for it in comparison.answers if isinstance(it, int) and it <= 0)
     refused = ", ".join(f"{count} by {it}" for it, count in sorted(comparison.refused.items()))
     print(

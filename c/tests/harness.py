@@ -36,11 +36,12 @@ AVX512 = {"avx512f", "avx512dq", "avx512cd", "avx512bw", "avx512vl"}
 BUILDS = ("v1", "v2", "v3", "v4") if IS_NATIVE else ("generic",)
 C_FILES = sorted(str(it.relative_to(TOP)) for it in (TOP / "src").glob("*.c"))
 LIBARGON2 = [it for it in C_FILES if it.startswith("src/libargon2")]
-OTHERS = {"src/build.c", "src/x86_64.c", "src/arm64.c"} - {f"src/{ARCH}.c"}
+OF_PROCESSOR = [f"src/{ARCH}.c", *["src/x86_64_level.c"] * IS_NATIVE]
+OTHERS = {"src/build.c", "src/x86_64.c", "src/x86_64_level.c", "src/arm64.c"} - {*OF_PROCESSOR}
 SOURCES = [it for it in C_FILES if it not in {*LIBARGON2, *OTHERS}]
 SOURCES += [str(OUT / f"{build}.o") for build in BUILDS]
 # Tests that need none of the builds.
-WITHOUT_BUILDS = ["src/secrets.c", f"src/{ARCH}.c", "tests/no_builds.c"]
+WITHOUT_BUILDS = ["src/secrets.c", *OF_PROCESSOR, "tests/no_builds.c"]
 VALGRIND = [
     "valgrind",
     "-q",

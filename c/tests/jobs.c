@@ -280,6 +280,13 @@ const struct job jobs[] = {
 
 const int job_count = COUNT(jobs);
 
+const struct job *job_of(const char *name) {
+    for (int i = 0; i < job_count; i++)
+        if (strcmp(jobs[i].name, name) == 0)
+            return &jobs[i];
+    return NULL;
+}
+
 int answer_of(const struct job *job, struct vault *vault) {
     vault->job = job;
     int answer = job->call(vault);

@@ -42,6 +42,9 @@ extern uint32_t job_kind, job_version;
 /* A test's function that sees an answer before the job does, or null. */
 extern void (*look_at)(void *answer, size_t size);
 
+/* Returns the job of this name, or null. */
+const struct job *job_of(const char *name);
+
 /* Fills the vault: the secrets by a rule, and the rest by the calls. */
 void fill_vault(struct vault *vault);
 

@@ -4,6 +4,7 @@ import re
 
 from harness import IN_THREADS, LIBARGON2
 from harness import built, need, need_file, need_host, run, sources_for
+from tests.samples import sample
 
 # The functions that may branch on secrets or read at addresses that depend on them, in each call of
 # tests/jobs.c for tags of a kind: Argon2id's second half and scrypt's table depend on them by
@@ -78,17 +79,18 @@ def errors_in(program, name, kind="i", *looks):
 
 
 def check_leaks(build):
-    """Tests that in a build no branch and no address depends on a secret, except by design."""
+    """Tests that in a build no branch and no address depends on a secret, except by design: in a
+    sample of the calls."""
     need("valgrind")
     need_host()
     need_file("/usr/include/valgrind/memcheck.h")
     program = built("secrets", [*JOBS, IN_THREADS], sources_for(build))
-    for (name, kind), allowed in SECRET_CALLS.items():
+    for (name, kind), allowed in sample([*SECRET_CALLS.items()]):
         errors = errors_in(program, name, kind)
         wrong = [it for it in errors if not it[2].startswith(tuple(allowed))]
         if wrong:
             raise AssertionError(f"{name}: {wrong}")
-    for name, (looks, place, *lookers) in JUDGEMENTS.items():
+    for name, (looks, place, *lookers) in sample([*JUDGEMENTS.items()]):
         errors = errors_in(program, name, "i", looks)
         jumps = {it for it in errors if it[2] not in lookers}
         if len(jumps) > 1 or not all(re.fullmatch(place, it[2]) for it in jumps):

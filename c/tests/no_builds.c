@@ -1,4 +1,4 @@
-/* Builds that no test calls, instead of the proved ones; with -DLEFT_OUT the newest is empty. */
+/* Builds that no test calls, instead of the proved ones. */
 #include "builds.h"
 
 #include <stdlib.h>
@@ -10,12 +10,8 @@ static uint8_t check(bytes record, size_t record_size, bytes password, size_t pa
     abort();
 }
 
-#ifdef LEFT_OUT
-const struct build build_v4;
-#else
-const struct build build_v4 = {.cred_check = check};
-#endif
 const struct build build_generic = {.cred_check = check};
 const struct build build_v1 = {.cred_check = check};
 const struct build build_v2 = {.cred_check = check};
 const struct build build_v3 = {.cred_check = check};
+const struct build build_v4 = {.cred_check = check};

@@ -1,7 +1,7 @@
-/* Refuses each request for memory in turn, in each call of tests/jobs.c: the call answers MEMORY,
- * and writes no output. Once no request is refused, the answer is right. The linker puts the
- * functions below before those of the C library. The compiler's sanitizer and valgrind find leaks.
- */
+/* Refuses each request for memory in turn, in each call of tests/jobs.c, or in those that are
+ * named: the call answers MEMORY, and writes no output. Once no request is refused, the answer is
+ * right. The linker puts the functions below before those of the C library. The compiler's
+ * sanitizer and valgrind find leaks. */
 #define _GNU_SOURCE
 #include "check.h"
 #include "jobs.h"
@@ -76,10 +76,18 @@ static long try_refusals(const struct job *job) {
     return most;
 }
 
-int main(void) {
+/* The arguments: the names of jobs, or none for all jobs. */
+int main(int count, char **words) {
     enum { LEAST = 150 };
     granted = LONG_MAX;
     fill_vault(&given);
+    for (int i = 1; i < count; i++) {
+        const struct job *job = job_of(words[i]);
+        CHECK(job != NULL);
+        try_refusals(job);
+    }
+    if (count > 1)
+        return 0;
     long requests = 0;
     for (int i = 0; i < job_count; i++)
         requests += try_refusals(&jobs[i]);

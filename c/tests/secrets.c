@@ -26,10 +26,10 @@ static int leaking_check(struct vault *it) {
     return is_same ? RIGZUMAL_OK : RIGZUMAL_MISMATCH;
 }
 
-static struct job job_of(const char *name) {
-    for (int i = 0; i < job_count; i++)
-        if (strcmp(jobs[i].name, name) == 0)
-            return jobs[i];
+static struct job watched_job(const char *name) {
+    const struct job *found = job_of(name);
+    if (found != NULL)
+        return *found;
     CHECK(strcmp(name, "leaking_check") == 0);
     memcpy(vault.made, vault.password, sizeof vault.password);
     return (struct job){name, leaking_check, RIGZUMAL_OK, NO_TROUBLE, 0};
@@ -94,7 +94,7 @@ int main(int count, char **words) {
     if (strcmp(words[2], "old") == 0)
         job_version = RIGZUMAL_VERSION_10;
     fill_vault(&vault);
-    struct job job = job_of(words[1]);
+    struct job job = watched_job(words[1]);
     if (count > 3) {
         try_judgement(&job, (unsigned)atoi(words[3]));
         return 0;

@@ -7,7 +7,7 @@ from harness import TOP, each, need, run
 
 COMPILER = "aarch64-linux-gnu-gcc"
 FLAGS = "-std=c11 -O2 -pthread -Wall -Wextra -Wpedantic -Werror -Iinclude -Isrc -fsyntax-only"
-OTHERS = {"x86_64.c"}  # of the other processor
+OTHERS = {"x86_64.c", "x86_64_level.c"}  # of the other processor
 
 
 class Sources(unittest.TestCase):

@@ -4,7 +4,7 @@ import re
 import unittest
 
 from harness import ALL_WARNINGS, BUILDS, JOBS, LIBARGON2, ORIGINAL, OUT, ROOM, SANITIZED, SOURCES
-from harness import TOP, WITHOUT_BUILDS, built, need, need_host, run, sources_for, toolchain
+from harness import TOP, WITHOUT_BUILDS, built, need, need_host, run, sources_for
 
 
 # The build that each processor must run, by qemu's names.
@@ -27,6 +27,24 @@ INSTRUCTIONS = {"v1": "%xmm", "v2": "pshufb", "v3": "%ymm", "v4": r"mm(1[6-9]|2\
 # Bits of leaf 7 and of XCR0: qemu has no such processor.
 LEVEL_4 = {"avx512f": 16, "avx512dq": 17, "avx512cd": 28, "avx512bw": 30, "avx512vl": 31}
 STATES = {"sse": 1, "avx": 2, "k0 to k7": 5, "zmm0 to zmm15": 6, "zmm16 to zmm31": 7}
+
+
+# The functions in which a hash spends its time.
+HASHES = {
+    "cred_argon::block::compress",
+    "cred_argon::segment::work_block",
+    "cred_scrypt::romix::advance",
+}
+
+
+def functions(path):
+    """The code of each function of an object, which has a section of its own."""
+    sections = re.findall(
+        r"\.text\.(?:unlikely\.)?(\S+) +PROGBITS +[0-9a-f]+ ([0-9a-f]+) ([0-9a-f]+)",
+        run("readelf", "-SW", path),
+    )
+    data = path.read_bytes()
+    return {name: data[int(at, 16) :][: int(size, 16)] for name, at, size in sections}
 
 
 def processor(*flags, kept=None):
@@ -65,8 +83,8 @@ class Calls(unittest.TestCase):
             self.assertEqual(chosen, "v2", f"a system that keeps the registers {kept}")
 
     def test_processors_with_avx512(self):
-        """The library chooses the newest build if the processor has every feature of its level, the
-        system saves its registers, and the toolchain could build it."""
+        """The library chooses the newest build if the processor has every feature of its level and
+        the system saves its registers."""
         need_host()
         every, lacking = 0xE7, "-Itests/x86_64/lacking"
         program = processor(lacking, kept=every)
@@ -76,19 +94,28 @@ class Calls(unittest.TestCase):
         for name, bit in STATES.items():
             said = run(processor(lacking, kept=every & ~(1 << bit)))
             self.assertEqual(said, "v2\n" if bit < 5 else "v3\n", name)
-        self.assertEqual(run(processor(lacking, "-DLEFT_OUT", kept=every)), "v3\n")
 
     def test_instructions_of_builds(self):
-        """Each build has instructions of its level, where no older one has any. The newest is left
-        out only if the toolchain has no clang for it."""
+        """Each build has instructions of its level, where no older one has any."""
         need_host()
         code = {build: run("objdump", "-d", OUT / f"{build}.o") for build in BUILDS}
-        if not (toolchain() / "toolchain/bin/clang").exists() and "xmm" not in code["v4"]:
-            code.pop("v4")
         for at, build in enumerate(code):
             with self.subTest(build):
                 has = [re.search(INSTRUCTIONS[build], code[it]) is not None for it in code]
                 self.assertEqual(has, [it >= at for it in range(len(code))])
+
+    def test_lanes_of_programs(self):
+        """The programs hash by the library's code: the functions in which a hash spends its time
+        have the bytes of the library's build for the same level, and so has each other function
+        that both have."""
+        need_host()
+        for level in ("v1", "v3", "v4"):
+            with self.subTest(level):
+                lanes = functions(TOP / f"proved/x86_64/lanes_{level}.o")
+                library = functions(TOP / f"proved/x86_64/{level}.o")
+                shared = lanes.keys() & library.keys()
+                self.assertEqual(HASHES - {name.partition("::<")[0] for name in shared}, set())
+                self.assertEqual([name for name in shared if lanes[name] != library[name]], [])
 
     def test_calls_on_processors(self):
         """Each call on a processor of each level, which knows no instructions of the next one."""

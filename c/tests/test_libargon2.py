@@ -8,9 +8,12 @@ import unittest
 from harness import HERE, IS_NATIVE, ORIGINAL, OURS, OUT, ROOM
 from harness import lacking, need, need_host, need_module, need_original, python, run
 from harness import run_sanitized
+from tests.samples import sample
+from tests.told import tests_in
 
 # Fewer under qemu-user, which frees no memory of threads.
-TURNS = () if IS_NATIVE else ("10",)
+TURNS = range(200 if IS_NATIVE else 10)
+OF_PASSLIB = "passlib.tests.test_handlers_argon2"
 
 
 def need_php():
@@ -23,23 +26,27 @@ def need_php():
 
 class Libargon2(unittest.TestCase):
     def test_against_libargon2(self):
-        """The original's answers over random calls, good and bad."""
+        """The original's answers over random calls, good and bad: a sample of them."""
         need_original()
-        python(HERE / "against_libargon2.py", OUT / "libargon2.so.1", ORIGINAL, "1", *TURNS)
+        words = (OUT / "libargon2.so.1", ORIGINAL, 1, *sample(TURNS))
+        python(HERE / "against_libargon2.py", *words)
 
     def test_against_libargon2_sanitized(self):
         """The original's answers, with our C under the sanitizers and all lanes in threads, over
         other calls."""
         need_original()
-        run_sanitized("against_libargon2.py", ROOM / "sanitized.so", ORIGINAL, "2", *TURNS)
+        words = (ROOM / "sanitized.so", ORIGINAL, 2, *sample(TURNS))
+        run_sanitized("against_libargon2.py", *words)
 
     def test_passlib_argon2(self):
-        """passlib's own tests for Argon2 run as with the original."""
+        """A sample of passlib's own tests for Argon2 runs as with the original."""
         need_host()
         need_original()
-        need_module("argon2", "passlib.tests.test_handlers_argon2")
-        words = (sys.executable, "-W", "ignore", "-m", "unittest")
-        said = [run(*words, "passlib.tests.test_handlers_argon2", env=env) for env in (OURS, {})]
+        need_module("argon2", OF_PASSLIB)
+        tests = tests_in(unittest.defaultTestLoader.loadTestsFromName(OF_PASSLIB))
+        names = sample([it.id() for it in tests])
+        words = (sys.executable, "-W", "ignore", "-m", "unittest", *names)
+        said = [run(*words, env=env) for env in (OURS, {})]
         ran = [re.findall(r"Ran (\d+) tests?|\(skipped=(\d+)\)", it) for it in said]
         self.assertEqual(*ran)
 

@@ -110,24 +110,16 @@ class Package(unittest.TestCase):
             run(room / "out" / f"threads-{kind}")
 
     def test_rebuilt(self):
-        """make rebuilds each file whose source has other bytes, and nothing else, whatever the
-        times of the files: a copy proves nothing again."""
+        """make rebuilds each file whose source or whose flags have changed, and nothing else."""
         need_host()
         room = ROOM / "copied"
-        shutil.copytree(TOP, room / "c", ignore=shutil.ignore_patterns("*.o", "deb"))
+        shutil.copytree(TOP, room / "c", ignore=shutil.ignore_patterns("out"))
         for name in ("crates", "crates.txt", "tools", "VERSION"):
             (room / name).symlink_to(TOP.parent / name)
         out = room / "c" / OUT.relative_to(TOP)
-        (out / "taken").unlink(missing_ok=True)  # where rt is missing
-        names = ["compile_proved.sum", "proved.sum", "libraries", "v1.a", "v2.a", "v3.a", "v4.a"]
-        for at, name in enumerate(names):
-            if (out / name).exists():
-                os.utime(out / name, (at, at))  # older than all sources
-        # one that proves nothing, if one was there
-        rt = "false" if (out / "libraries").exists() else "no-such-rt"
 
         def made(*words):
-            return run("make", f"RT={rt}", *words, at=room / "c")
+            return run("make", *words, at=room / "c")
 
         made()
         self.assertNotIn(COMPILER, made())
@@ -137,21 +129,21 @@ class Package(unittest.TestCase):
         made("CFLAGS=-O2 -DUNUSED", "LDFLAGS=-Wl,--build-id=0x1234567890abcdef")
         for name in ("librigzumal.so.1", "libargon2.so.1"):
             self.assertIn("1234567890abcdef", run("readelf", "-n", out / name))
-        (out / "v4.a").write_bytes(b"")  # the toolchain allows none
-        made()
         with (room / "c/Makefile").open("a") as makefile:
             makefile.write("# changed\n")
         self.assertIn(COMPILER, made())
+
+    def test_sources(self):
+        """The list of the library's sources has each file that rt reads of the crate of the exports
+        and of those below it, and their lines of crates.txt."""
         below = ["cred_c", *all_below("cred_c")]
         wanted = set()
         for name in below:
             files = [it for it in files_below(CRATES / name) if not it.startswith("out/")]
             wanted |= {f"crates/{name}/{it}" for it in files if it.endswith((".rt", ".antt"))}
-        text = (out / "proved.sum").read_text()
+        text = (TOP / "proved/library.sum").read_text()
         self.assertEqual({*re.findall(r"^[0-9a-f]{64}  (.*)", text, re.M)}, wanted)
         self.assertEqual({*re.findall(r"^# (\w+)[ :]", text, re.M)}, {*below})
-        (out / "proved.sum").write_text("of other sources")
-        run("make", "RT=false", at=room / "c", status=2)
 
     def test_uninstalled(self):
         """`make uninstall` removes the files of `make install` and their folders, and no others."""

@@ -1,6 +1,8 @@
 """The tests in C: the head of each says its purpose. This file builds and runs them."""
 
+import itertools
 import os
+import re
 import shutil
 import unittest
 
@@ -8,6 +10,7 @@ from harness import COMPILER, HERE, IS_NATIVE, JOBS, LIBARGON2, OUT, RACES, ROOM
 from harness import SANITIZED, SOURCES, VALGRIND, WARNINGS, WITHOUT_BUILDS, built, each, need
 from harness import lacking, need_file, need_glibc, need_host, need_native, need_root, python, run
 from harness import run_sanitized, toolchain
+from tests.samples import sample
 
 
 FAST = ["-O2"]
@@ -89,6 +92,11 @@ def of_program(name, flags, linked, *words):
     return test
 
 
+def job_names():
+    """The names of the calls in tests/jobs.c."""
+    return re.findall(r'(?m)^    \{"(.+?)", \w', (HERE / "jobs.c").read_text())
+
+
 class Programs(unittest.TestCase):
     """Each row of PROGRAMS is a test too, below: `-k heap` runs that of heap.c."""
 
@@ -109,10 +117,21 @@ class Programs(unittest.TestCase):
                 python("-m", "unittest", "program_calls", env=env, at=HERE)
 
     def test_under_valgrind(self):
+        """A sample of: all calls with whole areas, and the refusals in each call."""
         need("valgrind")
         need_host()
+        watched = sample([("calls",), *(("refused", it) for it in job_names())])
         for name in ("calls", "refused"):
-            run(*VALGRIND, built(name, [*FAST, *JOBS], ALL))
+            if words := [it[1:] for it in watched if it[0] == name]:
+                run(*VALGRIND, built(name, [*FAST, *JOBS], ALL), *itertools.chain(*words))
+
+    def test_names_of_jobs(self):
+        """refused.c takes the names of jobs.c, and no other."""
+        program, names = built("refused", [*FAST, *JOBS], ALL), job_names()
+        tried = re.compile(r"(?m)^(.*): \d+ requests$")
+        self.assertEqual(tried.findall(run(program)), names)
+        self.assertEqual(tried.findall(run(program, *names[7:9])), names[7:9])
+        self.assertIn("not so: job", run(program, names[7], "no such job", status=1))
 
     def test_calls(self):
         """Texts, records, steps, salts, threads and hashes, good and bad, under the sanitizers."""

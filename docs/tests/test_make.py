@@ -83,7 +83,8 @@ class Commands(unittest.TestCase):
         found = [" ".join(words) for page in PAGES for words in commands(page)]
         for command in (
             "",
-            "build",
+            "check",
+            "prove",
             "install",
             "-C c",
             "-C ../c",

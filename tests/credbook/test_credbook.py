@@ -1,6 +1,7 @@
 """The end of each run of credbook, and its output on each stream: no contract says what a process
 returns to its shell."""
 
+import functools
 import os
 import pathlib
 import re
@@ -11,8 +12,9 @@ from typing import Any
 
 from tests import helpers
 from tests.credkeep.books import RECORD, SETTING, altered, lined
-from tests.helpers import TOP, Ended, counts, each, ended, in_turn, instructions, manual, options_in
+from tests.helpers import TOP, Ended, counts, each, ended, instructions, manual, options_in
 from tests.helpers import program
+from tests.samples import attempts, is_whole, sample
 
 # The second vector of RFC 7914, section 12, to 32 bytes.
 SCRYPT = "$scrypt$ln=10,r=8,p=16$TmFDbA"
@@ -176,8 +178,8 @@ class RunsTest(unittest.TestCase):
                 self.assertEqual(written.read(), front.encode())
 
     def test_refused_memory(self) -> None:
-        """Each request for memory refused in turn: status 3 with a front of the answers, or the
-        whole run if it can do without."""
+        """Each request for memory refused in turn, or a sample of them: status 3 with a front of
+        the answers, or the whole run if it can do without."""
         for words, given, status, written in (
             (["run", "--workers", "2"], SCRIPT, 0, ANSWERS),
             (["hash", SETTING, PASSWORD], "", 0, f"{RECORD}\n"),
@@ -186,9 +188,11 @@ class RunsTest(unittest.TestCase):
             (["walk"], "", 1, ""),
         ):
             command = [program("credbook"), *words]
-            ends = [*in_turn(lambda nth: helpers.without_request(nth, command, given))]
-            self.assertIn(3, {done.status for done in ends})
-            for nth, done in enumerate(ends, 1):
+            requests = sample(helpers.requests_of(command, given))
+            refuse = functools.partial(helpers.without_request, command=command, given=given)
+            ends = dict(attempts(refuse, requests))
+            self.assertTrue(3 in {it.status for it in ends.values()} or not is_whole())
+            for nth, done in ends.items():
                 with self.subTest(words=words, request=nth):
                     if done[:2] != (status, written):
                         refused = (3, "credbook: memory\n")

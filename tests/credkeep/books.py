@@ -12,10 +12,11 @@ import tempfile
 import threading
 import time
 import unittest
-from collections.abc import Callable, Iterable
+from collections.abc import Callable, Iterable, Iterator, Sequence
 from typing import Any, NamedTuple
 
-from tests.helpers import LONGEST, Ended, Found, Stop, ended, in_turn, program, text_of
+from tests.helpers import Ended, ended, longest, program, text_of
+from tests.samples import Found, attempts, is_whole, sample
 
 # Costs that a test can afford, and a salt.
 CHEAP = "$argon2id$v=19$m=8,t=1,p=1"
@@ -37,6 +38,8 @@ SCRYPT = (
 EMPTY_LOG = 41
 
 Accounts = dict[str, str]
+# Stops a command at one of its calls. Returns its end, or nothing if it made no such call.
+Stop = Callable[..., Ended | None]
 
 
 class Change(NamedTuple):
@@ -157,7 +160,7 @@ class Service(contextlib.AbstractContextManager["Service"]):
         run = subprocess.Popen(command, stdin=pipe, stdout=pipe, stderr=pipe, **options)
         assert run.stdin and run.stdout and run.stderr
         self.process, self.stdin, self.stdout, self.stderr = run, run.stdin, run.stdout, run.stderr
-        self.guard = threading.Timer(LONGEST, self.process.kill)
+        self.guard = threading.Timer(longest(), self.process.kill)
         self.guard.daemon = True
         self.guard.start()
 
@@ -196,7 +199,7 @@ class Service(contextlib.AbstractContextManager["Service"]):
 
     def end(self, given: str = "") -> Ended:
         """The service's end after this last input, with the output until then."""
-        written, faults = self.process.communicate(given.encode(), LONGEST)
+        written, faults = self.process.communicate(given.encode(), longest())
         return Ended(self.process.returncode, text_of(written), text_of(faults))
 
     def kill(self) -> None:
@@ -285,26 +288,33 @@ class BookTest(unittest.TestCase):
             self.seen[key] = look(Book(folder / "users.db"))
         return self.seen[key]
 
+    @contextlib.contextmanager
+    def copied(self) -> Iterator[Book]:
+        """The book in a copy of the folder `base`."""
+        with tempfile.TemporaryDirectory(dir=self.room) as room:
+            folder = pathlib.Path(shutil.copytree(self.room / "base", f"{room}/base"))
+            yield Book(folder / "users.db")
+
     def stopped(
         self,
         stop: Stop,
+        calls: Sequence[Any],
         change: Change,
         look: Callable[[Book], Found],
         judge: Callable[[Ended, Found], None],
     ) -> list[Ended]:
-        """The ends of the runs of a command, stopped at its first call, its second and so on, each
-        in a copy of the folder `base`. The judge sees the findings of a look afterwards."""
+        """The ends of the runs of a command, each stopped at one of a sample of these calls, and in
+        a copy of the folder `base`. The judge sees the findings of a look afterwards."""
 
-        def attempt(nth: int) -> tuple[Ended, Found] | None:
-            with tempfile.TemporaryDirectory(dir=self.room) as room:
-                folder = pathlib.Path(shutil.copytree(self.room / "base", f"{room}/base"))
-                command = Book(folder / "users.db").command(*change.words)
-                done = stop(nth, command, change.given, cwd=folder)
+        def attempt(call: Any) -> tuple[Ended, Found] | None:
+            with self.copied() as book:
+                folder = book.path.parent
+                done = stop(call, book.command(*change.words), change.given, cwd=folder)
                 return done and (done, self.once(folder, look))
 
         ends = []
-        for nth, (done, found) in enumerate(in_turn(attempt), 1):
-            with self.subTest(nth=nth, done=done):
+        for call, (done, found) in attempts(attempt, sample(calls)):
+            with self.subTest(call=call, done=done):
                 judge(done, found)
             ends.append(done)
         return ends
@@ -326,6 +336,11 @@ class BookTest(unittest.TestCase):
         """The book has all answered new names, and at most the next one."""
         may = (set(names[:answered]), set(names[: answered + 1]))
         self.assertTrue({*found} in may, f"{answered} were answered, and not those are there")
+
+    def assertSeen(self, wanted: Iterable[Any], found: Iterable[Any]) -> None:
+        """A whole run has found each of these; a sample may lack some."""
+        if is_whole():
+            self.assertLessEqual({*wanted}, {*found})
 
     def assertFails(self, done: Ended, status: int, *texts: str) -> None:
         """The run wrote nothing, and its messages have each of these texts."""

@@ -1,11 +1,12 @@
-"""A shim refuses each request for memory of a run in turn: the run ends with its own status, and
+"""A shim refuses each request for memory of a run in turn, or a sample of them: the run ends with its own status, and
 the book keeps answered changes."""
 
 import re
 from collections.abc import Callable
 
 from tests.credkeep.books import DONE, RECORD, SERVE, Book, BookTest, Change, lined
-from tests.helpers import Ended, without_request
+from tests.helpers import Ended, requests_of, without_request
+from tests.samples import is_whole
 
 NAMES = ["a", "b"]
 # A status, and whether all was done.
@@ -22,9 +23,11 @@ class RefusedMemoryTest(BookTest):
         self, words: list[str], given: str, judge: Callable[[Ended, list[str]], None]
     ) -> list[Ended]:
         """The ends of the command. The judge sees the names that are there afterwards."""
-        found = self.stopped(without_request, Change({}, words, {}, given), Book.names, judge)
-        self.assertGreater(len(found), 20)
-        return found
+        with self.copied() as book:
+            requests = requests_of(book.command(*words), given, cwd=book.path.parent)
+        self.assertGreater(len(requests), 20)
+        change = Change({}, words, {}, given)
+        return self.stopped(without_request, requests, change, Book.names, judge)
 
     def test_new_accounts(self) -> None:
         """Of the accounts that a service adds to a larger book, the book keeps the answered ones,
@@ -43,8 +46,8 @@ class RefusedMemoryTest(BookTest):
             self.assertIn(added, (kept, {*kept, *NAMES[len(answers) :][:1]}))
 
         found = self.refuse_each([*SERVE, "--at-once", "1"], lines, judge)
-        self.assertLessEqual({3, 5}, {it.status for it in found})
-        self.assertIn("t bad 4 memory\nt ok\n", [it.written for it in found])
+        self.assertSeen({3, 5}, {it.status for it in found})
+        self.assertSeen(["t bad 4 memory\nt ok\n"], [it.written for it in found])
 
     def test_imports(self) -> None:
         """All of an import is stored, or none."""
@@ -55,7 +58,7 @@ class RefusedMemoryTest(BookTest):
             self.assertIn((done.status, len(names) == 4), STATUSES)
 
         found = self.refuse_each(["import"], f"a:{RECORD}\nb:\nc:{RECORD}\n", judge)
-        self.assertLessEqual({3, 5}, {it.status for it in found})
+        self.assertSeen({3, 5}, {it.status for it in found})
 
     def test_services(self) -> None:
         """A line is answered once, or the service ends; a thread that was refused its memory may be
@@ -74,5 +77,5 @@ class RefusedMemoryTest(BookTest):
 
         words = [*SERVE, "--at-once", "2"]
         statuses = {it.status for it in self.refuse_each(words, given, judge)}
-        self.assertIn(0, statuses)
-        self.assertGreater(len(statuses), 1)
+        self.assertSeen({0}, statuses)
+        self.assertTrue(len(statuses) > 1 or not is_whole())

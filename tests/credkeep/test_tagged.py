@@ -9,7 +9,7 @@ from typing import Any
 
 from tests.credkeep.books import DONE, RECORD, SALT, SERVE, Book, BookTest, commits_in, lined
 from tests.credkeep.doors import in_base64
-from tests.helpers import LONGEST, each, limited, need_native, small_files
+from tests.helpers import each, limited, longest, need_native, small_files
 
 ONE = in_base64("one")
 
@@ -34,7 +34,7 @@ class LinesTest(BookTest):
         self.assertEqual([*zip((line for line, _ in TAGS), found)], TAGS)
         given = b"\x00\xff\n" * 3 + b"x" * 5_000_000 + b"\nt show ann\n"
         with self.book.tagged() as service:
-            written, faults = service.process.communicate(given, timeout=LONGEST)
+            written, faults = service.process.communicate(given, timeout=longest())
         answers = b"* bad 11 line\n" * 3 + b"* bad 16 long\nt bad 5 noaccount\n"
         self.assertEqual((service.process.returncode, written, faults), (0, answers, b""))
 

@@ -1,6 +1,5 @@
 """Packages have the same bytes, at each place and time and for each user, and the tarball of `make
-dist` builds without rt. The tests need gcc and git, and for the packages dpkg-dev. If no build kept
-the programs' objects, the tests use stand-ins."""
+dist` builds without rt. The tests need gcc and git, and for the packages dpkg-dev."""
 
 import hashlib
 import json
@@ -10,38 +9,16 @@ import sys
 import tarfile
 
 from tests import helpers
-from tests.helpers import TOP, need, run, write_files
+from tests.helpers import TOP, need, run
 from tests.packages.test_without_rt import PATH, copy
 
 sys.path.insert(0, str(TOP / "tools"))
 sys.path.insert(0, str(TOP / "packaging"))
 import components  # noqa: E402
-import programs  # noqa: E402
 import tree  # noqa: E402
 
 VERSION = (TOP / "VERSION").read_text().strip()
 NAME = f"rigzumal-{VERSION}"
-# A program that calls what proved ones call of C, and shows a help from which completions are made.
-STAND_IN = """#include <stdint.h>
-#include <stdio.h>
-#include <string.h>
-#include <sys/types.h>
-ssize_t rattle_arg(size_t at, uint8_t *buffer, size_t room);
-int main(void) {
-    char word[100] = "";
-    ssize_t size = rattle_arg(1, (uint8_t *)word, sizeof word);
-    if (size < 0 || strcmp(word, "fail") == 0)
-        return 1;
-    puts("Usage: program FILE [OPTIONS] [COMMAND]\\n\\nCommands:\\n  init  begins\\n");
-    puts("Options:\\n  --wait  waits");
-    return 0;
-}
-"""
-KEEP = """import pathlib, sys
-sys.path.insert(0, "tools")
-import programs
-programs.keep(*sys.argv[1:3], pathlib.Path(sys.argv[3]))
-"""
 GIT = ("-c", "user.name=x", "-c", "user.email=x@example.org", "-c", "safe.directory=*")
 # When the tree is committed.
 SECONDS = 1767323045
@@ -84,30 +61,18 @@ class Packing(helpers.Case):
         for packer in self.packers:
             packer.room.mkdir()
 
-    def object(self, program, level):
-        """The program's object that a build kept, or a stand-in."""
-        if programs.is_kept(program, level):
-            return programs.kept(program) / level / f"{program}.o"
-        room = self.room()
-        write_files(room, {"program.c": STAND_IN})
-        run("gcc", "-O2", "-fPIC", "-c", "program.c", at=room)
-        return room / "program.o"
-
     def clone(self, packer):
-        """A repository of the tree with the objects of the programs."""
+        """A repository of the tree."""
         top = copy(packer.room / "clone")
         date = {"GIT_AUTHOR_DATE": f"{SECONDS} +0000", "GIT_COMMITTER_DATE": f"{SECONDS} +0000"}
         for words in (("init", "-q"), ("add", "-A"), ("commit", "-q", "-m", "x")):
             run("git", *GIT, *words, at=top, env=date)
-        for program in programs.PROGRAMS:
-            for level in programs.LEVELS:
-                run(sys.executable, "-c", KEEP, program, level, self.object(program, level), at=top)
         return top
 
     def packed(self, packer):
         """The tarball that a packer builds."""
         top = self.clone(packer)
-        packer.run(top, "/usr/bin/python3 tools/dist.py")
+        packer.run(top, "make -s dist")
         packer.run(top / "out", f"sha256sum -c --status {NAME}.tar.xz.sha256")
         return top / "out" / f"{NAME}.tar.xz"
 
@@ -140,8 +105,8 @@ class Dist(Packing):
         with tarfile.open(self.packed(self.packers[0])) as archive:
             files = {it.name: archive.extractfile(it).read() for it in archive.getmembers()}
         listed = json.loads(files[f"{NAME}/{NAME}.spdx.json"])
-        compiled = {it: data for it, data in files.items() if it.endswith((".a", ".o"))}
-        self.assertEqual(len(compiled), 9)
+        compiled = {it: data for it, data in files.items() if it.endswith(".o")}
+        self.assertEqual(len(compiled), len([*(TOP / "c/proved").rglob("*.o")]))
         sums = {
             it["fileName"].replace("./", f"{NAME}/"): it["checksums"][1]["checksumValue"]
             for it in listed["files"]
@@ -156,11 +121,9 @@ class Dist(Packing):
 
     def test_crates_are_listed(self):
         """Each crate of which compiled code has a symbol is among those of its part."""
-        proved = [it for it in (TOP / "c/proved").rglob("*.a") if it.stat().st_size]
-        objects = {("librigzumal", it) for it in proved}
-        for program in programs.PROGRAMS:
-            objects |= {(program, it) for it in programs.kept(program).rglob("*.o")}
-        for part, path in sorted(objects):
+        for path in sorted((TOP / "c/proved").rglob("*.o")):
+            part = path.stem.replace("lanes_v", "credkeep_v").partition("_")[0]
+            part = part if part.startswith("cred") else "librigzumal"
             with self.subTest(path=str(path.relative_to(TOP))):
                 symbols = run("nm", "--no-demangle", path)
                 found = {it for it in re.findall(r" (\w+)::", symbols)} - {*tree.listed()}
@@ -169,13 +132,14 @@ class Dist(Packing):
                 self.assertEqual(found - known, set())
 
     def test_what_is_refused(self):
-        """Changes that no commit has, and objects of other sources than the commit's."""
+        """Changes that no commit has, and compiled code of other sources than the commit's."""
         packer = self.packers[0]
         top = self.clone(packer)
-        (top / "crates/cred_book/src/lib.rt").write_text("// changed\n")
-        said = packer.run(top, "/usr/bin/python3 tools/dist.py", status=1)
-        self.assertEqual(said, "make dist packs committed files: commit your changes first\n")
+        (top / "VERSION").write_text("0.0.1\n")
+        said = packer.run(top, "make -s dist", status=2)
+        self.assertIn("make dist packs committed files: commit your changes first\n", said)
+        (top / "crates/credkeep/src/main.rt").write_text("// changed\n")
         run("git", *GIT, "commit", "-q", "-a", "-m", "x", at=top)
-        said = packer.run(top, "/usr/bin/python3 tools/dist.py", status=1)
-        self.assertEqual(said, "credbook for x86-64 isn't built: run make dist\n")
-        self.assertFalse((top / "out").exists())
+        said = packer.run(top, "make -s dist", status=2)
+        self.assertIn("(crates/credkeep/src/main.rt differs)", said)
+        self.assertEqual([*(top / "out").glob("*.tar.xz")], [])

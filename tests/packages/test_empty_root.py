@@ -3,8 +3,7 @@ programs, a server and PAM. For an ordinary user without any optional package, n
 fails.
 
 The tests need root, and debootstrap with the mirror in apt's sources. Instead of the mirror,
-EMPTY_ROOT may name a folder with such a Debian, which the tests copy. The first test also needs the
-objects that `make dist` kept. The tests print their times.
+EMPTY_ROOT may name a folder with such a Debian, which the tests copy. The tests print their times.
 """
 
 import functools
@@ -15,8 +14,7 @@ import time
 from tests import helpers
 from tests.debian import APART, unpack
 from tests.helpers import common_folder, need, need_root, run, write_files
-from tests.needs import lacking
-from tests.packages.test_dist import NAME, Packing, programs
+from tests.packages.test_dist import NAME, Packing
 from tests.packages.test_install import sample
 from tests.packages.test_without_rt import copy
 
@@ -71,16 +69,13 @@ Password: pamtester: successfully authenticated
 Password: pamtester: Authentication failure
 status 1
 """
-# What is typed there of the tree. Without rt, `make` may refuse to build our programs.
+# What is typed there of the tree.
 TYPED_BY_USER = f"""dpkg --purge {" ".join(OPTIONAL)} > log
 mv /rigzumal .
 chown -R builder:builder rigzumal
 exec runuser -l builder -c '
 cd rigzumal
-made=$(make 2>&1) || case $made in
-    *": only the Rattle toolchain,"*) ;;
-    *) echo "$made"; exit 1 ;;
-esac
+make > log 2>&1 || {{ tail -n 30 log; exit 1; }}
 /usr/bin/python3 tools/run_tests.py
 '
 """
@@ -111,9 +106,6 @@ class Tarball(Packing):
         """README's user file, word for word; the library from Python, a script, a server that PAM
         asks; and nothing of it is left."""
         need("ip")
-        for program in programs.PROGRAMS:
-            if not all(programs.is_kept(program, level) for level in programs.LEVELS):
-                raise lacking("programs of `make dist`")
         root = self.room() / "root"
         run("cp", "-a", base(), root)
         for file in self.packed(self.packers[0]).parent.glob(f"{NAME}.tar.xz*"):

@@ -1,5 +1,5 @@
 """The files of `make install` and `make deb`, which work in their places. The tests need root, and
-the output of `make build`."""
+the output of `make`."""
 
 import pathlib
 import re
@@ -9,9 +9,6 @@ import sys
 from tests import helpers
 from tests.helpers import TOP, files_below, need, need_root, run
 from tests.needs import need_file
-
-sys.path.insert(0, str(TOP / "tools"))
-import build  # noqa: E402
 
 PROGRAMS = ("credbook", "credkeep")
 VERSION = (TOP / "VERSION").read_text().strip()
@@ -35,12 +32,10 @@ for it in usr etc var lib; do
 done
 """
 INSTALLED = r"""
-# A copy of the tree, whose programs are sealed for a level.
+# A copy of the tree.
 PATH=/usr/local/bin:$PATH
 mkdir "$ROOM/top" "$ROOM/top.work" "$ROOM/at"
 mount -t overlay overlay -o "lowerdir=$TOP,upperdir=$ROOM/top,workdir=$ROOM/top.work" "$TOP"
-printf %s "$SEAL_CREDBOOK" > "$TOP/crates/credbook/out/credbook.level"
-printf %s "$SEAL_CREDKEEP" > "$TOP/crates/credkeep/out/credkeep.level"
 (umask 077; make -s -C "$TOP" install > "$ROOM/log" 2>&1) || { cat "$ROOM/log"; exit 1; }
 cd "$ROOM/at"
 find "$ROOM/usr" ! -perm -o=r -printf 'not for everybody: %p\n'
@@ -173,27 +168,22 @@ SCRIPTS = {
     "shlibs": "librigzumal 1 ",
     "symbols": "rigzumal_check@RIGZUMAL_1 0.2.0",
 }
-BUILT = [TOP / "c/out/librigzumal.so.1", *(TOP / f"crates/{name}/out/{name}" for name in PROGRAMS)]
+BUILT = [TOP / "c/out/librigzumal.so.1", *(TOP / f"out/{name}" for name in PROGRAMS)]
 
 
 class Install(helpers.Case):
     seconds = 1800
 
     def test_install_and_uninstall(self):
-        """All files installed below /usr/local are found and work, and uninstall leaves nothing.
-
-        The programs are those that are built, in a copy of the tree that seals them for a level.
-        """
+        """All files installed below /usr/local are found and work, and uninstall leaves nothing."""
         need_root()
         need_file(*BUILT)
         samples = {
             "SAMPLE": sample("python/README.md", "python", "PasswordHasher"),
             "C_SAMPLE": program_of_readme(),
         }
-        level = "x86-64"  # whatever the level for which they were built
-        seals = {f"SEAL_{it.upper()}": build.sum_of(it, level) for it in PROGRAMS}
         places = {"ROOM": str(self.room()), "TOP": str(TOP), "PYTHONPATH": ""}
-        env = {**places, **samples, **seals, "CPU": level}
+        env = {**places, **samples}
         self.assertRegex(in_namespace(INSTALLED + USED, **env), f"^{USES}$")
 
 
@@ -361,7 +351,7 @@ class Debs(helpers.Case):
     def test_programs(self):
         """Each unit, page and module of the server is in a package."""
         need_file(*BUILT, "/usr/include/security/pam_modules.h")
-        debs = self.debs("c/pam", "CPU=")
+        debs = self.debs("c/pam")
         self.check(debs, [("rigzumal-tools", "amd64"), ("libpam-rigzumal", "amd64")])
         listed = "".join(run("dpkg-deb", "-c", it) for it in debs)
         modules = (TOP / "python/rigzumal/server/daemon").rglob("*.py")
@@ -381,13 +371,7 @@ class Debs(helpers.Case):
         need_root()
         need("dpkg", "adduser", "pam-auth-update")
         need_file(*BUILT, "/usr/include/security/pam_modules.h")
-        tools, module = self.debs("c/pam", "CPU=")
+        tools, module = self.debs("c/pam")
         env = {"ROOM": str(self.room()), "TOOLS": str(tools), "MODULE": str(module)}
         said = in_namespace(DPKG, **env, DEBIAN_FRONTEND="noninteractive")
         self.assertEqual(said, STEPS)
-
-    def test_programs_of_another_level(self):
-        """Programs that don't run on every processor aren't packed without a word."""
-        words = ["CPU=x86-64-v2"] if build.is_built("credbook", "x86-64") else []
-        output = run("make", "-s", "-C", TOP / "c/pam", "deb", *words, status=2)
-        self.assertRegex(output, r"credbook isn't built for x86-64(-v2)?: run make programs CPU=")

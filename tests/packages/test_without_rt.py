@@ -28,28 +28,11 @@ VERIFIES = (
 PATH = ":".join(
     it for it in os.environ["PATH"].split(":") if not (pathlib.Path(it) / "rt").exists()
 )
-# A toolchain that writes for which processor it was asked in the place of the compiled code.
+# An rt that notes what it was asked, and proves nothing.
 RT = """#!/bin/sh
-case $1 in
-lib) ;;
-doc) echo "$HOME/kit/START-HERE.md" ;;
-*) echo "an rt of another day" ;;
-esac
+echo "rt $*" >> "$HOME/asked"
+exit 1
 """
-RATTLE = """#!/bin/sh
-of=x86_64
-for it; do
-    case $it in
-    --cpu=*) asked=$it ;;
-    --target=*) asked=$it of=aarch64 ;;
-    esac
-    [ "$last" != -o ] || library=$it
-    last=$it
-done
-echo "$asked" > "$library"
-echo "logic=proved target=$of-unknown-linux-gnu"
-"""
-TOOLCHAIN = {"bin/rt": RT, "kit/bin/rattle": RATTLE, "kit/toolchain/bin/clang": ""}
 
 
 def copy(room):
@@ -76,7 +59,7 @@ class WithoutRt(helpers.Case):
             self.user = ["setpriv", "--reuid=nobody", "--regid=nogroup", "--clear-groups"]
             run("chown", "-R", "nobody:nogroup", self.top.parent, self.home)
 
-    def as_user(self, *words, status=0, at=None, **env):
+    def as_user(self, *words, status=0, at=None, given="", **env):
         line = [
             *self.user,
             "env",
@@ -84,7 +67,7 @@ class WithoutRt(helpers.Case):
             *(f"{name}={value}" for name, value in {**self.env, **env}.items()),
             *words,
         ]
-        return run(*line, at=at or self.home, status=status)
+        return run(*line, at=at or self.home, status=status, given=given)
 
     def make(self, *words, folder="c", status=0, **env):
         return self.as_user("make", "-C", self.top / folder, *words, status=status, **env)
@@ -101,15 +84,26 @@ class WithoutRt(helpers.Case):
         write_files(self.top, {"service.c": program_of_readme()})
         (link,) = re.findall("^cc .*", sample("docs/BUILDING.md", "sh", "cc service.c"), re.M)
         self.as_user("sh", "-c", f"{link}\n./a.out", at=self.top)
-        # again there is nothing to do, for root too
-        self.assertNotIn("cp proved", self.make())
+        self.assertNotIn("ld -r", self.make())  # again there is nothing to do
+
+    def test_programs(self):
+        """One make links the programs beside the library: credbook answers README's script, and
+        credkeep keeps a user file."""
+        self.make(folder=".")
+        ran, stdin = self.top / "out/credbook", (TOP / "crates/credbook/stdin").read_text()
+        answers = self.as_user(ran, "run", given=stdin)
+        self.assertEqual(answers, (TOP / "crates/credbook/stdout").read_text())
+        session = sample("README.md", "sh", "credkeep users.db init")
+        said = self.as_user("sh", "-c", session, PATH=f"{self.top}/out:{PATH}")
+        self.assertEqual(said, sample("README.md", "text", "enrolled"))
+        self.assertNotIn("-pie", self.make(folder="."))  # again there is nothing to do
 
     @each(
         ("crates/cred_argon/src/lib.rt", "// changed\n"),
         ("crates/cred_phc/specs/New.antt", ""),
         ("crates/cred_book/src/lib.rt", None),
         ("crates.txt", "cred_c staticlib: cred_pool\n"),
-        ("c/proved/proved.sum", None),
+        ("c/proved/library.sum", None),
     )
     def test_other_sources(self, name, text):
         """Compiled code of other sources is refused in one line, which names one of them."""
@@ -126,66 +120,51 @@ class WithoutRt(helpers.Case):
             path.write_text(before)
         lines = [it for it in said.splitlines() if not it.startswith("make: ")]
         self.assertEqual(len(lines), 1, said)
-        self.assertIn("" if name.startswith("c/") else f"({name} differs)", said)
-        self.assertIn("only the toolchain's rt compiles them", said)
+        self.assertIn(f"({name} differs)", said)
+        self.assertIn("run `make proved`, which needs rt", said)
         self.assertFalse((self.top / "c/out/librigzumal.so.1").exists())
 
-    def test_damaged_archive(self):
-        """Compiled code that isn't as it was committed is refused by its name, and what a build
-        took before is gone."""
-        archive = self.top / "c/proved/x86_64/v1.a"
-        whole = archive.read_bytes()
-        self.make("out/v1.a")
+    @each(("c", "v1"), (".", "credkeep"), (".", "lanes_v3"))
+    def test_damaged_object(self, folder, name):
+        """Compiled code that isn't as it was committed is refused by its name."""
+        path = self.top / f"c/proved/x86_64/{name}.o"
+        whole = path.read_bytes()
         for damaged in (whole[:-1] + bytes([whole[-1] ^ 1]), whole[:-1], b""):
-            archive.write_bytes(damaged)
-            said = self.make("-s", "out/v1.a", status=2, LANG="C")
-            self.assertIn("x86_64/v1.a: FAILED", said)
-            self.assertFalse((self.top / "c/out/v1.a").exists())
-        archive.write_bytes(whole)
-        self.make("out/v1.a")
+            path.write_bytes(damaged)
+            said = self.make("-s", folder=folder, status=2, LANG="C")
+            self.assertIn(f"x86_64/{name}.o: FAILED", said)
+        path.write_bytes(whole)
+        self.make("-s", folder=folder)
 
     def test_sources_of_others(self):
-        """A change above the library's crates doesn't matter."""
+        """A change above the library's crates matters to the programs alone."""
         with (self.top / "crates.txt").open("a") as lines:
             lines.write("another: cred_c\n")
         (self.top / "crates/credkeep/src/main.rt").write_text("// changed\n")
-        self.make("out/v1.a")
+        self.make()
+        said = self.make("-s", folder=".", status=2)
+        self.assertIn("(crates/credkeep/src/main.rt differs)", said)
+        self.assertFalse((self.top / "out/credkeep").exists())
 
-    def test_rt_comes_first(self):
-        """With rt the build compiles, also after one of c/proved; without rt it keeps the code that
-        rt compiled."""
-        self.make("out/v1.a")
-        write_files(self.home, TOOLCHAIN, 0o755)
-        with_rt = {"PATH": f"{self.home}/bin:{PATH}"}
-        self.assertIn("compile_proved.py x86-64 out/v1.a", self.make("out/v1.a", **with_rt))
-        archive = self.top / "c/out/v1.a"
-        self.assertEqual(archive.read_text(), "--cpu=x86-64\n")
-        self.make("out/v1.a")
-        self.assertEqual(archive.read_text(), "--cpu=x86-64\n")
+    @each((False, ""), (True, "rt ci\n"))
+    def test_with_rt(self, is_changed, asked):
+        """With rt, make has it prove and compile again only if the sources have changed."""
+        write_files(self.home, {"bin/rt": RT}, 0o755)
+        if is_changed:
+            (self.top / "crates/credkeep/src/main.rt").write_text("// changed\n")
+        status = 2 if is_changed else 0
+        self.make("-s", folder=".", status=status, PATH=f"{self.home}/bin:{PATH}")
+        path = self.home / "asked"
+        self.assertEqual(path.read_text() if path.exists() else "", asked)
 
-    def test_proved(self):
-        """`make proved` writes what rt makes for each processor, and check-proved compares it byte
-        for byte."""
-        write_files(self.home, TOOLCHAIN, 0o755)
-        with_rt = {"PATH": f"{self.home}/bin:{PATH}"}
-        self.assertIn("proved/x86_64/v1.a differ", self.make("check-proved", status=2, **with_rt))
-        self.make("proved", folder=".", **with_rt)
-        arm64, toolchain = (self.top / "c/proved" / it for it in ("arm64/generic.a", "toolchain"))
-        self.assertEqual(arm64.read_text(), "--target=aarch64-unknown-linux-gnu\n")
-        self.assertEqual(toolchain.read_text(), "an rt of another day\n")
-        self.make("check-proved", **with_rt)
-        arm64.write_text("--target=aarch64-unknown-linux-gnU\n")
-        self.assertIn(
-            "proved/arm64/generic.a differ", self.make("check-proved", status=2, **with_rt)
-        )
-
-    @each(("proved", "."), ("check-proved", "c"), ("dist", "."))
-    def test_what_needs_rt(self, target, folder):
-        """A command that needs rt says so in one line."""
-        said = self.make("-s", target, folder=folder, status=2)
+    @each("proved", "prove")
+    def test_what_needs_rt(self, target):
+        """A command that needs rt says so, and what works without it."""
+        said = self.make("-s", target, folder=".", status=2)
         lines = [it for it in said.splitlines() if not it.startswith("make")]
-        self.assertEqual(len(lines), 1, said)
-        self.assertIn("only the Rattle toolchain, which is not published, compiles", said)
+        self.assertEqual(len(lines), 2, said)
+        self.assertIn("rt isn't there: only the Rattle toolchain, which isn't published", said)
+        self.assertIn("Without it `make` links everything", said)
 
     def test_missing_packages(self):
         """A build that lacks a package of Debian names that package."""

@@ -12,7 +12,7 @@ from collections.abc import Callable, Coroutine, Iterator
 from typing import Any
 
 from served import TOP, Case
-from tests.helpers import LONGEST, Peer
+from tests.helpers import Peer, longest
 from tests.needs import need_file
 
 
@@ -39,7 +39,7 @@ class ClientCase(Case):
     def calls(self, path: object, **options: float) -> Iterator[Callable[..., Any]]:
         """One of each client: called with a method's name and its arguments, it calls that. By
         default it waits longer than a machine may stall."""
-        options = {"timeout": LONGEST, **options}
+        options = {"timeout": longest(), **options}
         plain = self.server.Client(path, **options)
         yield lambda name, *given: getattr(plain, name)(*given)
 
@@ -53,7 +53,7 @@ class ClientCase(Case):
         """Runs a coroutine function with an asyncio client."""
 
         async def run() -> None:
-            async with self.aio.Client(path, LONGEST) as client:
+            async with self.aio.Client(path, longest()) as client:
                 await used(client)
 
         asyncio.run(run())

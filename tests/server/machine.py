@@ -14,7 +14,7 @@ from typing import TypeVar
 
 from served import CHEAP, FAST_BOOK, HERE, PYTHON, TOP, Case, Given, Service, chosen_book, need
 from served import need_root, same
-from tests.helpers import BUSY, LONGEST, run
+from tests.helpers import busy, longest, run
 
 PAGE = TOP / "docs/SERVERS.md"
 SECURITY = pathlib.Path("/usr/lib/x86_64-linux-gnu/security")
@@ -134,7 +134,7 @@ def in_namespaces(test: Callable[[Test, pathlib.Path], None]) -> Callable[[Test]
         need_root()
         need("unshare", "ip", "make")
         if pathlib.Path("/usr/include/security/pam_modules.h").exists():
-            subprocess.run(["make", "-s", "-C", TOP / "c/pam"], check=True, timeout=LONGEST)
+            subprocess.run(["make", "-s", "-C", TOP / "c/pam"], check=True, timeout=longest())
         name = f"{pathlib.Path(test.__code__.co_filename).stem}.{type(self).__name__}"
         words = f"unshare --mount --pid --fork --kill-child --mount-proc --net {PYTHON} -m unittest"
         done = subprocess.run(
@@ -143,7 +143,7 @@ def in_namespaces(test: Callable[[Test, pathlib.Path], None]) -> Callable[[Test]
             env={**os.environ, "INSIDE": str(self.room())},
             capture_output=True,
             text=True,
-            timeout=0.9 * self.seconds * BUSY,
+            timeout=0.9 * self.seconds * busy(),
         )
         if skipped := re.search(r"skipped (['\"])(.*)\1$", done.stderr, re.M):
             raise unittest.SkipTest(skipped[2])

@@ -11,7 +11,6 @@ import socket
 import subprocess
 import sys
 import termios
-import unittest
 from collections.abc import Iterator
 from dataclasses import dataclass, field
 from typing import Any, Optional
@@ -20,9 +19,8 @@ HERE = pathlib.Path(__file__).resolve().parent
 TOP = HERE.parent.parent
 sys.path.insert(0, str(TOP))
 from tests import helpers, hostile_fields  # noqa: E402
-from tests.helpers import LONGEST, program  # noqa: E402
+from tests.helpers import longest, program  # noqa: E402
 from tests.helpers import need, need_root, until  # noqa: E402, F401 (for the tests)
-from tests.needs import lacking  # noqa: E402
 
 FAST_BOOK = HERE / "fast_book.py"
 CHEAP = "$argon2id$v=19$m=64,t=1,p=1"
@@ -67,7 +65,7 @@ class Case(helpers.Case):
 
 
 class BesideCase(Case):
-    """Tests of lines sent at once, over credkeep itself if it is built."""
+    """Tests of lines sent at once, over credkeep itself."""
 
     def over(self, **passwords: str) -> "Service":
         program = chosen_book()
@@ -83,22 +81,13 @@ def same(is_: object, ought: object, said: str = "") -> None:
 
 
 def real_book() -> pathlib.Path:
-    """credkeep, as it is built or as CREDKEEP names it."""
-    try:
-        return pathlib.Path(program("credkeep"))
-    except FileNotFoundError as fault:
-        raise lacking(f"the file {str(fault).partition(': ')[0]}") from None
+    """credkeep, as `make` links it or as CREDKEEP names it."""
+    return pathlib.Path(program("credkeep"))
 
 
 def chosen_book() -> pathlib.Path:
-    """credkeep where it is built, or else the fast book; BOOK=real or BOOK=fast chooses."""
-    word = os.environ.get("BOOK", "")
-    try:
-        return FAST_BOOK if word == "fast" else real_book()
-    except unittest.SkipTest:
-        if word == "real":
-            raise
-        return FAST_BOOK
+    """credkeep, or with BOOK=fast the fast book."""
+    return FAST_BOOK if os.environ.get("BOOK") == "fast" else real_book()
 
 
 def cpu(pid: int) -> float:
@@ -140,7 +129,7 @@ class Client(contextlib.AbstractContextManager["Client"]):
 
     def __init__(self, path: pathlib.Path) -> None:
         self.socket = socket.socket(socket.AF_UNIX)
-        self.socket.settimeout(LONGEST)
+        self.socket.settimeout(longest())
         self.rest, self.asked = b"", 0
         try:
             self.socket.connect(str(path))
@@ -308,11 +297,11 @@ class Service:
     def stop(self) -> None:
         """Ends the server in order."""
         self.process.terminate()
-        same(self.process.wait(timeout=LONGEST), 0, self.log())
+        same(self.process.wait(timeout=longest()), 0, self.log())
 
     def ended(self) -> tuple[int, str]:
         """The status with which it ends by itself, and its log."""
-        return self.process.wait(timeout=LONGEST), self.log()
+        return self.process.wait(timeout=longest()), self.log()
 
     def end(self) -> None:
         """Ends the server and its clients, whatever they do."""
@@ -320,7 +309,7 @@ class Service:
             client.close()
         self.process.terminate()
         try:
-            self.process.wait(timeout=LONGEST)
+            self.process.wait(timeout=longest())
         except subprocess.TimeoutExpired:
             self.process.kill()
             self.process.wait()

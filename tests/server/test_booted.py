@@ -15,7 +15,7 @@ from typing import Any
 from machine import commands_on_page, shell
 from served import CHEAP, TOP, Case, need, need_root, real_book, same
 from tests.debian import APART, unpack
-from tests.helpers import BUSY, at_a_terminal
+from tests.helpers import at_a_terminal, busy
 from tests.needs import need_file
 from walk import packages
 
@@ -99,7 +99,7 @@ done"""
 
 def debs() -> list[pathlib.Path]:
     need("dpkg-deb", "dpkg-shlibdeps", "strip")
-    need_file(*(TOP / f"crates/{name}/out/{name}" for name in ("credbook", "credkeep")))
+    need_file(TOP / "out/credbook", TOP / "out/credkeep")
     shell(f"make -s -C {TOP}/c/pam all deb CPU=")
     found = sorted((TOP / "c/pam/out").glob("*.deb"))
     same([it.name.partition("_")[0] for it in found], ["libpam-rigzumal", "rigzumal-tools"])
@@ -126,7 +126,10 @@ def booted(room: pathlib.Path, command: str, *options: str) -> str:
     pipes: Any = {"stdout": subprocess.PIPE, "stderr": subprocess.STDOUT}
     try:
         done = subprocess.run(
-            [*words.split(), room, *options], stdin=subprocess.DEVNULL, timeout=400 * BUSY, **pipes
+            [*words.split(), room, *options],
+            stdin=subprocess.DEVNULL,
+            timeout=400 * busy(),
+            **pipes,
         )
     finally:  # what it leaves of control groups where no systemd runs
         for name in ("payload", "supervisor"):

@@ -13,7 +13,7 @@ from typing import Any
 
 from client_case import ClientCase
 from machine import PAGE
-from served import LONGEST, TOP, Case, need
+from served import TOP, Case, longest, need
 from tests import hostile_fields
 from tests.frames import shown
 from tests.helpers import run
@@ -49,7 +49,7 @@ class HostileFields(ClientCase):
     def test_hostile_fields(self) -> None:
         """Each field that a visitor may send gets an answer from the client for threads."""
         with self.tapped() as path:
-            client = self.server.Client(path, LONGEST)
+            client = self.server.Client(path, longest())
             for what, (reply, call, *asked) in self.logins():
                 with self.subTest(what, call=call):
                     self.assertIs(getattr(client, call)(*asked), reply)
@@ -135,10 +135,10 @@ class Frames(ClientCase):
         refused += [("enrol", "ada", typed + "\ud800"), ("verify", "ada", [typed])]
         down = self.room() / "none"
         for path, timeout, calls in (
-            (down, LONGEST, asked + refused),
-            (self.peer(b""), LONGEST, asked),
-            (self.peer(b"x\n"), LONGEST, asked),
-            (self.peer(b"1 later\n"), LONGEST, asked),
+            (down, longest(), asked + refused),
+            (self.peer(b""), longest(), asked),
+            (self.peer(b"x\n"), longest(), asked),
+            (self.peer(b"1 later\n"), longest(), asked),
             (self.peer(b"", "waits"), 0.2, asked),
         ):
             for call in self.calls(path, timeout=timeout):

@@ -16,7 +16,7 @@ from typing import Any
 from unittest import mock
 
 from client_case import ClientCase
-from served import LONGEST, SECRET, until
+from served import SECRET, longest, until
 
 
 class Clients(ClientCase):
@@ -80,7 +80,7 @@ class Clients(ClientCase):
         ]
         login, admin = service.path(), service.path("admin")
         self.assertIs(
-            self.server.Client(login, LONGEST).verify("ada", "guess"), self.server.Reply.NO
+            self.server.Client(login, longest()).verify("ada", "guess"), self.server.Reply.NO
         )
         asked = len(service.asked())
         for ought, door, *given in rows:
@@ -91,7 +91,7 @@ class Clients(ClientCase):
                 self.assertEqual(text[: len(ought)], ought, f"{given}")
                 self.assertNotIn("secret", text)
         with self.assertRaises(self.server.Refused) as refused:
-            self.server.Client(admin, LONGEST).account("a b")
+            self.server.Client(admin, longest()).account("a b")
         self.assertEqual((refused.exception.number, refused.exception.word), (3, "name"))
         sent = ["account Ada", f"verify ada {SECRET}"]
         self.assertEqual(sorted(service.asked()[asked:]), sorted(sent * 2), "what isn't sent")
@@ -147,7 +147,7 @@ class Clients(ClientCase):
 
         later = threading.Timer(0.2, take)
         later.start()
-        self.assertIs(self.server.Client(path, LONGEST).verify("ada", "x"), self.server.Reply.YES)
+        self.assertIs(self.server.Client(path, longest()).verify("ada", "x"), self.server.Reply.YES)
         later.join()
 
     def test_pauses_of_a_full_backlog(self) -> None:
@@ -208,7 +208,7 @@ class Clients(ClientCase):
             writer.close()
 
         async def asks() -> None:
-            client = self.aio.Client(path, LONGEST)
+            client = self.aio.Client(path, longest())
             async with await asyncio.start_unix_server(take, path), client:
                 said = await asyncio.gather(*(client.known("ada") for _ in range(50)))
             self.assertEqual((set(said), len(taken)), ({self.server.Reply.YES}, 1))
@@ -218,7 +218,7 @@ class Clients(ClientCase):
     def test_several_event_loops(self) -> None:
         """One client serves event loops one after another, as of several asyncio.run, and two at
         the same time. Each has its own connection, and closed ones aren't kept."""
-        Reply, taken, both = self.server.Reply, [], threading.Barrier(2, timeout=LONGEST)
+        Reply, taken, both = self.server.Reply, [], threading.Barrier(2, timeout=longest())
 
         class Yes(socketserver.StreamRequestHandler):
             def handle(self) -> None:
@@ -231,7 +231,7 @@ class Clients(ClientCase):
         self.addCleanup(server.shutdown)
         server.daemon_threads = True
         threading.Thread(target=server.serve_forever, args=(0.01,), daemon=True).start()
-        client = self.aio.Client(server.server_address, LONGEST)
+        client = self.aio.Client(server.server_address, longest())
 
         async def asks() -> set[Any]:
             return {*await asyncio.gather(*(client.known("ada") for _ in range(50)))}
@@ -270,7 +270,7 @@ class Clients(ClientCase):
             service = self.serving("--tries", "0", faults=faults)
             service.enrol(**{f"user{number}": f"secret{number}" for number in range(8)})
             self.run_with(service.path(), used)
-            verify = self.server.Client(service.path(), LONGEST).verify
+            verify = self.server.Client(service.path(), longest()).verify
             with concurrent.futures.ThreadPoolExecutor(8) as pool:
                 said = pool.map(lambda pair: verify(f"user{pair[0]}", f"secret{pair[1]}"), pairs)
                 self.assertEqual(list(said), ought)

@@ -2,8 +2,7 @@
 describes.
 
 The tests don't change the machine, and leave no process. They write the files that a program reads
-from the page, word for word. They ask credkeep itself if it is built, and otherwise, or with
-BOOK=fast, the fast book.
+from the page, word for word. They ask credkeep itself or, with BOOK=fast, the fast book.
 """
 
 import contextlib

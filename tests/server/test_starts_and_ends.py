@@ -11,7 +11,8 @@ import socket
 import time
 from collections.abc import Callable
 
-from served import SECRET, Case, Client, is_listening, need, until
+from served import SECRET, Case, Client, Service, is_listening, need, until
+from tests.helpers import busy
 
 
 class Starting(Case):
@@ -116,7 +117,7 @@ class Endings(Case):
                     client.send(lines)
             begun = time.monotonic()
             service.stop()
-            self.assertLess(time.monotonic() - begun, 15, f"{lines:.20}")
+            self.assertLess(time.monotonic() - begun, 15 * busy(), f"{lines:.20}")
             self.assertNotIn("killed", service.log())
 
     def test_an_end_amid_a_beat(self) -> None:
@@ -138,21 +139,26 @@ class Endings(Case):
             self.assertEqual(status, 0 if number == signal.SIGCONT else 128 + 9)
             self.assertNotIn("a fault", log)
 
+    def with_unanswered_lines(self) -> Service:
+        """A server that has 20 lines, of which the book has two and answers none."""
+        service = self.serving("--at-once", "2", faults="mute=verify")
+        client = service.client()
+        client.send("a verify ada -\n" * 20)
+        client.wait_until_read()
+        until(lambda: len(service.asked()) == 2, "the book's lines")
+        return service
+
     def test_a_book_that_goes_on(self) -> None:
         """Lines without an answer are dropped after 18 s. A book that still goes on is killed, 12 s
         later."""
-        for is_stopped in (False, True):
-            service = self.serving("--at-once", "2", faults="mute=verify")
-            client = service.client()
-            client.send("a verify ada -\n" * 20)
-            client.wait_until_read()
-            until(lambda: len(service.asked()) == 2, "the book's lines")
-            if is_stopped:
-                os.kill(service.book_pid(), signal.SIGSTOP)
-            begun = time.monotonic()
-            service.process.terminate()
+        goes_on, stopped = self.with_unanswered_lines(), self.with_unanswered_lines()
+        os.kill(stopped.book_pid(), signal.SIGSTOP)
+        begun = time.monotonic()
+        goes_on.process.terminate()
+        stopped.process.terminate()
+        for service, least, is_stopped in ((goes_on, 18, False), (stopped, 30, True)):
             status, log = service.ended()
-            self.assertTrue(17 < time.monotonic() - begun < 90, "18 to 30 s")
+            self.assertTrue(least - 1 < time.monotonic() - begun < 90 * busy(), f"{least} s")
             self.assertIn("20 lines had no answer after 18 s", log)
             is_killed = "killing the book's process, which still runs after 30 s" in log
             self.assertEqual((is_killed, status), (is_stopped, 128 + 9 if is_stopped else 0))

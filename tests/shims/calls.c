@@ -1,8 +1,8 @@
 /* Replaces calls of the C library, and counts the syncs of a program, the most threads that it had
- * started and not yet joined, and its memory in bytes: the most allocated at any time, and all ever
- * requested. The shim reports the counts when the program ends. A list in /proc may name an ended
- * thread. The shim refuses the request for memory with the number REFUSE_NTH, and reports that. The
- * toolchain has no headers. */
+ * started and not yet joined, its requests for memory, and their bytes: the most allocated at any
+ * time, and all ever requested. The shim reports the counts when the program ends. A list in /proc
+ * may name an ended thread. The shim refuses the request for memory with the number REFUSE_NTH, and
+ * reports that. The toolchain has no headers. */
 typedef __SIZE_TYPE__ size_t;
 
 #ifdef __aarch64__
@@ -121,8 +121,9 @@ void free(void *old) {
 /* The program ends by this call, which runs no destructors. */
 void _exit(int code) {
     char told[200];
-    int size = snprintf(told, sizeof told, "SYNCS %ld\nTHREADS %ld\nPEAK %ld\nASKED %ld\n", syncs,
-                        most_threads, most_held, asked);
+    int size =
+        snprintf(told, sizeof told, "SYNCS %ld\nTHREADS %ld\nPEAK %ld\nASKED %ld\nREQUESTS %ld\n",
+                 syncs, most_threads, most_held, asked, requests);
 
     (void)!write(2, told, (size_t)size);
     for (;;)

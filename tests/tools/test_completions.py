@@ -94,8 +94,7 @@ class Completions(Case):
         super().setUp()
         self.top, self.at = self.room(), self.room()
         programs = {
-            f"crates/{it}/out/{it}": text
-            for it, text in (("credkeep", CREDKEEP), ("credbook", CREDBOOK))
+            f"out/{it}": text for it, text in (("credkeep", CREDKEEP), ("credbook", CREDBOOK))
         }
         write_files(self.top, programs, 0o755)
         for folder in ("tools", "completions", "bin", "python/rigzumal/server/daemon"):

@@ -7,9 +7,11 @@ import shlex
 from tests.helpers import TOP, Case, Ended, each, ended, write_files
 
 GATE, PAGES = "tools/tree.py run the gate", "tools/pages.py"
-PACKAGES, BODIES = "tools/debian_packages.py", "tools/wrong_bodies.py -- rt ci"
-TESTS = "tools/run_tests.py"
-# A Python that notes its words, later for the packages, and fails at the step that FAILING names.
+PACKAGES = "tools/debian_packages.py"
+PROOFS = "tools/compile_proved.py --check python3 tools/wrong_bodies.py -- rt ci"
+QUICK, SLOW = "-s check", "tools/run_tests.py --slow"
+# A Python and a make that note their words, later for the packages, and fail at the step that FAILING
+# names.
 STUB = """#!/bin/sh
 case "$1" in *packages.py) sleep 0.5 ;; esac
 echo "$*" >> steps
@@ -26,7 +28,8 @@ class Gate(Case):
         self.assertEqual(text.count("/usr/bin/python3"), 1)
         write_files(room, {"steps": ""})
         copied = text.replace("/usr/bin/python3", shlex.quote(str(python)))
-        write_files(room, {".ci/run": copied, "bin/python3": STUB}, mode=0o755)
+        stubs = {"bin/python3": STUB, "bin/make": STUB}
+        write_files(room, {".ci/run": copied, **stubs}, mode=0o755)
         given = {**os.environ, "PATH": f"{python.parent}:/usr/bin:/bin", "FAILING": failing}
         done = ended([str(room / ".ci/run")], env=given, cwd=pathlib.Path("/"))
         return done, (room / "steps").read_text().splitlines()
@@ -35,14 +38,15 @@ class Gate(Case):
         """If each step passes, so does the run; the tests come after the packages."""
         done, steps = self.ran()
         self.assertEqual(done, Ended(0))
-        self.assertEqual([steps[0], steps[1], steps[-1]], [GATE, PAGES, TESTS])
-        self.assertEqual(sorted(steps[2:-1]), sorted([PACKAGES, BODIES]))
+        self.assertEqual([*steps[:2], *steps[-2:]], [GATE, PAGES, QUICK, SLOW])
+        self.assertEqual(sorted(steps[2:-2]), sorted([PACKAGES, PROOFS]))
 
     @each(
         (GATE, [GATE]),
         (PAGES, [GATE, PAGES]),
-        (BODIES, [GATE, PAGES, PACKAGES, BODIES]),
-        (TESTS, [GATE, PAGES, PACKAGES, BODIES, TESTS]),
+        (PROOFS, [GATE, PAGES, PACKAGES, PROOFS]),
+        (QUICK, [GATE, PAGES, PACKAGES, PROOFS, QUICK]),
+        (SLOW, [GATE, PAGES, PACKAGES, PROOFS, QUICK, SLOW]),
     )
     def test_failures(self, failing: str, begun: list[str]) -> None:
         """The failure of each step is the run's, and no later step begins."""
@@ -52,4 +56,4 @@ class Gate(Case):
     def test_without_packages(self) -> None:
         """Tests whose packages are missing skip themselves: the run continues."""
         done, steps = self.ran(PACKAGES)
-        self.assertEqual((done.status, steps[-1]), (0, TESTS))
+        self.assertEqual((done.status, steps[-1]), (0, SLOW))

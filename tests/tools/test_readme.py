@@ -24,10 +24,10 @@ class Readme(unittest.TestCase):
         self.assertEqual([*readme.sessions_of(f"# Head\n\n{page}")], [(3, "echo a\n", wanted)])
 
     @each(
-        ("make build\nsudo make install\n", False),
+        ("make\nsudo make install\n", False),
         ("make -C python install\n", False),
         ("apt install nginx\n", False),
-        ("make build\n", True),
+        ("make programs\n", True),
     )
     def test_installs(self, script, is_run):
         """No session that installs something is run."""

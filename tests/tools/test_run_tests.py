@@ -53,10 +53,7 @@ MODULES = {
         time.sleep(1000)
 """,
     "tests/server/test_turns.py": """
-    def test_has_no_class_above(self): time.sleep(1); print("turned", file=open("../../order", "a"))
-""",
-    "tests/server/test_clients.py": """
-    def test_quiet(self): print("quiet", file=open("../../order", "a"))
+    def test_beside_its_module(self): self.assertEqual(os.getcwd(), os.path.dirname(__file__))
 """,
     "c/tests/test_calls.py": """
     def test_one(self): pass
@@ -83,22 +80,28 @@ SLOW = """
         os.rename("at_work.new", "at_work")
         sleeper.wait()
 """
-# One without which the library isn't built.
-BESIDE = """
-    def test_is_at_work(self): open("at_work", "w").close()
+# A failed test that tells its sample.
+SAMPLED = """
+    def test_fails(self):
+        from tests.samples import sample
+        self.fail(f"chosen: {[*sample(range(1000, 1020))]}")
 """
 # What stands in place of whole modules.
 TEXTS = {
     "tests/packages/test_install.py": "import no_such_module\n",
     "docs/tests/test_pages.py": "import unittest\nraise unittest.SkipTest('needs a newer cargo')\n",
     "tests/credkeep/test_large.py": "raise SystemExit('a long one ran')\n",
-    "c/Makefile": "all check-proved:\n\t@test ! -e broken || { echo this is broken; exit 1; }\n",
-    "c/pam/Makefile": "all:\n",
+    "Makefile": "all:\n\t@test ! -e broken || { echo this is broken; exit 1; }\n",
+    "tools/job_seconds.json": """{
+    "c/tests/test_calls:1": 30,
+    "c/tests/test_calls:2": 31,
+    "tests/tools/test_well": 29
+}""",
 }
 # What is copied of the tree.
 COPIED = {
     "tools": ("run_tests.py", "jobs.py", "tree.py"),
-    "tests": ("told.py", "helpers.py", "needs.py"),
+    "tests": ("told.py", "helpers.py", "needs.py", "samples.py"),
 }
 FAILED = {
     "tests/credbook/test_false": {
@@ -127,7 +130,6 @@ class RunTests(Case):
         super().setUp()
         self.top = self.room()
         write_files(self.top, {name: HEAD + text for name, text in MODULES.items()} | TEXTS)
-        (self.top / "tools").mkdir()
         for folder, names in COPIED.items():
             for name in names:
                 shutil.copy(TOP / folder / name, self.top / folder)
@@ -151,7 +153,7 @@ class RunTests(Case):
         done = self.run_tests("tests/tools", "book", "server", "c/", "python", "docs", "packages")
         self.assertEqual(done.faults, "")
         lines = done.written.splitlines()
-        self.assertEqual(lines[-1], "tests: 8 passed, 11 failed, 3 skipped")
+        self.assertEqual(lines[-1], "tests: 7 passed, 11 failed, 3 skipped")
         found = re.findall(r"^FAILED: (\S+): (\S+)$", done.written, re.M)
         wanted = {(job, name) for job, names in FAILED.items() for name in names}
         self.assertEqual({*found}, wanted)
@@ -162,7 +164,6 @@ class RunTests(Case):
         lost = ", ".join(f"tests.credbook.test_never.{it}" for it in never)
         self.assertIn(f"nothing runs {lost}\n", done.written)
         self.assertEqual(done.status, 1)
-        self.assertEqual((self.top / "order").read_text(), "turned\nquiet\n")
 
     def test_what_hangs(self) -> None:
         """A hanging job is ended with all that it started, and its output is printed."""
@@ -186,8 +187,8 @@ class RunTests(Case):
         at_work = self.top / "at_work"
         helpers.until(at_work.exists, "it is at work")
         run.send_signal(number)
-        written, _ = run.communicate(timeout=helpers.LONGEST)
-        self.assertEqual(written, "tests: interrupted\n")
+        written, _ = run.communicate(timeout=helpers.longest())
+        self.assertEqual(written.splitlines()[1:], ["tests: interrupted"])
         self.assertEqual(run.returncode, 128 + number)
         for process in at_work.read_text().split():
             helpers.until(functools.partial(has_ended, process), "it has ended")
@@ -195,9 +196,25 @@ class RunTests(Case):
 
     def test_first_failure(self) -> None:
         """With --first nothing begins after a failure: no test of its module, and no other job."""
-        done = self.run_tests("--first", "test_false", "server/test_clients")
-        self.assertEqual(done.written.splitlines()[-1], "tests: 0 passed, 1 failed, 0 skipped")
-        self.assertFalse((self.top / "order").exists())
+        write_files(self.top, {"c/tests/test_package.py": "raise SystemExit('it began')\n"})
+        for words in (["test_false"], ["test_install", "c/tests/test_package"]):
+            done = self.run_tests("--first", *words)
+            self.assertEqual(done.written.splitlines()[-1], "tests: 0 passed, 1 failed, 0 skipped")
+            self.assertNotIn("it began", done.written)
+
+    def test_samples(self) -> None:
+        """A run prints the seed of its samples, and after a failure again; the seed repeats
+        them."""
+        write_files(self.top, {"tests/credbook/test_sampled.py": HEAD + SAMPLED})
+        variables = {"RIGZUMAL_WHOLE": "", "RIGZUMAL_SEED": ""}
+        first = self.run_tests("test_sampled", **variables).written
+        seeds = re.findall(r"^samples: a seventh, by RIGZUMAL_SEED=(\d+)$", first, re.M)
+        self.assertEqual(seeds, seeds[:1] * 2)
+        again = self.run_tests("test_sampled", **{**variables, "RIGZUMAL_SEED": seeds[0]}).written
+        chosen = re.compile(r"chosen: .*")
+        self.assertEqual(chosen.findall(again), chosen.findall(first))
+        whole = self.run_tests("test_sampled", **{**variables, "RIGZUMAL_WHOLE": "1"}).written
+        self.assertIn(f"chosen: {[*range(1000, 1020)]}", whole)
 
     def test_what_passes(self) -> None:
         done = self.run_tests("c/tests", "tests/tools")
@@ -220,39 +237,45 @@ class RunTests(Case):
         self.assertEqual(done.status, 0)
         done = self.run_tests("tools/peak", "tests/tools", PATH=path, RT="true")
         self.assertIn("FAILED: tools/peak_memory: tools/peak_memory\n", done.written)
+        done = self.run_tests("tools/readme", PATH=path)  # of what make links
+        self.assertIn("FAILED: tools/readme: tools/readme\n", done.written)
 
     def test_long_ones(self) -> None:
         done = self.run_tests("--long", "credkeep")
         self.assertIn("a long one ran", done.written)
         self.assertEqual(done.status, 1)
 
+    @each(
+        ([], "5 passed, 0 failed, 2 skipped"),
+        (["--quick"], "2 passed, 0 failed, 2 skipped"),
+        (["--slow"], "3 passed, 0 failed, 0 skipped"),
+    )
+    def test_lengths(self, words: list[str], last: str) -> None:
+        """A quick run has the modules of less than half a minute, and says what it leaves out."""
+        lines = self.run_tests(*words, "c/tests", "tests/tools").written.splitlines()
+        self.assertEqual(lines[-1], f"tests: {last}")
+        said = [it for it in lines if "2 longer modules are left out: tools/run_tests.py" in it]
+        self.assertEqual(len(said), words == ["--quick"])
+
     def test_what_is_not_built(self) -> None:
-        """Without the library the jobs that need it don't run, and the others do."""
-        (self.top / "c/broken").touch()
+        """No job runs unless make links the programs and the libraries."""
+        (self.top / "broken").touch()
         done = self.run_tests("c/tests", "tests/tools")
         self.assertIn("this is broken\n", done.written)
-        self.assertEqual(
-            done.written.splitlines()[-2:],
-            ["FAILED: the library", "tests: 2 passed, 1 failed, 2 skipped"],
-        )
-        self.assertEqual(done.status, 1)
+        last = ["FAILED: make -s", "tests: 0 passed, 1 failed, 0 skipped"]
+        self.assertEqual((done.written.splitlines()[-2:], done.status), (last, 1))
 
     def test_where_make_is_missing(self) -> None:
-        """Nothing waits for a library that can't be built."""
         done = self.run_tests("c/tests", "tests/tools", PATH="/no/such/folder")
-        self.assertIn("make -s -C c: [Errno 2] No such file or directory: 'make'\n", done.written)
+        self.assertIn("make -s: [Errno 2] No such file or directory: 'make'\n", done.written)
         self.assertEqual(done.status, 1)
 
     def test_a_build_of_other_letters(self) -> None:
-        """A failed build ends the jobs that wait for it, whatever bytes it prints."""
+        """A failed build is shown, whatever bytes it prints."""
         write_files(folder := self.room(), {"make": "#!/bin/sh\nprintf 'refus\\351\\n'; exit 2\n"})
         (folder / "make").chmod(0o755)
-        done = self.run_tests("c/tests", "tests/tools", PATH=f"{folder}:{os.environ['PATH']}")
-        self.assertIn("refus\ufffd\n\nmake -s -C c: status 2\n", done.written)
-        self.assertEqual(
-            done.written.splitlines()[-2:],
-            ["FAILED: the library", "tests: 2 passed, 1 failed, 2 skipped"],
-        )
+        done = self.run_tests("c/tests", PATH=f"{folder}:{os.environ['PATH']}")
+        self.assertIn("refus\ufffd\n\nmake -s: status 2\n", done.written)
         self.assertEqual(done.status, 1)
 
     @each(b"no outcome", b"\xe9", b"passed\tone\ttoo many\twords")
@@ -265,28 +288,6 @@ class RunTests(Case):
             "FAILED: tests/credbook/test_tells: tests/credbook/test_tells\n", done.written
         )
         self.assertEqual(done.written.splitlines()[-1], "tests: 2 passed, 1 failed, 2 skipped")
-
-    def test_without_rt(self) -> None:
-        """Without rt nothing is compared with its code, and all else runs."""
-        text = "all:\ncheck-proved:\n\t@echo only rt does this; exit 1\n"
-        write_files(self.top, {"c/Makefile": text})
-        for name, status in (("no-such-rt", 0), ("true", 1)):
-            with self.subTest(name):
-                self.assertEqual(self.run_tests("c/tests", RT=name).status, status)
-
-    def test_what_needs_no_library(self) -> None:
-        """Nothing is built for it alone."""
-        (self.top / "c/broken").touch()
-        self.assertEqual(self.run_tests("tests/tools").status, 0)
-
-    def test_a_build_beside_tests(self) -> None:
-        """Jobs that need the library begin once it is built, beside others."""
-        text = "all check-proved:\n\t@while ! test -e ../at_work; do sleep 0.1; done\n"
-        text += "\t@echo built >> ../order\n"
-        write_files(self.top, {"c/Makefile": text, "tests/credbook/test_slow.py": HEAD + BESIDE})
-        done = self.run_tests("turns", "test_slow", RT="true")
-        self.assertEqual(done.written.splitlines()[-1], "tests: 2 passed, 0 failed, 0 skipped")
-        self.assertEqual((self.top / "order").read_text(), "built\nbuilt\nturned\n")
 
 
 class Excuses(unittest.TestCase):
@@ -369,8 +370,13 @@ class Jobs(unittest.TestCase):
                     form = re.compile(rf"\b{path.stem}\b")
                     self.assertTrue(any(form.search(it) for it in texts), "nothing runs it")
 
+    def test_every_job_has_a_note(self) -> None:
+        """A quick run takes a job without a note for a short one."""
+        names = {it.name for it in jobs.jobs()}
+        self.assertEqual(names - {*jobs.seconds()}, set(), "tools/run_tests.py --note WORD")
+
     def test_named_modules_are_there(self) -> None:
         for folder in jobs.FOLDERS:
-            for word in (*folder.parts, *folder.quiet, *folder.packing, *folder.long):
+            for word in (*folder.parts, *folder.packing, *folder.long):
                 with self.subTest(folder.path, word=word):
                     self.assertTrue((TOP / folder.path / f"test_{word}.py").exists())

@@ -16,21 +16,15 @@ PATH = ":".join(
     it for it in os.environ["PATH"].split(":") if not (pathlib.Path(it) / "rt").exists()
 )
 RT = "rt isn't there: only the Rattle toolchain, which isn't published, can"
-BESIDE = "Without it `make -C c` builds the library for C, Python, Rust and PHP"
-TESTS = "Then `/usr/bin/python3 tools/run_tests.py` runs the tests that need no rt"
-ALSO = [BESIDE, TESTS]
+BESIDE = "Without it `make` links everything from c/proved"
 LIBRARY = "librigzumal.so.1 can't be loaded: build it with `make -C c`"
 
 # A command, its status, what its lines begin with.
 NEEDING = [
-    ("make programs", 2, [f"{RT} prove and build credbook", *ALSO, "make: ***"]),
-    ("python tools/build.py -- run", 1, [f"{RT} prove and build credbook", *ALSO]),
-    ("python tools/build.py credkeep", 1, [f"{RT} prove and build credkeep", *ALSO]),
-    ("python tools/build.py --built credkeep", 1, ["credkeep isn't built for "]),
-    ("python tools/wrong_bodies.py", 1, [f"{RT} try wrong bodies", *ALSO]),
-    ("python tools/wrong_bodies.py cred_pool -- rt ci", 1, [f"{RT} try wrong bodies", *ALSO]),
-    ("python tools/promises.py", 1, [f"{RT} tell which of its crates", *ALSO]),
-    ("python tools/compile_proved.py x86-64-v4 out.a", 1, [f"{RT} compile the library", *ALSO]),
+    ("make proved", 2, [f"{RT} compile the proved code", BESIDE, "make: ***"]),
+    ("python tools/wrong_bodies.py", 1, [f"{RT} try wrong bodies", BESIDE]),
+    ("python tools/wrong_bodies.py cred_pool -- rt ci", 1, [f"{RT} try wrong bodies", BESIDE]),
+    ("python tools/promises.py", 1, [f"{RT} tell which of its crates", BESIDE]),
     (
         "python tools/refuse_memory.py",
         1,
@@ -41,9 +35,9 @@ NEEDING = [
         1,
         ["{top}/crates/hash_tests/out/hash_tests_tests doesn't exist"],
     ),
-    ("python tools/tree.py run the gate", 1, [f"{RT} run the gate", *ALSO]),
-    ("python bench/keep/run.py", 1, ["{top}/crates/credkeep/out/credkeep is not there"]),
-    ("python bench/server/beside.py .", 1, ["{top}/crates/credkeep/out/credkeep is not there"]),
+    ("python tools/tree.py run the gate", 1, [f"{RT} run the gate", BESIDE]),
+    ("python bench/keep/run.py", 1, ["{top}/out/credkeep is not there"]),
+    ("python bench/server/beside.py .", 1, ["{top}/out/credkeep is not there"]),
     ("python tools/statements.py", 0, ["docs/STATEMENTS.txt has the line of each promise"]),
     ("python tools/definitions_page.py", 0, ["docs/DEFINITIONS.md has the definitions"]),
 ]
@@ -94,13 +88,6 @@ class WithoutRt(helpers.Case):
         self.assertEqual(done.status, 1)
         self.assertNotIn("Traceback", done.faults)
 
-    @each("tests/credbook", "tests/credkeep")
-    def test_programs(self, folder: str) -> None:
-        """The tests of a program are skipped, and say for want of what."""
-        done = self.ended(f"python -m unittest discover -v -t . -s {folder} -k test_s")
-        self.assertEqual((done.status, "Traceback" in done.faults), (0, False))
-        self.assertRegex(done.faults, r"skipped .*\brt\b")
-
     @each("import rigzumal", "import runpy; runpy.run_module('rigzumal')")
     def test_package(self, code: str) -> None:
         """The package without its library says how it is built."""
@@ -108,14 +95,3 @@ class WithoutRt(helpers.Case):
         done = ended([sys.executable, "-c", code], cwd=self.room(), env=env)
         self.assertEqual(done.status, 1)
         self.assertIn(f"\nImportError: {LIBRARY}", done.faults)
-
-    def test_archive(self) -> None:
-        """Compiled code that differs from the copy of before is copied again."""
-        self.assertEqual(self.ended("make -s -C c out/v1.a").status, 0)
-        proved = self.top / "c/proved"
-        for file in (proved / "x86_64/v1.a", proved / "archives.sum"):
-            self.addCleanup(file.write_bytes, file.read_bytes())
-        (proved / "x86_64/v1.a").write_bytes(b"mended")
-        run("sh", "-c", "sha256sum */*.a > archives.sum", at=proved)
-        self.assertEqual(self.ended("make -s -C c out/v1.a").status, 0)
-        self.assertEqual((self.top / "c/out/v1.a").read_bytes(), b"mended")

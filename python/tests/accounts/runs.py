@@ -17,7 +17,7 @@ from galera import Galera
 from support import server
 import torture
 from rigzumal.accounts import Accounts, MariaDB, PerThread, Reply
-from tests.helpers import LONGEST, until
+from tests.helpers import longest, until
 from torture import logs
 from torture._torture import LOW, hasher
 
@@ -258,7 +258,7 @@ class Crashes:
 
     def turn(self, answered, changer):
         """The number of the password in the table after a kill."""
-        looking, end = self.accounts(confirm=self.confirm), time.monotonic() + LONGEST
+        looking, end = self.accounts(confirm=self.confirm), time.monotonic() + longest()
         while time.monotonic() < end:
             now = answered.value
             said = looking.verify("ann", f"p{now + 1}")

@@ -16,7 +16,7 @@ import tempfile
 
 sys.path.insert(0, str(pathlib.Path(__file__).resolve().parents[3]))
 from tests import needs  # noqa: E402
-from tests.helpers import LONGEST, until  # noqa: E402
+from tests.helpers import longest, until  # noqa: E402
 from tests.ports import free_port  # noqa: E402
 
 try:
@@ -109,7 +109,7 @@ class Server:
         """Waits until the server answers."""
         has_ended = lambda: self.process.poll() is not None
         try:
-            until(lambda: has_ended() or self.ready(), "it answers", 3 * LONGEST)
+            until(lambda: has_ended() or self.ready(), "it answers", 3 * longest())
         except AssertionError:
             pass
         else:
@@ -133,7 +133,7 @@ class Server:
     def end(self, number=None):
         self.process.send_signal(number or self.stop)
         try:
-            self.process.wait(LONGEST)
+            self.process.wait(longest())
         except subprocess.TimeoutExpired:
             self.kill()
 

@@ -18,7 +18,7 @@ from rigzumal.accounts import parts, types
 from rigzumal.accounts._session import Result, run
 from rigzumal.accounts._table import Undone
 from rigzumal.accounts.types import Answer, Kind, NoConnection, Request, Ticket, Worked
-from tests.helpers import LONGEST
+from tests.helpers import longest
 
 
 ENROLLED = "remove ann one removed; enrol ann x enrolled"
@@ -272,7 +272,7 @@ class Tasks(engines.OnSqliteTasks, Base):
         """Hashes run in other threads, and those of two operations run in parallel."""
         accounts, threads = self.accounts().core, set()
         work = accounts._judge.work
-        both = threading.Barrier(2, timeout=LONGEST)
+        both = threading.Barrier(2, timeout=longest())
 
         def noted(ticket):
             threads.add(threading.current_thread())
@@ -340,7 +340,7 @@ class Tasks(engines.OnSqliteTasks, Base):
             accounts = self.accounts(**more).core
             login = accounts.login("ann", "one", also=hook)
             with self.subTest(more=more), self.assertRaises(RuntimeError):
-                asyncio.run(asyncio.wait_for(login, LONGEST))
+                asyncio.run(asyncio.wait_for(login, longest()))
 
     def test_a_nested_call(self):
         """A nested call is refused within `also`; a task that begins there may go on after it."""

@@ -126,7 +126,9 @@ class Package(unittest.TestCase):
         self.assertEqual((packages / "rigzumal").exists(), bool(others))
         self.assertTrue(another.exists())
 
-    @each("crates.txt", "crates/low/src/lib.rt", "c/Makefile", "c/src/one.c", "c/proved/proved.sum")
+    @each(
+        "crates.txt", "crates/low/src/lib.rt", "c/Makefile", "c/src/one.c", "c/proved/library.sum"
+    )
     def test_sources_of_the_library(self, changed):
         """make builds the library again if any source is newer than the library, such as one of a
         crate, which make may refuse."""
