@@ -19,6 +19,7 @@ from collections.abc import Collection, Iterable, Mapping
 
 from jobs import FOLDERS, Job, jobs, seconds
 from tree import CRATES, TOP, all_below, below, listed, source
+from wrong_body import edits_of
 
 # The users of the library for C, and of each program and crate of tests: words of jobs.
 OF_LIBRARY = ("c/tests", "c/pam/tests", "python/tests", "rust/tests", "docs/tests")
@@ -120,8 +121,8 @@ def changed_files(commit: str) -> list[str]:
 
 
 def changed_crates(files: Iterable[str], parts: str) -> set[str]:
-    """Returns the crates with a changed file in these folders."""
-    found = (re.match(rf"crates/(\w+)/(?:{parts})/", it) for it in files)
+    """Returns the crates with a changed file in these folders, or of these names."""
+    found = (re.match(rf"crates/(\w+)/(?:{parts})(?:/|$)", it) for it in files)
     return {it[1] for it in found if it} & {*listed()}
 
 
@@ -191,7 +192,7 @@ def count_with_time(wrong_bodies: int) -> str:
 
 
 def of_wrong_bodies(changed: Collection[str], again: Iterable[str]) -> str:
-    counts = {it: len([*CRATES.glob(f"{it}/wrong-bodies/*.edit")]) for it in {*changed, *again}}
+    counts = {it: len(edits_of(CRATES / it)) for it in {*changed, *again}}
     own = count_with_time(sum(counts[it] for it in changed))
     every = count_with_time(sum(counts.values()))
     more = f" (if a contract or a definition has changed {every})" if every != own else ""
@@ -211,7 +212,7 @@ def report(files: Collection[str]) -> Iterable[str]:
     again = proved_again(changed_crates(files, "src|specs|proofs"))
     if again:
         yield of_proofs(again)
-    if changed := changed_crates(files, "src|specs|proofs|wrong-bodies"):
+    if changed := changed_crates(files, r"src|specs|proofs|wrong-bodies\.edits"):
         yield of_wrong_bodies(changed, again)
     if chosen := jobs_to_run(files, again):
         yield of_tests(chosen)

@@ -27,8 +27,8 @@ import pictures
 import promises
 import statements
 import tree
-import wrong_body
-from tree import CRATES, TOP, has_edit, has_test, is_test_or_example, listed, report, source
+from tree import CRATES, TOP, has_test, is_test_or_example, listed, report, source
+from wrong_body import edits_of
 
 PAGES = [
     *sorted(TOP.glob("*.md")),
@@ -139,7 +139,7 @@ def figures() -> Facts:
     code = [source(it) for it in CRATES.glob("*/src/**/*.rt")]
     there = {
         "crates": len(listed()),
-        "wrong bodies": len([*CRATES.glob("*/wrong-bodies/*.edit")]),
+        "wrong bodies": sum(len(edits_of(it)) for it in CRATES.iterdir()),
         "tests": sum(len(re.findall(r"^\s*#\[test\]", it, re.M)) for it in code),
     }
     readme = README.read_text()
@@ -190,7 +190,9 @@ def stands(place: str) -> bool:
     gate, `CRATE/NAME`."""
     if "::" in place:
         return has_test(*place.split("::"))
-    return (TOP / place).is_file() or place.count("/") == 1 and has_edit(*place.split("/"))
+    crate, _, name = place.partition("/")
+    is_edit = name in {it.name for it in edits_of(CRATES / crate)}
+    return is_edit or (TOP / place).is_file()
 
 
 def planted() -> Facts:
@@ -209,11 +211,10 @@ def planted() -> Facts:
 
 def applied() -> Facts:
     """Yields each wrong body whose old text isn't once in its crate."""
-    for crate in sorted({it.parent.parent for it in CRATES.glob("*/wrong-bodies/*.edit")}):
+    for crate in sorted(it.parent for it in CRATES.glob("*/wrong-bodies.edits")):
         files = [it for part in ("src", "specs", "proofs") for it in (crate / part).rglob("*.*")]
         texts = {str(it.relative_to(crate)): source(it) for it in files}
-        for path in sorted(crate.glob("wrong-bodies/*.edit")):
-            edit = wrong_body.Edit(path)
+        for edit in edits_of(crate):
             yield None if edit.planted(texts) else f"{edit} doesn't apply"
 
 

@@ -79,7 +79,7 @@ class Affected(Case):
         ("crates/cred_many/proofs/Lib.antt", ["cred_many", "credkeep"]),
         ("crates/crash_laws/src/lib.rt", ["crash_laws"]),
         ("crates/cred_many/README.md", []),
-        ("crates/cred_many/wrong-bodies/new.edit", []),
+        ("crates/cred_many/wrong-bodies.edits", []),
         ("c/src/step.c", []),
     )
     def test_proofs(self, file: str, crates: list[str]) -> None:

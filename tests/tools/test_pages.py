@@ -124,12 +124,11 @@ class Pages(Case):
     def test_wrong_bodies(self) -> None:
         """A wrong body applies if its old text is once in its crate, and the tool looks at each."""
         self.assertIn(pages.applied, pages.OF_TREE)
-        edit = "fn: one\nold: {}\nnew: {{ 2 }}\n"
-        texts = {"low/src/lib.rt": "fn one() { 1 }\nfn two() { 3 } // { 3 }\n"}
-        for name, old in (("once", "{ 1 }"), ("twice", "{ 3 }"), ("none", "{ 4 }")):
-            texts[f"low/wrong-bodies/{name}.edit"] = edit.format(old)
+        olds = {"once": "{ 1 }", "none": "{ 4 }", "twice": "{ 3 }"}
+        edits = "\n".join(f"{name}: one\n- {old}\n+ {{ 2 }}\n" for name, old in olds.items())
+        code = "fn one() { 1 }\nfn two() { 3 } // { 3 }\n"
         room = self.room()
-        write_files(room, texts)
+        write_files(room, {"low/src/lib.rt": code, "low/wrong-bodies.edits": edits})
         with mock.patch.object(pages, "CRATES", room):
             found = [it for it in pages.applied() if it]
         self.assertEqual(found, ["low/none doesn't apply", "low/twice doesn't apply"])
