@@ -33,7 +33,6 @@ OF_PACKAGES: dict[str, tuple[str, ...]] = {
         "objdump",
         "strip",
     ),
-    "black": ("black",),
     "clang-format": ("clang-format",),
     "cmake": ("cmake",),
     "cryptsetup-bin": ("cryptsetup",),
@@ -58,7 +57,6 @@ OF_PACKAGES: dict[str, tuple[str, ...]] = {
         "x86_64-linux-gnu-gcc",
     ),
     "gcc-aarch64-linux-gnu": ("aarch64-linux-gnu-gcc",),
-    "groff-base": ("groff",),
     "iproute2": ("ip",),
     "make": ("make",),
     "mariadb-server": (
@@ -89,8 +87,6 @@ OF_PACKAGES: dict[str, tuple[str, ...]] = {
         "postfix",
     ),
     "prometheus-node-exporter": ("prometheus-node-exporter",),
-    "pycodestyle": ("pycodestyle",),
-    "pyflakes3": ("pyflakes3",),
     "python3-django": ("django-admin",),
     "qemu-user": (
         "qemu-aarch64",

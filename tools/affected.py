@@ -68,7 +68,7 @@ READERS: Mapping[str, Collection[str]] = {
     "docs/STATEMENTS.txt": (*PAGES, "tests/tools/test_without_rt"),
     "crates/": (),  # read by the programs over the crate
     "crates.txt": ("tests/packages/test_without_rt",),
-    "pyproject.toml": ("tests/tools/test_layout",),
+    "pyproject.toml": (),
     "bench/": ("tests/tools/test_layout", "tests/tools/test_measures"),
     "bin/": (*PACKAGE, "tests/server"),
     "bin/credkeep-ask": ("tests/server/test_ask", "tests/packages"),
@@ -218,6 +218,7 @@ def report(files: Collection[str]) -> Iterable[str]:
         yield of_tests(chosen)
     if files:
         yield "pages: python3 tools/pages.py"
+        yield "layout, names and types: make lint"
 
 
 def main() -> int:

@@ -152,8 +152,6 @@ PLANTS = (
         "librigzumal 2",
         "tests/packages/test_install",
     ),
-    Plant("packaging/folders", "#!/bin/sh\n", "#!/bin/sh\nif\n", "tests/tools/test_layout"),
-    Plant("packaging/rigzumal-tools/postinst", "set -e", "set -e\nif", "tests/tools/test_layout"),
     Plant("completions/bash", '$line == "$word"*', "$line == '$word'*", "tools/test_completions"),
     Plant("docs/site/build.py", "PLACES.get(path) or ", "", "docs/tests/test_site"),
     Plant("bench/turns.py", "def ", "def not_", "tests/tools/test_measures"),

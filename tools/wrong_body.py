@@ -113,11 +113,10 @@ class Edit:
         goal at its beginning, or the first letters."""
         folder = self.function.replace("::", "/")
         form = rf"^\./proofs/{folder}/\w+\.antt:\d+:\d+: error: (.*)"
-        errors = [it for it in re.findall(form, output, re.M) if not OF_NAMES.search(it)]
-        if not errors:
-            return ""
-        goal = re.match(r"`[^`]*`", errors[0])
-        return goal[0] if goal else errors[0][:80]
+        errors: Iterator[str] = (it[1] for it in re.finditer(form, output, re.M))
+        error = next((it for it in errors if not OF_NAMES.search(it)), "")
+        goal = re.match(r"`[^`]*`", error)
+        return goal[0] if goal else error[:80]
 
     def false_lemma(self, output: str) -> str:
         """Returns the lemma that the edit makes false, if the function's written answers use
@@ -127,7 +126,7 @@ class Edit:
         if not re.search(form, output, re.M):
             return ""
         form = r"^\./proofs/[A-Z]\w*\.antt:\d+:\d+: error: (`[^`]*`): (.*)"
-        lemmas: list[tuple[str, str]] = re.findall(form, output, re.M)
+        lemmas = re.findall(form, output, re.M)
         return next((name for name, said in lemmas if not OF_NAMES.search(said)), "")
 
 

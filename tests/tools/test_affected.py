@@ -121,7 +121,7 @@ class Affected(Case):
     def test_report(self) -> None:
         """A line for each part, with its minutes and its command."""
         lines = affected.report(["crates/crash_laws/src/laws.rt", "rust/src/ffi.rs"])
-        proofs, bodies, tests, pages = lines
+        proofs, bodies, tests, pages, layout = lines
         minutes = r", (about \d+ min|under a minute)"
         self.assertRegex(proofs, rf"^proofs: crash_laws{minutes}: rt ci crash_laws$")
         command = "python3 tools/wrong_bodies.py crash_laws"
@@ -129,6 +129,7 @@ class Affected(Case):
         command = "/usr/bin/python3 tools/run_tests.py rust/tests"
         self.assertRegex(tests, rf"^tests: 1 of \d+ jobs{minutes}: {command}$")
         self.assertEqual(pages, "pages: python3 tools/pages.py")
+        self.assertEqual(layout, "layout, names and types: make lint")
         self.assertEqual([*affected.report([])], [])
 
     def test_sample(self) -> None:
