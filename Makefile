@@ -2,6 +2,7 @@
 #
 #     make build                    the programs, the library for C and Python, libargon2, and the PAM module
 #     make test                     the gate with the tests of every folder, and the long ones that the gate omits
+#     make lint                     the layout, names and types of what people write
 #     make wrong-bodies             the gate with every wrong body, as before a release
 #     make deb                      Debian's packages: in c/out, python/out and c/pam/out, with programs that run
 #                                   on every x86-64 processor
@@ -43,7 +44,7 @@ CPU ?=
 HAS_PAM := $(wildcard /usr/include/security/pam_modules.h)
 PAM_WORDS = DESTDIR='$(DESTDIR)' PAMDIR='$(PAMDIR)' MANDIR='$(MAN)'
 
-.PHONY: build programs library test wrong-bodies deb wheel proved dist html bench install install-programs uninstall
+.PHONY: build programs library test lint wrong-bodies deb wheel proved dist html bench install install-programs uninstall
 .DELETE_ON_ERROR:
 # Two of these targets must not work on the same crates at the same time.
 .NOTPARALLEL:
@@ -62,6 +63,9 @@ library:
 test:
 	.ci/run
 	$(PYTHON) tools/run_tests.py --long
+
+lint:
+	tools/lint
 
 wrong-bodies:
 	$(PYTHON) tools/wrong_bodies.py --all -- $(RT) ci
