@@ -68,7 +68,8 @@ READERS: Mapping[str, Collection[str]] = {
     "docs/STATEMENTS.txt": (*PAGES, "tests/tools/test_without_rt"),
     "crates/": (),  # read by the programs over the crate
     "crates.txt": ("tests/packages/test_without_rt",),
-    "pyproject.toml": (),
+    "conftest.py": ("tests/tools/test_pytest",),
+    "pyproject.toml": ("tests/tools/test_pytest",),
     "bench/": ("tests/tools/test_layout", "tests/tools/test_measures"),
     "bin/": (*PACKAGE, "tests/server"),
     "bin/credkeep-ask": ("tests/server/test_ask", "tests/packages"),
