@@ -1,5 +1,5 @@
-"""The rules of tools/run_tests.py, for pytest: `pytest PATH -k WORD`, `-x`, `--lf` and so on run some
-of the tests, which are plain unittest, as strictly as a run of all.
+"""The rules of tools/run_tests.py, for pytest: `pytest PATH -k WORD`, `-x`, `--lf` and so on run
+some of the tests, which are plain unittest, as strictly as a run of all.
 
 A skip has to name what the machine lacks, and each part of a test counts. The library is built
 before the first module that needs it. The run ends what its tests started and left. But a hanging
