@@ -19,7 +19,7 @@ from collections.abc import Collection, Iterable, Mapping
 
 from jobs import FOLDERS, Job, jobs, seconds
 from tree import CRATES, TOP, all_below, below, listed, source
-from wrong_body import edits_of
+from wrong_body import wrong_bodies_of
 
 # The users of the library for C, and of each program and crate of tests: words of jobs.
 OF_LIBRARY = ("c/tests", "c/pam/tests", "python/tests", "rust/tests", "docs/tests")
@@ -60,7 +60,7 @@ READERS: Mapping[str, Collection[str]] = {
     "SECURITY.md": PAGES,
     "docs/": PAGES,
     "docs/ARCHITECTURE.md": (*PAGES, "tests/tools/test_walks", "frameworks/test_django"),
-    "docs/BUILDING.md": (*PAGES, "tests/tools/test_plants", "tests/packages/test_without_rt"),
+    "docs/BUILDING.md": (*PAGES, "tests/tools/test_mutate", "tests/packages/test_without_rt"),
     "docs/ERRORS.md": (*PAGES, "tests/server/test_protocol"),
     "docs/MIGRATING.md": (*PAGES, "tests/credkeep/test_import"),
     "docs/SERVERS.md": (*PAGES, *OF_SERVERS),
@@ -193,7 +193,7 @@ def count_with_time(wrong_bodies: int) -> str:
 
 
 def of_wrong_bodies(changed: Collection[str], again: Iterable[str]) -> str:
-    counts = {it: len(edits_of(CRATES / it)) for it in {*changed, *again}}
+    counts = {it: len(wrong_bodies_of(CRATES / it)) for it in {*changed, *again}}
     own = count_with_time(sum(counts[it] for it in changed))
     every = count_with_time(sum(counts.values()))
     more = f" (if a contract or a definition has changed {every})" if every != own else ""

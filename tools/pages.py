@@ -21,14 +21,14 @@ import subprocess
 import sys
 from collections.abc import Iterable, Iterator
 
-import contracts
 import definitions_page
+import items
 import pictures
 import promises
 import statements
 import tree
 from tree import CRATES, TOP, has_test, is_test_or_example, listed, report, source
-from wrong_body import edits_of
+from wrong_body import wrong_bodies_of
 
 PAGES = [
     *sorted(TOP.glob("*.md")),
@@ -119,7 +119,7 @@ def house() -> Facts:
         "bytes in README.md": len(readme.encode()),
         "lines of over 100 columns in src/ and specs/": lines,
         "lines that tools/english.txt finds": found_in_english(),
-        **contracts.shared_clauses(),
+        **items.shared_clauses(),
     }
     for what, count in counts.items():
         wrong = f"{count} {what}: the limit is {MOST[what]}"
@@ -139,7 +139,7 @@ def figures() -> Facts:
     code = [source(it) for it in CRATES.glob("*/src/**/*.rt")]
     there = {
         "crates": len(listed()),
-        "wrong bodies": sum(len(edits_of(it)) for it in CRATES.iterdir()),
+        "wrong bodies": sum(len(wrong_bodies_of(it)) for it in CRATES.iterdir()),
         "tests": sum(len(re.findall(r"^\s*#\[test\]", it, re.M)) for it in code),
     }
     readme = README.read_text()
@@ -191,7 +191,7 @@ def stands(place: str) -> bool:
     if "::" in place:
         return has_test(*place.split("::"))
     crate, _, name = place.partition("/")
-    is_edit = name in {it.name for it in edits_of(CRATES / crate)}
+    is_edit = name in {it.name for it in wrong_bodies_of(CRATES / crate)}
     return is_edit or (TOP / place).is_file()
 
 
@@ -214,7 +214,7 @@ def applied() -> Facts:
     for crate in sorted(it.parent for it in CRATES.glob("*/wrong-bodies.edits")):
         files = [it for part in ("src", "specs", "proofs") for it in (crate / part).rglob("*.*")]
         texts = {str(it.relative_to(crate)): source(it) for it in files}
-        for edit in edits_of(crate):
+        for edit in wrong_bodies_of(crate):
             yield None if edit.planted(texts) else f"{edit} doesn't apply"
 
 

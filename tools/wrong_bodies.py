@@ -38,7 +38,7 @@ import tempfile
 import threading
 
 from tree import CRATES, RT, TOP, all_below, below, kit, listed, need_rt, source, tell_each
-from wrong_body import edits_of, groups
+from wrong_body import wrong_bodies_of, groups
 
 SUMS = TOP / "tools/wrong_bodies.sums"
 EVERY = 30
@@ -72,7 +72,7 @@ class Bench:
     def __init__(self, crate, libraries, places):
         self.crate, self.libraries, self.places = crate, libraries, places
         at = CRATES / crate
-        self.edits = edits_of(at)
+        self.edits = wrong_bodies_of(at)
         self.texts = {}
         for part in ("src", "specs", "proofs"):
             for file in (at / part).rglob("*"):
@@ -181,7 +181,7 @@ class Trial:
             link(built, self.libraries / built.name)
 
     def start(self, name):
-        if name not in self.crates and edits_of(CRATES / name):
+        if name not in self.crates and wrong_bodies_of(CRATES / name):
             self.crates[name] = self.pool.submit(self.try_crate, name)
 
     def settle(self, edit, verdict, output):
@@ -301,7 +301,7 @@ class Trial:
                 say(f"{name}: the script couldn't try its wrong bodies: {task.exception()}")
         # a COMMAND whose words the script can't read would let all pass
         for name in () if status or self.asked.crates else listed():
-            if edits_of(CRATES / name) and name not in self.crates:
+            if wrong_bodies_of(CRATES / name) and name not in self.crates:
                 self.failed.append(name)
                 say(f"{name}: no line says that the crate is proved")
         for edit in self.failed:

@@ -8,7 +8,7 @@ from unittest import mock
 from tests.helpers import TOP, Case, each, write_files
 
 sys.path.insert(0, str(TOP / "tools"))
-import contracts  # noqa: E402
+import items  # noqa: E402
 import pages  # noqa: E402
 import tree  # noqa: E402
 
@@ -110,14 +110,14 @@ class Pages(Case):
         of several lines count from its second function on. Examples don't count."""
         room = self.room()
         write_files(room, {"low/src/lib.rt": SHARING, "example_of_use/src/lib.rt": SHARING})
-        with mock.patch.object(contracts, "CRATES", room):
-            found = contracts.shared_clauses()
+        with mock.patch.object(items, "CRATES", room):
+            found = items.shared_clauses()
         self.assertEqual(found, {SHARED: 2, AGAIN: 4})
 
     def test_limits_of_shared_clauses(self) -> None:
         """The tool complains of more shared clauses than the limits allow."""
         counts = {SHARED: pages.MOST[SHARED] + 1, AGAIN: pages.MOST[AGAIN]}
-        with mock.patch.object(contracts, "shared_clauses", return_value=counts):
+        with mock.patch.object(items, "shared_clauses", return_value=counts):
             found = [it for it in pages.house() if it]
         self.assertEqual(found, [f"8 {SHARED}: the limit is 7"])
 

@@ -7,7 +7,7 @@ import sys
 
 from tests.helpers import TOP, Case, each, ended, write_files
 
-TOOLS = ("wrong_bodies.py", "wrong_body.py", "tree.py")
+TOOLS = [f"{it}.py" for it in ("wrong_bodies", "wrong_body", "edits", "items", "tree")]
 # `rt doc` names a kit, and `rt lib` leaves a library.
 RT = """#!/bin/sh
 [ "$1" = doc ] && exec echo "$KIT/START-HERE.md"
@@ -167,9 +167,9 @@ class WrongBodies(Case):
         self.assertEqual((status, lines[-1]), (0, f"high/two: refused, in two: {why}"))
 
     @each(
-        ("one\n- { 1 }", "no wrong body has this form:\ntwo: one\n- { 1 }\n"),
-        ("one\nold: { 1 }\nnew: { 2 }\n", "no wrong body has this form:\ntwo: one\nold: "),
-        (f"{EDITS['two']}\ntwo: {EDITS['one']}", "several wrong bodies are named two"),
+        ("one\n- { 1 }", "no edit has this form:\ntwo: one\n- { 1 }\n"),
+        ("one\nold: { 1 }\nnew: { 2 }\n", "no edit has this form:\ntwo: one\nold: "),
+        (f"{EDITS['two']}\ntwo: {EDITS['one']}", "several edits are named two"),
     )
     def test_form(self, text, why):
         """A block of another form, and a second block with a name, end the run with their text."""
