@@ -284,14 +284,23 @@ def callers(page: pathlib.Path) -> Facts:
 
 
 def rooms() -> Facts:
-    """Checks that each crate has a page, and a place in the picture."""
-    picture = (TOP / "docs/pictures/crates.svg").read_text()
+    """Checks that each crate has a page, and a place in the picture, above those that it uses
+    directly: without those that one of them uses."""
+    text, picture = (source(TOP / f"docs/pictures/crates.{it}") for it in ("dot", "svg"))
+    drawn = {name: lows.split() for name, lows in re.findall(r"^(\w+) -> \{ (.*) \};$", text, re.M)}
     for name in sorted(listed()):
         is_there = (CRATES / name / "README.md").is_file()
         yield None if is_there else f"crates/{name}/README.md isn't there"
         if not is_test_or_example(name):
-            lacks = f"docs/pictures/crates.svg lacks {name}: run tools/pictures.py"
-            yield None if f">{name}</text>" in picture else lacks
+            used = tree.below(name)
+            indirect = {low for it in used for low in tree.all_below(it)}
+            direct = sorted({*used} - indirect)
+            is_right = sorted(drawn.get(name, [])) == direct
+            wrong = f"docs/pictures/crates.dot: {name} is not above {', '.join(direct)} alone"
+            yield None if is_right else wrong
+            shown = [f">{name}</text>", *(f"<title>{name}&#45;&gt;{low}<" for low in direct)]
+            lacks = f"docs/pictures/crates.svg lacks {name} as crates.dot has it: draw it by dot"
+            yield None if all(it in picture for it in shown) else lacks
 
 
 def order() -> Facts:

@@ -48,6 +48,8 @@ impl Other {
     }
 }
 """
+# The names and arrows of a picture.
+DRAWN = "low other high high&#45;&gt;low high&#45;&gt;other"
 SHARED = "clauses that two functions share"
 AGAIN = "lines of longer clauses that stand again"
 
@@ -94,6 +96,27 @@ class Pages(Case):
         with patched, mock.patch.object(pages, "listed", lambda: CRATES):
             with mock.patch.object(tree, "listed", lambda: CRATES):
                 return [it for it in pages.order() if it]
+
+    @each(
+        ("high -> { low other };", DRAWN, []),
+        ("high -> { low };", DRAWN, ["dot: high is not above low, other alone"]),
+        ("high -> { low other };", DRAWN.replace(" high&#45;&gt;other", ""), ["svg lacks high"]),
+        ("high -> { low other };", DRAWN.replace(" other", "", 1), ["svg lacks other"]),
+    )
+    def test_picture(self, dot: str, svg: str, wrong: list[str]) -> None:
+        """The picture has each crate above those that it uses."""
+        room = self.room()
+        shown = "".join(f">{it}</text><title>{it}</title>" for it in svg.split())
+        write_files(
+            room, {"docs/pictures/crates.dot": f"{dot}\n", "docs/pictures/crates.svg": shown}
+        )
+        write_files(room, {f"{it}/README.md": "" for it in CRATES})
+        with mock.patch.multiple(pages, TOP=room, CRATES=room, listed=lambda: CRATES):
+            with mock.patch.object(tree, "listed", lambda: CRATES):
+                found = [it for it in pages.rooms() if it]
+        self.assertEqual(len(found), len(wrong))
+        for fault, part in zip(found, wrong):
+            self.assertIn(f"docs/pictures/crates.{part}", fault)
 
     def test_merges(self) -> None:
         """A file that keeps a mark of a merge is named, and a quoted mark is none."""
