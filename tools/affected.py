@@ -60,7 +60,7 @@ READERS: Mapping[str, Collection[str]] = {
     "SECURITY.md": PAGES,
     "docs/": PAGES,
     "docs/ARCHITECTURE.md": (*PAGES, "tests/tools/test_walks", "frameworks/test_django"),
-    "docs/BUILDING.md": (*PAGES, "tests/tools/test_mutate", "tests/packages/test_without_rt"),
+    "docs/BUILDING.md": (*PAGES, "tests/packages/test_without_rt"),
     "docs/ERRORS.md": (*PAGES, "tests/server/test_protocol"),
     "docs/MIGRATING.md": (*PAGES, "tests/credkeep/test_import"),
     "docs/SERVERS.md": (*PAGES, *OF_SERVERS),

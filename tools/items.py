@@ -46,6 +46,8 @@ class Clause:
     kind: str
     name: str
     text: str
+    # The place of a contract's clause in the text.
+    start: int = 0
 
 
 @dataclasses.dataclass
@@ -174,7 +176,8 @@ class File:
         while stop < end and self.tokens[stop].text in CLAUSES:
             opens = self.until(stop, end, {"{"})
             name = "".join(it for it in self.words(stop + 1, opens) if it not in ("*", ":"))
-            item.clauses.append(Clause(self.tokens[stop].text, name, self.between(opens)))
+            word = self.tokens[stop]
+            item.clauses.append(Clause(word.text, name, self.between(opens), word.start))
             stop = self.closing[opens] + 1
             stop += stop < end and self.tokens[stop].text == ","
         if stop < end and self.tokens[stop].text == "{":

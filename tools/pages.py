@@ -34,7 +34,7 @@ PAGES = [
     *sorted(TOP.glob("*.md")),
     *sorted(TOP.glob("docs/*.md")),
     *sorted(CRATES.glob("*/README.md")),
-    *(TOP / it for it in ("bench/RESULTS.md", "examples/login_page/README.md")),
+    *(TOP / it for it in ("bench/RESULTS.md", "examples/login_page/README.md", "tools/README.md")),
 ]
 README, BUILDING = TOP / "README.md", TOP / "docs/BUILDING.md"
 

@@ -51,6 +51,12 @@ class Layout(Case):
         self.assertEqual([str(it.relative_to(TOP)) for it in long], [])
         self.assertEqual([name for it in files() for name in long_functions(it)], [])
 
+    def test_list_of_tools(self) -> None:
+        """tools/README.md has each file of its folder."""
+        names = {it.name for it in (TOP / "tools").iterdir() if it.is_file()}
+        page = (TOP / "tools/README.md").read_text()
+        self.assertEqual([it for it in names - {"README.md"} if it not in page], [])
+
     def lint(self, failing: str, missing: str) -> Ended:
         """Runs tools/lint over stand-ins of its tools, of which one fails and one is missing."""
         need("git")

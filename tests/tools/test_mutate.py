@@ -254,7 +254,7 @@ class Plants(Case):
         for mistake in found:
             with self.subTest(mistake.name):
                 self.assertNotEqual(jobs.jobs(mistake.tests[-1:]), [])
-        page = (TOP / "docs/BUILDING.md").read_text()
+        page = (TOP / "tools/README.md").read_text()
         self.assertIn(f"refuse each of {len(found)} mistakes", page)
 
     @each(("grep -q right file", "refused", 0), ("true", "survived", 1), ("false", "", 1))
