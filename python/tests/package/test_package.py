@@ -1,5 +1,5 @@
 """Tests of the installed and the packed package, and of its types. They need Debian's packages
-python3-venv, mypy, black, python3-django, python3-passlib and python3-flask.
+python3-venv, mypy, python3-django, python3-passlib and python3-flask.
 """
 
 import ast
@@ -220,11 +220,6 @@ print(it.is_built(top))"""
         self.assertIn(f"librigzumal1 (>= {VERSION})", run("dpkg-deb", "-f", deb, "Depends"))
         packages = str(room / "usr/lib/python3/dist-packages")
         check_hashing("/usr/bin/python3", {**OVER_LIBRARY, "PYTHONPATH": packages}, room)
-
-    def test_types(self):
-        cache = f"--cache-dir={ROOM / 'mypy'}"
-        need("mypy")
-        run("mypy", "--strict", cache, "rigzumal", at=PYTHON)
 
     def test_types_of_a_reply(self):
         """mypy reports a reply of accounts that is used as a truth value."""
