@@ -106,7 +106,7 @@ def tag_of(password: bytes, salt: str) -> str:
 
 
 def parts_of(setting: str) -> tuple[str, str]:
-    """The costs in a setting, and its salt if it has one."""
+    """The costs in a setting, and its salt, which a line's has."""
     costs, _, salt = setting.rpartition("$")
     return (setting, "") if "=" in salt else (costs, salt)
 
@@ -167,7 +167,7 @@ class Accounts:
         return said
 
     def made(self, password: bytes, setting: str) -> str:
-        """A record of a password; the setting may end before its salt."""
+        """A record of a password, by default with the costs of new records."""
         costs, salt = parts_of(setting or self.costs)
         salt = salt or os.urandom(12).hex()
         return f"{costs}${salt}${tag_of(password, salt)}"
@@ -190,7 +190,7 @@ class Accounts:
         passwords = [decoded(it) for it in fields[1 : 1 + secret]]
         if None in passwords:
             return "bad 13 password"
-        if count and not fields[-1].startswith("$"):
+        if count and not all(parts_of(fields[-1])):
             return "bad 1 shape"
         plain = [it or b"" for it in passwords]
         return self.done(operation, fields, plain, fields[-1] if count else "")

@@ -6,9 +6,11 @@ from served import CHEAP, FAST_BOOK, Case, real_book
 
 DEARER, SALT = "$argon2id$v=19$m=128,t=1,p=1", "c29tZXNhbHQ"
 SCRYPT = "$scrypt$ln=4,r=8,p=1"
-# Settings with a salt and without one, and the costs of a record after them.
+# Settings with a salt, and refused ones without it; and the costs of a record after them.
 LINES = f"""
 account ada -> ok
+enrol ada {{secret}} {CHEAP} -> bad 1 shape
+enrol ada {{secret}} x -> bad 1 shape
 enrol ada {{secret}} {CHEAP}${SALT} -> enrolled
 show ada -> {CHEAP}${SALT}$
 verify ada {{secret}} -> yes
@@ -16,6 +18,7 @@ verify ada {{wrong}} -> no
 upgrade ada {{secret}} {CHEAP}${SALT} -> kept
 upgrade ada {{secret}} {CHEAP}$YW5vdGhlcnNhbHQ -> kept
 upgrade ada {{secret}} -> kept
+upgrade ada {{secret}} {DEARER} -> bad 1 shape
 upgrade ada {{wrong}} {DEARER}${SALT} -> wrong
 upgrade ada {{secret}} {DEARER}${SALT} -> upgraded
 show ada -> {DEARER}${SALT}$
@@ -24,19 +27,21 @@ verify ada {{wrong}} -> no
 upgrade ada {{secret}} {SCRYPT}${SALT} -> upgraded
 show ada -> {SCRYPT}${SALT}$
 verify ada {{secret}} -> yes
-upgrade ada {{secret}} {DEARER} -> upgraded
-show ada -> {DEARER}$
-verify ada {{secret}} -> yes
+login ada {{wrong}} -> no
 login ada {{secret}} -> yes
 show ada -> {CHEAP}$
-change ada {{secret}} {{fresh}} {SCRYPT} -> replaced
-show ada -> {SCRYPT}$
-verify ada {{fresh}} -> yes
-change ada {{fresh}} {{secret}} {DEARER}${SALT} -> replaced
-show ada -> {DEARER}${SALT}$
 verify ada {{secret}} -> yes
-reset ada {{fresh}} {CHEAP}${SALT} -> replaced
-show ada -> {CHEAP}${SALT}$
+change ada {{secret}} {{fresh}} {SCRYPT} -> bad 1 shape
+change ada {{secret}} {{fresh}} {SCRYPT}${SALT} -> replaced
+show ada -> {SCRYPT}${SALT}$
+verify ada {{fresh}} -> yes
+upgrade ada {{fresh}} -> upgraded
+show ada -> {CHEAP}$
+change ada {{fresh}} {{secret}} -> replaced
+show ada -> {CHEAP}$
+verify ada {{secret}} -> yes
+reset ada {{fresh}} {DEARER}${SALT} -> replaced
+show ada -> {DEARER}${SALT}$
 verify ada {{fresh}} -> yes
 remove ada {{secret}} -> wrong
 remove ada {{fresh}} -> removed

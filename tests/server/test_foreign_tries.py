@@ -5,7 +5,7 @@ from served import FRESH, SECRET, WRONG, Service, field_of
 from tests.helpers import run
 from daemon.book import password_of
 
-SETTING = "$fast$c=2"
+SETTING = "$fast$c=2$c2FsdHNhbHQ"
 # Tries of each operation, with their passwords left out.
 TRIES = ["verify {} {}", "login {} {}", "remove {} {}"]
 TRIES += [f"change {{}} {{}} {FRESH}", f"change {{}} {{}} {FRESH} {SETTING}"]

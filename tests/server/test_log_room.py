@@ -22,8 +22,8 @@ os.statvfs = lambda _: types.SimpleNamespace(f_blocks=0)
 del sys.argv[:2]
 runpy.run_path(sys.argv[0], run_name="__main__")
 """
-# In place of fallocate: notes each call, waits while the file `wait` exists, and fails with the text in
-# the file `fault`, if it exists.
+# In place of fallocate: notes each call, waits while the file `wait` exists, and fails with the
+# text in the file `fault`, if it exists.
 STAND_IN = """#!/bin/sh
 echo "$*" >> {room}/calls
 while [ -e {room}/wait ]; do sleep 0.05; done

@@ -232,7 +232,7 @@ admin account ada -> bad 1 exists |
 login known ada -> yes |
 admin list - 5 -> names ada |
 login delete ada -> denied |
-admin upgrade ada {wrong} $fast$c=2 -> upgraded | ada upgraded
+admin upgrade ada {wrong} $fast$c=2$c2FsdHNhbHQ -> upgraded | ada upgraded
 admin remove ada {wrong} -> removed | ada removed
 admin reset ada {secret} -> enrolled | ada enrolled
 admin login ada {secret} -> yes | ada yes

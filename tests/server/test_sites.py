@@ -166,6 +166,12 @@ def assert_apart(port: int) -> None:
             for each, status in zip((port, 8084), statuses):
                 said = fetched(f"ada:{password}", each, 1)
                 same(said, {status: 1}, f"{password} at {each}, {time}")
+    # The end of the other site's name, before what this site's user would send.
+    for user in ("ada:secret", "ada:mailword"):
+        forged = f"2Basic {base64.b64encode(user.encode()).decode()}"
+        line = "curl -s -o /dev/null -w '%{http_code}' -H"
+        said = shell(f"{line} 'Authorization: {forged}' http://127.0.0.1:{port}/1.png")
+        same(said, "401", forged)
 
 
 class Sites(Case):
@@ -199,8 +205,8 @@ class Sites(Case):
         pathlib.Path("/etc/pam.d/second").write_text(service)
         add_second_site(
             "cached",
-            ("upstream login", "upstream second"),
-            ("//login/", "//second/"),
+            ("upstream login", "upstream login2"),
+            ("//login/", "//login2/"),
             ("nginx-login.sock", "nginx-second.sock"),
             ('auth_pam_service_name "nginx"', 'auth_pam_service_name "second"'),
             ("8081", "8084"),

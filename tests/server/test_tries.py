@@ -56,7 +56,7 @@ class Tries(Case):
             "verify ada {secret} -> yes",
             "login ada {secret} -> yes",
             "upgrade ada {secret} -> kept",
-            "upgrade ada {secret} $fast$c=3 -> upgraded",
+            "upgrade ada {secret} $fast$c=3$c2FsdHNhbHQ -> upgraded",
             "change ada {secret} {secret} -> replaced",
             "reset ada {secret} -> replaced",
         ):

@@ -322,8 +322,8 @@ class Web(Case):
         begun("--http", f"{RUN.parent}/mail/http.sock", book="mail").enrol(ada="mailword")
         add_second_site(
             "http",
-            ("upstream book", "upstream second"),
-            ("//book/", "//second/"),
+            ("upstream book", "upstream book2"),
+            ("//book/", "//book2/"),
             ("users/http.sock", "mail/http.sock"),
             ("8083", "8084"),
         )

@@ -28,12 +28,13 @@ def check_password(user: Any, password: Any) -> bool:
     """Whether the password is the user's, like `user.check_password`.
 
     The call replaces a record with old costs, or from another of PASSWORD_HASHERS, if the row still
-    has that record. A wrong password costs as many hashes as a right one. After a right password
-    `user.password` is the record that was checked.
+    has that record. If the first of PASSWORD_HASHERS is ours, a wrong password costs as many hashes
+    as a right one. After a right password `user.password` is the record that was checked.
     """
     if users.has_own_methods(user):
-        return bool(user.check_password(password))
-    right = records.judge_login(user, password)
+        right = bool(user.check_password(password))
+    else:
+        right = records.judge_login(user, password)
     if not right and _is_old(user.password):
         _spend(password)
     return right
@@ -67,11 +68,12 @@ def change_judged(user: Any, old_password: Any, new_password: Any, judged: Optio
     If the row still has that record, the call doesn't check the password again.
     """
     if users.has_own_methods(user):
-        return _change_by_methods(user, old_password, new_password)
-    changed = records.judge_change(user, old_password, new_password, judged)
-    if changed:
-        password_validation.password_changed(new_password, user)
+        changed = _change_by_methods(user, old_password, new_password)
     else:
+        changed = records.judge_change(user, old_password, new_password, judged)
+        if changed:
+            password_validation.password_changed(new_password, user)
+    if not changed:
         _spend(new_password)
     return changed
 

@@ -204,6 +204,13 @@ class OnPostgres(engines.OnPostgres, Base):
         self.assertEqual((self.stands(), self.stands("ben")), records)
         self.assertIn("no record can be written", self.said(accounts))
 
+    def test_a_standby_that_is_set_to_read_only(self):
+        """A change waits for another server: a standby may have such a setting of its own."""
+        standby, _ = self.reading()
+        only_reads = {"options": "-c default_transaction_read_only=on"}
+        accounts = self.accounts(connect=lambda: standby(**only_reads), patience=0.1)
+        self.assertRaisesRegex(Unavailable, self.only_reads, called, accounts, "change ann one two")
+
     # ---- a standby that doesn't answer
 
     @contextlib.contextmanager

@@ -17,8 +17,8 @@ from django.test.utils import CaptureQueriesContext
 from django.utils.functional import SimpleLazyObject
 from django.views.debug import ExceptionReporter
 from meanwhile import Ann, Cheap, Router, cheap, connected, reset_elsewhere, stands
-from meanwhile import ACTS, BACKEND, NEW, OF_MIXIN, OLD, SETS
-from users_app.models import Person
+from meanwhile import ACTS, BACKEND, NEW, OF_MIXIN, OLD, SETS, signed_up
+from users_app.models import Peppered, Person
 
 import rigzumal
 from rigzumal.django import backends, forms, passwords
@@ -191,6 +191,18 @@ class Hashes(Ann, TestCase):
             found = self.hashed(passwords.change_password, self.ann, old, "new")
             self.assertEqual(found, [old, "new"])
             self.ann.refresh_from_db()
+
+    def test_methods_of_the_model(self):
+        """A model's own methods call those of the mixin."""
+        for memory, count in ((64, 1), (128, 2)):
+            for password in ("old", "wrong"):
+                user = signed_up(Peppered, username=f"{password}{memory}")
+                given = self.subTest(memory=memory, password=password)
+                with given, cheap(memory=memory):
+                    found = self.hashed(passwords.check_password, user, password)
+                    self.assertEqual(len(found), count)
+                    found = self.hashed(passwords.change_password, user, password, "new")
+                    self.assertEqual(len(found), 2)
 
     def test_a_text_that_utf_8_cannot_encode(self):
         with cheap(memory=128):

@@ -30,8 +30,12 @@ def has_room(folder: str, needed: int = NEEDED) -> bool:
 
 
 class LogRoom:
-    """The blocks of the book's log, which the server allocates before the book writes them. A
-    change of an account then needs no free block, so nobody who fills the disk ends the book."""
+    """The blocks of the book's log, which the server allocates before the book writes them.
+
+    A record that replaces one of the same length then needs no free block, and doesn't end the book
+    on a disk that somebody fills. A filesystem that writes each block anew, such as Btrfs, still
+    needs free ones.
+    """
 
     def __init__(self, book: str) -> None:
         self.log = f"{book}-wal"

@@ -240,7 +240,7 @@ class Service:
             answer = await self.rounds.ask(request.words, is_alone=is_alone)
         else:
             answer = await self.book.ask(*request.words)
-        if word == b"unlock" and answer == UNLOCKED:
+        if answer == UNLOCKED:
             await self.book.ask(b"forgive", *fields)  # each try at the locked account has failed
         return answer
 
