@@ -17,7 +17,7 @@ TOOLS = {
     "flake8": ("tests/helpers.py", "bin/credkeep-ask"),
     "mypy": ("python/rigzumal",),
     "clang-format": ("c/pam/pam_rigzumal.c", "tests/shims/calls.c", "c/include/rigzumal.h"),
-    "shellcheck": ("packaging/rigzumal-tools/postrm", "bin/launcher.in", ".ci/run", "tools/lint"),
+    "shellcheck": ("packaging/rigzumal-tools/postrm", "bin/launcher.in", ".ci/run", "completions/bash"),
     "groff": ("man/rigzumal.3",),
 }
 # A stand-in of a tool: it notes its words, and may find a fault.
