@@ -110,7 +110,7 @@ class Connections:
             if not isinstance(done, Undone):
                 return done
             cause, is_dead = done.cause, False
-            is_refused = done.reason and self.table.dialect.refuses_connection(cause)
+            is_refused = self._is_refused(done)
             if waits is None:
                 waits = Waits(self.patience if patience is None else patience, begun)
             if isinstance(cause, Lost):
@@ -123,6 +123,12 @@ class Connections:
             if waits.is_first:
                 LOGGER.warning("retrying an operation: %s", name)
             await self.runtime.pause(waits.next(is_dead))
+
+    def _is_refused(self, done: Undone) -> bool:
+        """Whether a server itself refused the connection that the job needed."""
+        if not done.reason or done.cause is None:
+            return False
+        return self.table.dialect.refuses_connection(done.cause)
 
     async def _once(self, pool: Any, job: Job[Any]) -> Any:
         """Runs a job once. Returns Undone if the job stored nothing and may run again."""

@@ -111,8 +111,8 @@ class Postgres(Dialect):
     def only_reads(self, conn: Any) -> bool:
         # From PostgreSQL 14 on, the server reports both settings with each connection.
         setting = conn.info.parameter_status
-        is_frozen = setting("default_transaction_read_only") == "on"
-        return is_frozen and setting("in_hot_standby") != "on"
+        is_frozen: bool = setting("default_transaction_read_only") == "on"
+        return is_frozen and bool(setting("in_hot_standby") != "on")
 
     async def commit(self, session: Session) -> None:
         done = await self._committed(session, self.commit_sql)
