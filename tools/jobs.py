@@ -64,8 +64,8 @@ FOLDERS = (
     Folder("rust/tests"),
 )
 
-# Programs of tools/ that are tests too, with their words and, if only rt builds it, the program that
-# they run.
+# Programs of tools/ that are tests too, with their words and, if only rt builds it, the program
+# that they run.
 PROGRAMS = {
     "refuse_memory": ((), "crates/book_tests/out/book_tests_tests"),
     "peak_memory": ((), "crates/hash_tests/out/hash_tests_tests"),

@@ -1,5 +1,5 @@
-"""tools/compile_proved.py over a toolchain of stand-ins: its changes of proved modules, its objects,
-and its refusals."""
+"""tools/compile_proved.py over a toolchain of stand-ins: its changes of proved modules, its
+objects, and its refusals."""
 
 from __future__ import annotations
 

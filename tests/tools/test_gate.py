@@ -10,8 +10,8 @@ GATE, PAGES = "tools/tree.py run the gate", "tools/pages.py"
 PACKAGES = "tools/debian_packages.py"
 PROOFS = "tools/compile_proved.py --check python3 tools/wrong_bodies.py -- rt ci"
 QUICK, SLOW = "-s check", "tools/run_tests.py --slow"
-# A Python and a make that note their words, later for the packages, and fail at the step that FAILING
-# names.
+# A Python and a make that note their words, later for the packages, and fail at the step that
+# FAILING names.
 STUB = """#!/bin/sh
 case "$1" in *packages.py) sleep 0.5 ;; esac
 echo "$*" >> steps

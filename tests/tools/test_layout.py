@@ -17,7 +17,12 @@ TOOLS = {
     "flake8": ("tests/helpers.py", "bin/credkeep-ask"),
     "mypy": ("python/rigzumal",),
     "clang-format": ("c/pam/pam_rigzumal.c", "tests/shims/calls.c", "c/include/rigzumal.h"),
-    "shellcheck": ("packaging/rigzumal-tools/postrm", "bin/launcher.in", ".ci/run", "completions/bash"),
+    "shellcheck": (
+        "packaging/rigzumal-tools/postrm",
+        "bin/launcher.in",
+        ".ci/run",
+        "completions/bash",
+    ),
     "groff": ("man/rigzumal.3",),
 }
 # A stand-in of a tool: it notes its words, and may find a fault.
@@ -75,14 +80,13 @@ class Layout(Case):
         """Each tool looks at its files, whatever another finds. One that finds a fault or is
         missing is named."""
         done = self.lint(failing, missing)
-        bad = failing or missing
         last = done.written.splitlines()[-1]
-        self.assertEqual((done.status, last.partition(":")[0]), (int(bool(bad)), "lint"))
-        self.assertRegex(
-            last, {"": "passed$", "groff": "FAILED: manuals$"}.get(bad, f"FAILED: {bad}")
-        )
-        if missing:
-            self.assertIn(f"{missing}: not found", done.faults + done.written)
+        if failing:
+            named = "manuals" if failing == "groff" else failing
+            self.assertRegex(last, f"^lint: FAILED: {named}")
+        else:
+            self.assertRegex(last, f"^lint: missing: {missing}" if missing else "^lint: passed$")
+        self.assertEqual(done.status, 1 if failing else 3 if missing else 0)
         asked = self.asked.read_text().splitlines()
         for tool, names in TOOLS.items():
             words = {it for line in asked for it in line.split() if line.startswith(f"{tool} ")}
