@@ -99,6 +99,17 @@ class LogRoom(Case):
         (self.folder / "fault").unlink()
         service.talk("admin disable bob -> disabled")
 
+    def test_a_disk_that_hangs(self) -> None:
+        """An allocation that doesn't end counts as no room: users log in, and changes are
+        refused."""
+        self.serving(folder=self.folder).enrol(ada="secret").stop()
+        (self.folder / "wait").touch()
+        service = self.over("--tries", "0")
+        self.assertIn(f"{self.log}: fallocate hangs\n", service.log())
+        service.talk("login verify ada {secret} -> yes\nadmin disable ada -> bad 19 disk")
+        (self.folder / "wait").unlink()
+        service.talk("admin disable ada -> disabled")
+
     def test_a_book_that_ends_meanwhile(self) -> None:
         """If the book ends while the room of its new log is being allocated, so does the server."""
         service = self.over().enrol(ada="secret")

@@ -12,6 +12,7 @@ from .journal import log_seldom
 NEEDED = 8 << 20
 FULL = b"bad 19 disk"  # the answer to a change that the server doesn't try
 LOG_ROOM = 6 << 20  # bytes of the book's log at most, with those of its last change
+PATIENCE = 10.0  # seconds for an allocation: logins wait for that after a start and an import
 NO_ROOM = [os.strerror(number).encode() for number in (errno.ENOSPC, errno.EDQUOT)]
 
 
@@ -57,8 +58,8 @@ class LogRoom:
 
 
 async def has_allocated(file: str) -> bool:
-    """Allocates blocks behind the end of a file. Returns False if the disk has no room. A
-    filesystem that can't allocate blocks ahead counts as one with room.
+    """Allocates blocks behind the end of a file. Returns False if the disk has no room, or hangs.
+    A filesystem that can't allocate blocks ahead counts as one with room.
 
     fallocate(1) does this. Python's posix_fallocate changes the size of the file, and on some
     filesystems writes into the file, while the book writes there too. A thread in such a call would
@@ -76,7 +77,12 @@ async def has_allocated(file: str) -> bool:
     except OSError as fault:
         log_seldom(words[0], "%s: %s", words[0], fault.strerror)
         return isinstance(fault, FileNotFoundError)
-    _, faults = await process.communicate()
+    try:
+        _, faults = await asyncio.wait_for(process.communicate(), PATIENCE)
+    except asyncio.TimeoutError:
+        process.kill()
+        log_seldom(words[0], "%s: %s hangs", file, words[0])
+        return False
     if process.returncode:
         log_seldom(words[0], "%s: %s", file, faults.decode(errors="replace").strip())
     return not any(text in faults for text in NO_ROOM)
