@@ -205,8 +205,10 @@ class Progress:
                 print(f"{done.output}\n{job.name}: FAILED, {done.seconds:.0f} s", flush=True)
 
     def note(self) -> None:
-        """Stores the time of each job."""
-        known = seconds() | {it.job.name: round(it.seconds) for it in self.done}
+        """Stores the time of each job, as a quiet machine would need it."""
+        load = helpers.busy()
+        took = {it.job.name: round(max(it.processor, it.seconds / load)) for it in self.done}
+        known = seconds() | took
         SECONDS.write_text(json.dumps(known, indent=1, sort_keys=True) + "\n")
 
     def tell_folders(self) -> None:
