@@ -1,8 +1,8 @@
 """The rules of tools/run_tests.py, for pytest: `pytest PATH -k WORD`, `-x`, `--lf` and so on run
 some of the tests, which are plain unittest, as strictly as a run of all.
 
-A skip has to name what the machine lacks, and each part of a test counts. The library is built
-before the first module that needs it. The run ends what its tests started and left. But a hanging
+A skip has to name what the machine lacks, and each part of a test counts. make links the programs
+and the libraries before the first module. The run ends what its tests started and left. But a hanging
 test has no limit of its own here, and one that calls os._exit ends the run, with its status.
 """
 
@@ -50,7 +50,7 @@ def pytest_configure(config: Any) -> None:
 
 
 @functools.cache
-def build_library() -> None:
+def build() -> None:
     if fault := run_tests.fault_of_build():
         pytest.exit(fault, 1)
 
@@ -135,8 +135,7 @@ def pytest_make_collect_report(collector: Any) -> Iterator[None]:
     folder = folder_of(collector.path) if isinstance(collector, pytest.Module) else None
     if folder:
         enter(place_of(folder))
-        if folder.needs_library:
-            build_library()
+        build()
     report = (yield).get_result()
     if report.skipped:
         judge_skip(report, report.longrepr[2])
