@@ -26,8 +26,7 @@ LEAVES = """    def test_leaves(self):
 """
 PASSED = {f"tests/tools/test_well.py::Tests::test_{it}" for it in ("one", "two")}
 PASSED |= {f"c/tests/test_calls.py::Tests::test_{it}" for it in ("one", "two", "three")}
-PASSED |= {"tests/server/test_clients.py::Tests::test_quiet"}
-PASSED |= {"tests/server/test_turns.py::Tests::test_has_no_class_above"}
+PASSED |= {"tests/server/test_turns.py::Tests::test_beside_its_module"}
 PASSED |= {"tests/credbook/test_false.py::Tests::test_well"}
 FALSE = "error fails fails_as_expected fails_in_part skipped_for_an_unknown_program"
 FALSE += " skipped_for_what_is_there skipped_without_a_reason"
