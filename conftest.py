@@ -2,8 +2,9 @@
 some of the tests, which are plain unittest, as strictly as a run of all.
 
 A skip has to name what the machine lacks, and each part of a test counts. make links the programs
-and the libraries before the first module. The run ends what its tests started and left. But a hanging
-test has no limit of its own here, and one that calls os._exit ends the run, with its status.
+and the libraries before the first module. The run ends what its tests started and left. But a
+hanging test has no limit of its own here, and one that calls os._exit ends the run, with its
+status.
 """
 
 from __future__ import annotations
