@@ -60,20 +60,29 @@ PAM_WORDS = DESTDIR='$(DESTDIR)' PAMDIR='$(PAMDIR)' MANDIR='$(MAN)'
 build: present library programs
 	$(if $(HAS_PAM),$(MAKE) -C c/pam,@echo 'pam_rigzumal.so is left out: libpam0g-dev is not there')
 
-# rt compiles c/proved again if it is of other sources. Without rt, make stops.
+# If the sources have changed, rt compiles c/proved again. Without rt, or for a damaged object, make stops.
 present:
-	@said=$$(for part in library programs; do tools/check_proved $$part $(ARCH) 2>&1 || exit 1; done) || \
-		if command -v '$(RT)' > /dev/null; then $(MAKE) proved; else echo "$$said" >&2; exit 1; fi
+	@for part in library programs; do \
+		tools/check_proved $$part $(ARCH) && continue; \
+		[ $$? = 1 ] && command -v '$(RT)' > /dev/null && exec $(MAKE) proved; \
+		exit 1; \
+	done
 
 programs: $(BUILT)
 
 # A program for every x86-64 processor has its lanes for three levels.
 LINK := -O2 -std=c11 -Wall -Wextra -Wpedantic -Werror -pie -pthread -Wl,-z,relro,-z,now -Wl,-z,noexecstack
 LINKED := c/programs/calls.c $(if $(filter x86_64,$(ARCH)),c/programs/lanes.c c/src/x86_64_level.c)
-LANES := $(if $(filter x86_64,$(ARCH)),$(wildcard c/proved/x86_64/lanes_*.o))
+LANES := $(if $(filter x86_64,$(ARCH)),$(patsubst %,c/proved/x86_64/lanes_%.o,v1 v3 v4))
 COMPILER = $(if $(filter out/arm64,$(OUT)),aarch64-linux-gnu-gcc,$(CC))
-$(BUILT): $(OUT)/%: c/proved/$(ARCH)/%.o $(LANES) $(LINKED) c/src/x86_64_level.h | present
-	mkdir -p $(OUT)
+# This file changes only with its contents: of a newer tarball, unpacked over an older one, the files are older
+# than what make linked before.
+$(OUT)/linked: present
+	@mkdir -p $(OUT)
+	@(echo '$(COMPILER) $(LINK)'; sha256sum $(LINKED); cat c/proved/objects.sum) > $@.new
+	@if cmp -s $@.new $@; then rm $@.new; else mv -f $@.new $@; fi
+
+$(BUILT): $(OUT)/%: c/proved/$(ARCH)/%.o $(LANES) $(LINKED) c/src/x86_64_level.h $(OUT)/linked
 	$(COMPILER) $(LINK) $(filter %.o %.c,$^) -o $@
 
 library:

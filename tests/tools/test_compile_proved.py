@@ -47,9 +47,7 @@ case " $* " in
 *) { echo "for $level"; cat "$text"; } > "$made" ;;
 esac
 """
-RTLIB = (
-    'import re\nVERDICT = re.compile(r"^logic=proved functions=9 target=\\S+ native=nat\\n\\Z")\n'
-)
+RTLIB = 'import re\nVERDICT = re.compile(r"^logic=proved functions=9( bugs=1)? target=\\S+ native=nat\\n\\Z")\n'
 RT = """#!/bin/sh
 case $1 in doc) echo "$ROOM/kit/START-HERE.md" ;; version) echo "an rt of another day" ;; esac
 """
@@ -222,6 +220,7 @@ class CompileProved(Case):
         ),
         ("a rattle that fails", {}, {"STATUS": "1"}, "isn't proved for"),
         ("nothing proved", {}, {"SAID": "logic=assumed functions=9"}, "isn't proved for"),
+        ("bugs", {}, {"SAID": f"{PROVED} bugs=1"}, "isn't proved for"),
         (
             "kept proofs",
             {},

@@ -127,7 +127,12 @@ class Package(unittest.TestCase):
         self.assertTrue(another.exists())
 
     @each(
-        "crates.txt", "crates/low/src/lib.rt", "c/Makefile", "c/src/one.c", "c/proved/library.sum"
+        "crates.txt",
+        "crates/low/src/lib.rt",
+        "crates/low/src",
+        "c/Makefile",
+        "c/src/one.c",
+        "c/proved/library.sum",
     )
     def test_sources_of_the_library(self, changed):
         """make builds the library again if any source is newer than the library, such as one of a
@@ -135,7 +140,9 @@ class Package(unittest.TestCase):
         top = pathlib.Path(tempfile.mkdtemp(dir=ROOM))
         for name in ("c/out/librigzumal.so.1", changed):
             (top / name).parent.mkdir(parents=True, exist_ok=True)
-            (top / name).touch()
+            if (top / name).suffix or name == "c/Makefile":
+                (top / name).touch()
+        (top / "crates/low/src").mkdir(parents=True, exist_ok=True)
         asked = f"""import os, pathlib, build_backend as it
 top = pathlib.Path({str(top)!r})
 it.OUT, it.LIBRARY = top / "c/out", top / "c/out/librigzumal.so.1"
