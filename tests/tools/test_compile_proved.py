@@ -47,7 +47,10 @@ case " $* " in
 *) { echo "for $level"; cat "$text"; } > "$made" ;;
 esac
 """
-RTLIB = 'import re\nVERDICT = re.compile(r"^logic=proved functions=9( bugs=1)? target=\\S+ native=nat\\n\\Z")\n'
+RTLIB = (
+    "import re\n"
+    'VERDICT = re.compile(r"^logic=proved functions=9( bugs=1)? target=\\S+ native=nat\\n\\Z")\n'
+)
 RT = """#!/bin/sh
 case $1 in doc) echo "$ROOM/kit/START-HERE.md" ;; version) echo "an rt of another day" ;; esac
 """
