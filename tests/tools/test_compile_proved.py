@@ -47,7 +47,9 @@ case " $* " in
 *) { echo "for $level"; cat "$text"; } > "$made" ;;
 esac
 """
-RTLIB = 'import re\nVERDICT = re.compile(r"^logic=proved functions=9( bugs=1)? target=\\S+ native=nat\\n\\Z")\n'
+RTLIB = r"""import re
+VERDICT = re.compile(r"^logic=proved functions=9( bugs=1)? target=\S+ native=nat\n\Z")
+"""
 RT = """#!/bin/sh
 case $1 in doc) echo "$ROOM/kit/START-HERE.md" ;; version) echo "an rt of another day" ;; esac
 """
