@@ -240,12 +240,21 @@ def differing(one: pathlib.Path, other: pathlib.Path) -> list[str]:
     return sorted(it for it in {**found[0], **found[1]} if found[0].get(it) != found[1].get(it))
 
 
+def refuse_other_toolchain() -> None:
+    """Ends the script, before proofs that take an hour, unless rt is of c/proved's toolchain."""
+    noted = PROVED / "toolchain"
+    if noted.is_file() and noted.read_text() != told_by_rt("version"):
+        sys.exit("this rt isn't of the toolchain that c/proved/toolchain names")
+
+
 def main() -> None:
     if sys.argv[1:2] == ["--clang"]:
         processor, room, of_kit, *words = sys.argv[2:]
         be_clang(processor, pathlib.Path(room), f"{of_kit}/toolchain/bin/clang", words)
     need_rt("compile the proved code")
     is_check = sys.argv[1:2] == ["--check"]
+    if is_check:
+        refuse_other_toolchain()
     for built in CRATES.glob("*/out/rlib"):
         shutil.rmtree(built)
     if status := subprocess.run(sys.argv[2 if is_check else 1 :], cwd=TOP).returncode:

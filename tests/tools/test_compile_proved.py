@@ -194,6 +194,16 @@ class CompileProved(Case):
         (proved / "x86_64/more.o").touch()
         self.assertIn("(toolchain, x86_64/more.o)", self.compiled(words=["--check"]).faults)
 
+    def test_check_by_another_rt(self) -> None:
+        """Before an hour of proofs, an rt of another toolchain is told."""
+        self.assertEqual(self.compiled().status, 0)
+        (self.top / "c/proved/toolchain").write_text("an rt of yesterday\n")
+        done = self.compiled(words=["--check"], SAID="asked")
+        self.assertEqual(
+            done.faults, "this rt isn't of the toolchain that c/proved/toolchain names\n"
+        )
+        self.assertEqual(self.compiled().status, 0)
+
     def test_sources(self) -> None:
         """The committed sums are those of the present sources, for sha256sum too."""
         self.assertEqual(self.compiled().status, 0)
