@@ -39,7 +39,14 @@ FOLDERS = (
     Folder(
         "tests/credkeep",
         is_package=True,
-        parts={"refused_memory": 3, "refused_calls": 4, "work": 2, "kills": 2, "import": 2},
+        parts={
+            "refused_memory": 3,
+            "refused_calls": 4,
+            "tries": 2,
+            "work": 2,
+            "kills": 2,
+            "import": 2,
+        },
         long=["large"],
     ),
     Folder(

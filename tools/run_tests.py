@@ -1,5 +1,5 @@
 #!/usr/bin/env python3
-"""Runs the tests over what `make` links, as many in parallel as the machine has processors.
+"""Runs the tests over what `make` links, three jobs at once for two processors.
 
     python3 tools/run_tests.py [--quick | --slow | --long] [--note] [--first] [WORD..]
 
@@ -57,6 +57,12 @@ BUILD = ["make", "-s"]
 def limit() -> int:
     """Returns the seconds after which the run ends a job that begins now."""
     return int(os.environ.get("JOB_LIMIT", 10 * helpers.longest()))
+
+
+def jobs_at_once() -> int:
+    """Returns the number of jobs that run at once: more than processors, since many jobs wait more
+    than they compute."""
+    return max(2, len(os.sched_getaffinity(0)) * 3 // 2)
 
 
 def end_all(mark: str) -> None:
@@ -187,7 +193,7 @@ class Progress:
         another."""
         packing = [it for it in chosen if it.is_packing]
         queues = [packing, *([it] for it in chosen if not it.is_packing)]
-        with concurrent.futures.ThreadPoolExecutor(len(os.sched_getaffinity(0))) as pool:
+        with concurrent.futures.ThreadPoolExecutor(jobs_at_once()) as pool:
             list(pool.map(self.run, queues))
 
     def run(self, queue: list[Job]) -> None:
