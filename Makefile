@@ -96,7 +96,7 @@ prove:
 	@echo 'Every crate is proved from nothing, the named wrong bodies are refused, and c/proved is what rt compiles.'
 
 proved:
-	$(PYTHON) tools/compile_proved.py $(RT) ci
+	@$(PYTHON) tools/compile_proved.py $(RT) ci
 
 test: export RIGZUMAL_WHOLE = 1
 test:

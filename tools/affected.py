@@ -46,6 +46,7 @@ OF_SERVERS = (
     "tests/server/test_client_fields",
     "tests/server/test_units",
     "tests/server/test_expired",
+    "tests/server/test_foreign_records",
 )
 # The row with the longest beginning of a file's path names the jobs that read the file.
 READERS: Mapping[str, Collection[str]] = {

@@ -44,7 +44,6 @@ FOLDERS = (
             "refused_calls": 4,
             "tries": 2,
             "work": 2,
-            "kills": 2,
             "import": 2,
         },
         long=["large"],

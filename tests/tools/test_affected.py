@@ -113,7 +113,7 @@ class Affected(Case):
                     words = affected.jobs_of(file)
                     self.assertTrue(any(word in module for word in words))
 
-    @each("", "c/tests", "test_ask", "tests/tools/test_plants", "frameworks")
+    @each("", "c/tests", "test_ask", "tests/tools/test_mutate", "frameworks")
     def test_words(self, word: str) -> None:
         """The words that are printed choose the same jobs."""
         chosen = jobs.jobs([word])
