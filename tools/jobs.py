@@ -78,7 +78,7 @@ PROGRAMS = {
     "readme": (("README.md",), ""),
 }
 # A module of fewer seconds is in the quick run.
-QUICK = 30
+QUICK = 25
 
 
 @dataclasses.dataclass(frozen=True)
