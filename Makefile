@@ -8,6 +8,7 @@
 #                                   and compared byte for byte
 #     make proved                   c/proved again, by rt, after a change of a proved crate
 #     make test                     the gate with the tests of every folder, and the long ones that the gate omits
+#     make lint                     the layout, names and types of what people write
 #     make wrong-bodies             the gate with every wrong body, as before a release
 #     make deb                      Debian's packages: in c/out, python/out and c/pam/out
 #     make wheel                    the package for Python with the library in it, in python/out
@@ -31,6 +32,7 @@ RT ?= rt
 PYTHON ?= /usr/bin/python3
 
 PROGRAMS := credbook credkeep
+COMPLETED := $(PROGRAMS) credkeep-ask credkeep-server
 # The programs themselves. An installed bin has copies of bin/launcher.in, which run them with huge pages.
 LIBEXEC := $(PREFIX)/libexec/rigzumal
 # The modules of credkeep-server and, below them, of credkeep-ask.
@@ -48,7 +50,8 @@ BUILT := $(PROGRAMS:%=$(OUT)/%)
 HAS_PAM := $(wildcard /usr/include/security/pam_modules.h)
 PAM_WORDS = DESTDIR='$(DESTDIR)' PAMDIR='$(PAMDIR)' MANDIR='$(MAN)'
 
-.PHONY: build programs library present proved prove check test wrong-bodies deb wheel dist html bench install install-programs uninstall
+.PHONY: build programs library present proved prove check lint test wrong-bodies deb wheel dist html bench install \
+	install-programs uninstall
 .DELETE_ON_ERROR:
 # Two of these targets must not work on the same folders at the same time.
 .NOTPARALLEL:
@@ -57,20 +60,29 @@ PAM_WORDS = DESTDIR='$(DESTDIR)' PAMDIR='$(PAMDIR)' MANDIR='$(MAN)'
 build: present library programs
 	$(if $(HAS_PAM),$(MAKE) -C c/pam,@echo 'pam_rigzumal.so is left out: libpam0g-dev is not there')
 
-# rt compiles c/proved again if it is of other sources. Without rt, make stops.
+# If the sources have changed, rt compiles c/proved again. Without rt, or for a damaged object, make stops.
 present:
-	@said=$$(for part in library programs; do tools/check_proved $$part $(ARCH) 2>&1 || exit 1; done) || \
-		if command -v '$(RT)' > /dev/null; then $(MAKE) proved; else echo "$$said" >&2; exit 1; fi
+	@for part in library programs; do \
+		tools/check_proved $$part $(ARCH) && continue; \
+		[ $$? = 1 ] && command -v '$(RT)' > /dev/null && exec $(MAKE) proved; \
+		exit 1; \
+	done
 
 programs: $(BUILT)
 
 # A program for every x86-64 processor has its lanes for three levels.
 LINK := -O2 -std=c11 -Wall -Wextra -Wpedantic -Werror -pie -pthread -Wl,-z,relro,-z,now -Wl,-z,noexecstack
 LINKED := c/programs/calls.c $(if $(filter x86_64,$(ARCH)),c/programs/lanes.c c/src/x86_64_level.c)
-LANES := $(if $(filter x86_64,$(ARCH)),$(wildcard c/proved/x86_64/lanes_*.o))
+LANES := $(if $(filter x86_64,$(ARCH)),$(patsubst %,c/proved/x86_64/lanes_%.o,v1 v3 v4))
 COMPILER = $(if $(filter out/arm64,$(OUT)),aarch64-linux-gnu-gcc,$(CC))
-$(BUILT): $(OUT)/%: c/proved/$(ARCH)/%.o $(LANES) $(LINKED) c/src/x86_64_level.h | present
-	mkdir -p $(OUT)
+# This file changes only with its contents: of a newer tarball, unpacked over an older one, the files are older
+# than what make linked before.
+$(OUT)/linked: present
+	@mkdir -p $(OUT)
+	@(echo '$(COMPILER) $(LINK)'; sha256sum $(LINKED); cat c/proved/objects.sum) > $@.new
+	@if cmp -s $@.new $@; then rm $@.new; else mv -f $@.new $@; fi
+
+$(BUILT): $(OUT)/%: c/proved/$(ARCH)/%.o $(LANES) $(LINKED) c/src/x86_64_level.h $(OUT)/linked
 	$(COMPILER) $(LINK) $(filter %.o %.c,$^) -o $@
 
 library:
@@ -84,12 +96,15 @@ prove:
 	@echo 'Every crate is proved from nothing, the named wrong bodies are refused, and c/proved is what rt compiles.'
 
 proved:
-	$(PYTHON) tools/compile_proved.py $(RT) ci
+	@$(PYTHON) tools/compile_proved.py $(RT) ci
 
 test: export RIGZUMAL_WHOLE = 1
 test:
 	.ci/run
 	$(PYTHON) tools/run_tests.py --long
+
+lint:
+	tools/lint
 
 wrong-bodies:
 	$(PYTHON) tools/wrong_bodies.py --all -- $(RT) ci
@@ -127,12 +142,14 @@ TO_MAN = '$(DESTDIR)$(MAN)'
 TO_UNITS = '$(DESTDIR)$(UNIT_DIR)'
 # The folders that install made. With DESTDIR, as for a package, there is no such list.
 NOTED = $(if $(DESTDIR),'','$(PREFIX)/share/rigzumal/folders')
-TO_SHELLS = '$(DESTDIR)$(BASH_DIR)' '$(DESTDIR)$(ZSH_DIR)' '$(DESTDIR)$(FISH_DIR)'
+TO_BASH = '$(DESTDIR)$(BASH_DIR)'
+TO_ZSH = '$(DESTDIR)$(ZSH_DIR)'
+TO_FISH = '$(DESTDIR)$(FISH_DIR)'
 
 # The built programs, the server with its units, their pages and completions.
 install-programs:
 	packaging/folders make $(NOTED) programs $(TO_LIBEXEC) $(TO_PREFIX)/bin $(TO_PREFIX)/sbin $(TO_DAEMON) $(TO_DAEMON)/ask \
-		$(TO_MAN)/man1 $(TO_MAN)/man5 $(TO_MAN)/man8 $(TO_UNITS) $(TO_SHELLS)
+		$(TO_MAN)/man1 $(TO_MAN)/man5 $(TO_MAN)/man8 $(TO_UNITS) $(TO_BASH) $(TO_ZSH) $(TO_FISH)
 	for name in $(PROGRAMS); do \
 		install -m 755 $(OUT)/$$name $(TO_LIBEXEC) && \
 		sed "s|@PROGRAM@|$(LIBEXEC)/$$name|" bin/launcher.in > $(TO_PREFIX)/bin/$$name && \
@@ -147,7 +164,12 @@ install-programs:
 		sed 's|/usr/sbin/|$(PREFIX)/sbin/|' units/$$unit > $(TO_UNITS)/$$unit && \
 		chmod 644 $(TO_UNITS)/$$unit || exit 1; \
 	done
-	$(PYTHON) tools/completions.py $(TO_SHELLS)
+	for name in $(COMPLETED); do \
+		install -m 644 completions/bash $(TO_BASH)/$$name && \
+		sed 's|@BASH@|$(BASH_DIR)/credkeep|' completions/zsh > $(TO_ZSH)/_$$name && \
+		sed 's|@BASH@|$(BASH_DIR)/credkeep|' completions/fish > $(TO_FISH)/$$name.fish && \
+		chmod 644 $(TO_ZSH)/_$$name $(TO_FISH)/$$name.fish || exit 1; \
+	done
 
 uninstall:
 	$(MAKE) -C c uninstall PREFIX='$(PREFIX)' DESTDIR='$(DESTDIR)'
@@ -158,5 +180,5 @@ uninstall:
 	rm -f $(MODULES:%=$(TO_DAEMON)/%) $(MODULES_OF_ASK:%=$(TO_DAEMON)/ask/%)
 	rm -rf $(TO_DAEMON)/__pycache__ $(TO_DAEMON)/ask/__pycache__
 	rm -f $(PAGES:%=$(TO_MAN)/%) $(UNITS:%=$(TO_UNITS)/%)
-	$(PYTHON) tools/completions.py --remove $(TO_SHELLS)
+	rm -f $(COMPLETED:%=$(TO_BASH)/%) $(COMPLETED:%=$(TO_ZSH)/_%) $(COMPLETED:%=$(TO_FISH)/%.fish)
 	packaging/folders remove $(NOTED) programs

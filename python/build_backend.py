@@ -90,15 +90,15 @@ Tag: {tag()}
 
 
 def is_built(top: pathlib.Path) -> bool:
-    """Whether c/out has the library, and no source of it is newer. Otherwise make decides what to
-    build."""
+    """Whether c/out has the library, and no source of it is newer, nor a folder from which one may
+    be gone. Otherwise make decides what to build."""
     if not LIBRARY.exists():
         return False
     sources = [top / "crates.txt", top / "c/Makefile"]
     for part in PARTS:
         sources += [path for path in (top / part).rglob("*") if "out" not in path.parts]
     built = LIBRARY.stat().st_mtime
-    return all(path.stat().st_mtime <= built for path in sources if path.is_file())
+    return all(path.stat().st_mtime <= built for path in sources)
 
 
 def need_library() -> None:

@@ -34,7 +34,6 @@ OF_PACKAGES: dict[str, tuple[str, ...]] = {
         "objdump",
         "strip",
     ),
-    "black": ("black",),
     "clang-format": ("clang-format",),
     "cmake": ("cmake",),
     "cryptsetup-bin": ("cryptsetup",),
@@ -59,7 +58,6 @@ OF_PACKAGES: dict[str, tuple[str, ...]] = {
         "x86_64-linux-gnu-gcc",
     ),
     "gcc-aarch64-linux-gnu": ("aarch64-linux-gnu-gcc",),
-    "groff-base": ("groff",),
     "iproute2": ("ip",),
     "make": ("make",),
     "mariadb-server": (
@@ -90,8 +88,6 @@ OF_PACKAGES: dict[str, tuple[str, ...]] = {
         "postfix",
     ),
     "prometheus-node-exporter": ("prometheus-node-exporter",),
-    "pycodestyle": ("pycodestyle",),
-    "pyflakes3": ("pyflakes3",),
     "python3-django": ("django-admin",),
     "qemu-user": (
         "qemu-aarch64",

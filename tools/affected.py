@@ -19,6 +19,7 @@ from collections.abc import Collection, Iterable, Mapping
 
 from jobs import FOLDERS, Job, jobs, seconds
 from tree import CRATES, TOP, all_below, below, listed, source
+from wrong_body import wrong_bodies_of
 
 # The users of the library for C, and of each program and crate of tests: words of jobs.
 OF_LIBRARY = ("c/tests", "c/pam/tests", "python/tests", "rust/tests", "docs/tests")
@@ -45,6 +46,7 @@ OF_SERVERS = (
     "tests/server/test_client_fields",
     "tests/server/test_units",
     "tests/server/test_expired",
+    "tests/server/test_foreign_records",
 )
 # The row with the longest beginning of a file's path names the jobs that read the file.
 READERS: Mapping[str, Collection[str]] = {
@@ -59,7 +61,7 @@ READERS: Mapping[str, Collection[str]] = {
     "SECURITY.md": PAGES,
     "docs/": PAGES,
     "docs/ARCHITECTURE.md": (*PAGES, "tests/tools/test_walks", "frameworks/test_django"),
-    "docs/BUILDING.md": (*PAGES, "tests/tools/test_plants", "tests/packages/test_without_rt"),
+    "docs/BUILDING.md": (*PAGES, "tests/packages/test_without_rt"),
     "docs/ERRORS.md": (*PAGES, "tests/server/test_protocol"),
     "docs/MIGRATING.md": (*PAGES, "tests/credkeep/test_import"),
     "docs/SERVERS.md": (*PAGES, *OF_SERVERS),
@@ -67,7 +69,8 @@ READERS: Mapping[str, Collection[str]] = {
     "docs/STATEMENTS.txt": (*PAGES, "tests/tools/test_without_rt"),
     "crates/": (),  # read by the programs over the crate
     "crates.txt": ("tests/packages/test_without_rt",),
-    "pyproject.toml": ("tests/tools/test_layout",),
+    "conftest.py": ("tests/tools/test_pytest",),
+    "pyproject.toml": ("tests/tools/test_pytest",),
     "bench/": ("tests/tools/test_layout", "tests/tools/test_measures"),
     "bin/": (*PACKAGE, "tests/server"),
     "bin/credkeep-ask": ("tests/server/test_ask", "tests/packages"),
@@ -120,8 +123,8 @@ def changed_files(commit: str) -> list[str]:
 
 
 def changed_crates(files: Iterable[str], parts: str) -> set[str]:
-    """Returns the crates with a changed file in these folders."""
-    found = (re.match(rf"crates/(\w+)/(?:{parts})/", it) for it in files)
+    """Returns the crates with a changed file in these folders, or of these names."""
+    found = (re.match(rf"crates/(\w+)/(?:{parts})(?:/|$)", it) for it in files)
     return {it[1] for it in found if it} & {*listed()}
 
 
@@ -191,7 +194,7 @@ def count_with_time(wrong_bodies: int) -> str:
 
 
 def of_wrong_bodies(changed: Collection[str], again: Iterable[str]) -> str:
-    counts = {it: len([*CRATES.glob(f"{it}/wrong-bodies/*.edit")]) for it in {*changed, *again}}
+    counts = {it: len(wrong_bodies_of(CRATES / it)) for it in {*changed, *again}}
     own = count_with_time(sum(counts[it] for it in changed))
     every = count_with_time(sum(counts.values()))
     more = f" (if a contract or a definition has changed {every})" if every != own else ""
@@ -211,12 +214,13 @@ def report(files: Collection[str]) -> Iterable[str]:
     again = proved_again(changed_crates(files, "src|specs|proofs"))
     if again:
         yield of_proofs(again)
-    if changed := changed_crates(files, "src|specs|proofs|wrong-bodies"):
+    if changed := changed_crates(files, r"src|specs|proofs|wrong-bodies\.edits"):
         yield of_wrong_bodies(changed, again)
     if chosen := jobs_to_run(files, again):
         yield of_tests(chosen)
     if files:
         yield "pages: python3 tools/pages.py"
+        yield "layout, names and types: make lint"
 
 
 def main() -> int:

@@ -121,7 +121,8 @@ class Proof:
         both = {"stdout": subprocess.PIPE, "stderr": subprocess.STDOUT, "text": True}
         done = subprocess.run([kit() / "bin/rattle", "build", *words], cwd=CRATES / crate, **both)
         last = f"{done.stdout.rstrip().rpartition(chr(10))[2]}\n"
-        if done.returncode or not verdict().search(last) or f"target={target}" not in last:
+        is_proved = verdict().search(last) and not re.search(" (bugs|hides)=", last)
+        if done.returncode or not is_proved or f"target={target}" not in last:
             raise SystemExit(f"{done.stdout[-4000:]}\n{crate} isn't proved for {processor}")
         self.text = (self.room / "module.ll").read_text()
 
@@ -239,12 +240,21 @@ def differing(one: pathlib.Path, other: pathlib.Path) -> list[str]:
     return sorted(it for it in {**found[0], **found[1]} if found[0].get(it) != found[1].get(it))
 
 
+def refuse_other_toolchain() -> None:
+    """Ends the script, before proofs that take an hour, unless rt is of c/proved's toolchain."""
+    noted = PROVED / "toolchain"
+    if noted.is_file() and noted.read_text() != told_by_rt("version"):
+        sys.exit("this rt isn't of the toolchain that c/proved/toolchain names")
+
+
 def main() -> None:
     if sys.argv[1:2] == ["--clang"]:
         processor, room, of_kit, *words = sys.argv[2:]
         be_clang(processor, pathlib.Path(room), f"{of_kit}/toolchain/bin/clang", words)
     need_rt("compile the proved code")
     is_check = sys.argv[1:2] == ["--check"]
+    if is_check:
+        refuse_other_toolchain()
     for built in CRATES.glob("*/out/rlib"):
         shutil.rmtree(built)
     if status := subprocess.run(sys.argv[2 if is_check else 1 :], cwd=TOP).returncode:

@@ -1,9 +1,15 @@
-"""The items in a file of Rattle, with their contracts."""
+"""The items in a file of Rattle, with their contracts, and the clauses that functions share."""
 
 from __future__ import annotations
 
+import collections
 import dataclasses
+import functools
+import itertools
 import re
+from collections.abc import Iterable, Iterator
+
+from tree import CRATES, is_test_or_example, source
 
 # A string, a character, a lifetime, a name (of antt too), or a sign.
 TOKEN = re.compile(
@@ -40,6 +46,8 @@ class Clause:
     kind: str
     name: str
     text: str
+    # The place of a contract's clause in the text.
+    start: int = 0
 
 
 @dataclasses.dataclass
@@ -49,6 +57,9 @@ class Item:
     kind: str
     name: str
     is_public: bool
+    # The places in the text at which the item begins, and behind its end.
+    start: int = 0
+    end: int = 0
     attributes: list[str] = dataclasses.field(default_factory=list)
     head: list[str] = dataclasses.field(default_factory=list)
     clauses: list[Clause] = dataclasses.field(default_factory=list)
@@ -151,6 +162,8 @@ class File:
         else:
             stop = self.with_body(item, kind_at, end)
             item.head = self.words(at, self.until(kind_at, end, ENDS_HEAD[kind]))
+        item.start = self.tokens[at].start
+        item.end = self.tokens[min(stop, len(self.tokens) - 1)].end
         return item, stop + 1
 
     def is_public(self, at: int) -> bool:
@@ -163,7 +176,8 @@ class File:
         while stop < end and self.tokens[stop].text in CLAUSES:
             opens = self.until(stop, end, {"{"})
             name = "".join(it for it in self.words(stop + 1, opens) if it not in ("*", ":"))
-            item.clauses.append(Clause(self.tokens[stop].text, name, self.between(opens)))
+            word = self.tokens[stop]
+            item.clauses.append(Clause(word.text, name, self.between(opens), word.start))
             stop = self.closing[opens] + 1
             stop += stop < end and self.tokens[stop].text == ","
         if stop < end and self.tokens[stop].text == "{":
@@ -185,7 +199,8 @@ class File:
                 depth += {"<": 1, ">": -1}.get(self.tokens[stop].text, 0)
                 stop = self.closing.get(stop, stop) + 1
             words = self.words(at, stop)
-            field = Item("field", "", bool(words) and self.is_public(at), attributes, words)
+            field = Item("field", "", bool(words) and self.is_public(at))
+            field.attributes, field.head = attributes, words
             if "ghost" in words[:2]:
                 name_at = at + words.index("ghost") + 1
                 name, text = self.tokens[name_at].text, self.text_of(name_at + 1, stop)
@@ -194,3 +209,37 @@ class File:
                 found.append(field)
             at = stop + 1
         return found
+
+
+def all_items(found: Iterable[Item]) -> Iterator[Item]:
+    """Yields items, and those inside their braces."""
+    for item in found:
+        yield item
+        yield from all_items(item.inner)
+
+
+@functools.cache
+def functions(text: str) -> list[Item]:
+    """Returns the functions of a file, also those of its impls, traits and modules."""
+    return [it for it in all_items(File(text).items()) if it.kind == "fn"]
+
+
+def shared_clauses() -> dict[str, int]:
+    """Counts, in the crates but tests and examples, the clauses that the two most similar functions
+    share word for word, and the lines of longer clauses behind the first function that has them."""
+    files = sorted(CRATES.glob("*/src/**/*.rt"))
+    read = [it for it in files if not is_test_or_example(it.relative_to(CRATES).parts[0])]
+    of_clause = collections.defaultdict(set)
+    for number, function in enumerate(it for file in read for it in functions(source(file))):
+        for clause in function.clauses:
+            of_clause[f"{clause.kind} {clause.name} {{{clause.text}}}"].add(number)
+    pairs: collections.Counter[tuple[int, int]] = collections.Counter()
+    again = 0
+    for text, numbers in of_clause.items():
+        pairs.update(itertools.combinations(sorted(numbers), 2))
+        lines = text.count("\n") + 1
+        again += (len(numbers) - 1) * lines if lines > 1 else 0
+    return {
+        "clauses that two functions share": max(pairs.values()),
+        "lines of longer clauses that stand again": again,
+    }

@@ -8,7 +8,7 @@ import sys
 from collections.abc import Collection, Iterator, Mapping
 from pathlib import Path
 
-from tree import TOP, has_rt
+from tree import TOP
 
 SECONDS = TOP / "tools/job_seconds.json"
 TOLD = TOP / "tests/told.py"
@@ -39,7 +39,13 @@ FOLDERS = (
     Folder(
         "tests/credkeep",
         is_package=True,
-        parts={"refused_memory": 3, "refused_calls": 4, "work": 2, "kills": 2, "import": 2},
+        parts={
+            "refused_memory": 3,
+            "refused_calls": 4,
+            "tries": 2,
+            "work": 2,
+            "import": 2,
+        },
         long=["large"],
     ),
     Folder(
@@ -64,15 +70,15 @@ FOLDERS = (
     Folder("rust/tests"),
 )
 
-# Programs of tools/ that are tests too, with their words and, if only rt builds it, the program that
-# they run.
+# Programs of tools/ that are tests too, with their words and, if only `rt ci` builds it, the
+# program that they run.
 PROGRAMS = {
     "refuse_memory": ((), "crates/book_tests/out/book_tests_tests"),
     "peak_memory": ((), "crates/hash_tests/out/hash_tests_tests"),
     "readme": (("README.md",), ""),
 }
 # A module of fewer seconds is in the quick run.
-QUICK = 30
+QUICK = 25
 
 
 @dataclasses.dataclass(frozen=True)
@@ -115,8 +121,7 @@ def modules_of(folder: Folder) -> Iterator[Job]:
 def programs() -> Iterator[Job]:
     for name, (words, built) in PROGRAMS.items():
         command = (str(TOP / f"tools/{name}.py"), *words)
-        is_there = not built or has_rt() or (TOP / built).exists()
-        lacks = "" if is_there else "the program rt"
+        lacks = "" if not built or (TOP / built).exists() else f"the file {TOP / built}"
         yield Job(f"tools/{name}", "tools", command, TOP, lacks=lacks)
 
 

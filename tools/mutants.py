@@ -35,46 +35,17 @@ PYTHON = Language(PYTHON_GAP, PYTHON_TEXT, "not ({})", ["False", "True"], "None"
 LANGUAGES = {".c": C, ".h": C, ".rs": RUST, ".py": PYTHON}
 
 SIGN = r"<<=|>>=|\*\*|\.\.=|->|=>|::|&&|\|\||<<|>>|[-+*/%&|^=<>!:]=|//|\n\s*|."
-SWAPPED = {
-    "<": "<=",
-    ">": ">=",
-    "==": "!=",
-    "&&": "||",
-    "and": "or",
-    "+": "-",
-    "*": "/",
-    "<<": ">>",
-    "&": "|",
-}
+SWAPPED = dict(zip("< > == && and + * << &".split(), "<= >= != || or - / >> |".split()))
 SWAPPED |= {new: old for old, new in SWAPPED.items()}
-LOGIC = {"&&", "||", "and", "or"}
+LOGIC = {*"&& || and or".split()}
 NEGATED = {"in": "not in", "is": "is not"}
-FLIPPED = {"true": "false", "True": "False"}
-FLIPPED |= {new: old for old, new in FLIPPED.items()}
+FLIPPED = {"true": "false", "false": "true", "True": "False", "False": "True"}
 OPENING = {")": "(", "]": "[", "}": "{"}
-TESTED = {"if", "while", "elif", "assert"}
-AFTER_A_TEST = {"{", ":", "else", "for", "if", ",", "\n"}
-ENDS = (
-    LOGIC
-    | TESTED
-    | AFTER_A_TEST
-    | {";", "?", "}", "=", "=>", "return", "let", "not", "in", "is", "+=", "-=", "*=", "|="}
-)
-NO_STATEMENT = {
-    "let",
-    "use",
-    "typedef",
-    "static",
-    "extern",
-    "pub",
-    "struct",
-    "const",
-    "type",
-    "else",
-    "import",
-    "from",
-}
-NO_CALL = TESTED | {"for", "switch", "sizeof", "return", "match", "pub", "in", "import", "except"}
+TESTED = {*"if while elif assert".split()}
+AFTER_A_TEST = {*"{ : else for if ,".split(), "\n"}
+ENDS = LOGIC | TESTED | AFTER_A_TEST | {*"; ? } = => return let not in is += -= *= |=".split()}
+NO_STATEMENT = {*"let use typedef static extern pub struct const type else import from".split()}
+NO_CALL = TESTED | {*"for switch sizeof return match pub in import except".split()}
 
 
 class Tokens:
@@ -82,13 +53,8 @@ class Tokens:
 
     def __init__(self, source, language):
         self.source, self.language = source.decode("latin-1"), language
-        kinds = {
-            "gap": language.gap,
-            "text": language.text,
-            "number": r"\d\w*",
-            "logic": r"\b(?:and|or|not)\b",
-        }
-        kinds |= {"word": r"[A-Za-z_]\w*", "sign": SIGN}
+        kinds = {"gap": language.gap, "text": language.text, "number": r"\d\w*"}
+        kinds |= {"logic": r"\b(?:and|or|not)\b", "word": r"[A-Za-z_]\w*", "sign": SIGN}
         form = "|".join(f"(?P<{kind}>{it})" for kind, it in kinds.items())
         self.found, self.texts, self.within = [], [], []
         self.pair, opened = {}, []
@@ -109,8 +75,9 @@ class Tokens:
     def mutant(self, operator, first, last, new):
         return Mutant(self.found[first].start(), self.found[last].end(), operator, new)
 
-    def constant(self, first, last):
-        return self.mutant("expression made a constant", first, last, self.language.value)
+    def constant(self, first, last, new=None):
+        new = self.language.value if new is None else new
+        return self.mutant("expression made a constant", first, last, new)
 
     def text(self, first, last):
         return self.source[self.found[first].start() : self.found[last].end()]
@@ -129,11 +96,8 @@ class Tokens:
     def parts(self, opening):
         """Yields the first and last token of each part between commas inside a bracket."""
         closing = self.pair.get(opening, opening)
-        commas = [
-            at
-            for at in range(opening, closing)
-            if self.texts[at] == "," and self.within[at] == opening
-        ]
+        inside = range(opening, closing)
+        commas = [at for at in inside if self.texts[at] == "," and self.within[at] == opening]
         edges = [opening, *commas, closing]
         return [(low + 1, high - 1) for low, high in zip(edges, edges[1:]) if low + 1 < high]
 
@@ -150,11 +114,8 @@ class Tokens:
     def of_text(self, at, text):
         front = text[: text.index(text[-1])]
         new = '"x"' if len(text) == len(front) + 2 else '""'
-        is_doc = self.language is PYTHON and {
-            *self.texts[max(at - 1, 0) : at],
-            *self.texts[at + 1 : at + 2],
-        } <= {"\n"}
-        if not is_doc:
+        beside = {*self.texts[max(at - 1, 0) : at], *self.texts[at + 1 : at + 2]}
+        if self.language is not PYTHON or not beside <= {"\n"}:  # it is no docstring
             is_letter = text[-1] == "'" and self.language is not PYTHON
             yield self.mutant("constant changed", at, at, front + ("'~'" if is_letter else new))
 
@@ -163,46 +124,31 @@ class Tokens:
             yield self.mutant("constant changed", at, at, FLIPPED[text])
         if text in TESTED and self.texts[at + 1] != "let":
             last = self.pair[at + 1] if self.language is C else self.edge(at, 1, AFTER_A_TEST)
-            yield self.mutant(
-                "condition negated",
-                at + 1,
-                last,
-                self.language.negation.format(self.text(at + 1, last)),
-            )
+            negated = self.language.negation.format(self.text(at + 1, last))
+            yield self.mutant("condition negated", at + 1, last, negated)
             for constant in self.language.constants[: 1 if text == "while" else 2]:
-                yield self.mutant("expression made a constant", at + 1, last, constant)
+                yield self.constant(at + 1, last, constant)
         if text == "return" and self.texts[at + 1] not in ";\n":
             yield self.constant(at + 1, self.edge(at, 1, {";", "}", "\n"}))
         if text in NEGATED and self.language is PYTHON and "not" not in self.texts[at - 1 : at + 2]:
             if self.texts[self.edge(at, -1, ENDS - {","}) - 1] != "for":
                 yield self.mutant("comparison swapped", at, at, NEGATED[text])
             else:
-                yield self.mutant(
-                    "expression made a constant", at + 1, self.edge(at, 1, AFTER_A_TEST), "()"
-                )
+                yield self.constant(at + 1, self.edge(at, 1, AFTER_A_TEST), "()")
 
     def of_sign(self, at, text):
-        around = (
-            self.source[self.found[at - 1].end() : self.found[at].start()],
-            self.source[self.found[at].end() :][:1],
-        )
+        above, below = self.found[at - 1].end(), self.found[at].end()
+        around = self.source[above : self.found[at].start()], self.source[below : below + 1]
         is_name = self.found[at - 1].lastgroup == "word" and self.texts[at - 1] not in NO_CALL
         if text in SWAPPED and all(map(str.isspace, around)):
             yield from self.of_operator(at, text)
         if text in ("!", "not") and not is_name:
             yield self.mutant("condition negated", at, at, "")
-        if (
-            text == ";"
-            and self.texts[self.within[at]] == "{"
-            or text[0] == "\n"
-            and self.texts[at - 1] != ":"
-        ):
-            first = self.edge(at, -1, {";", "{", "}", "\n", ":"})
-            if (
-                first < at
-                and self.texts[first] not in NO_STATEMENT
-                and not self.found[first].lastgroup == "text"
-            ):
+        is_end = text == ";" and self.texts[self.within[at]] == "{"
+        if is_end or text[0] == "\n" and self.texts[at - 1] != ":":
+            first = self.edge(at, -1, {*";{}\n:"})
+            is_statement = self.texts[first] not in NO_STATEMENT
+            if first < at and is_statement and self.found[first].lastgroup != "text":
                 yield self.mutant("statement dropped", first, at - 1, self.language.statement)
         if text == "[" and is_name and ":" in self.texts[at : self.pair.get(at, at)]:
             yield self.mutant("operand dropped", at, self.pair[at], "")
@@ -219,12 +165,8 @@ class Tokens:
         return self.mutant(operator, first, last + (self.texts[last + 1] == ","), "")
 
     def of_operator(self, at, text):
-        yield self.mutant(
-            "comparison swapped" if text in "<= >= == !=" else "operator swapped",
-            at,
-            at,
-            SWAPPED[text],
-        )
+        kind = "comparison" if text in "<= >= == !=" else "operator"
+        yield self.mutant(f"{kind} swapped", at, at, SWAPPED[text])
         ends = ENDS if text in LOGIC else ENDS | SWAPPED.keys()
         first, last = self.edge(at, -1, ends), self.edge(at, 1, ends)
         if first < at < last:
@@ -238,26 +180,18 @@ class Tokens:
         # the order of named arguments has no effect
         plain = [(first, last) for first, last in arguments if "=" not in self.texts[first:last]]
         for (first, end), (second, last) in zip(plain, plain[1:]):
-            yield self.mutant(
-                "operands swapped",
-                first,
-                last,
-                f"{self.text(second, last)}, {self.text(first, end)}",
-            )
-        for argument in arguments:
+            swapped = f"{self.text(second, last)}, {self.text(first, end)}"
+            yield self.mutant("operands swapped", first, last, swapped)
+        for first, last in arguments:
             if self.language is PYTHON:
-                yield self.without("argument dropped", *argument)
+                yield self.without("argument dropped", first, last)
             else:
-                yield self.constant(*argument)
+                yield self.constant(first, last)
 
 
 def mutants_of(path):
     """Returns the mutants of a file, each only once, and none equal to the file."""
     source = path.read_bytes()
     found = Tokens(source, LANGUAGES[path.suffix]).mutants()
-    places = {(mutant.start, mutant.end, mutant.new): mutant for mutant in found}
-    return sorted(
-        mutant
-        for mutant in places.values()
-        if mutant.new.encode() != source[mutant.start : mutant.end]
-    )
+    places = {(it.start, it.end, it.new): it for it in found}
+    return sorted(it for it in places.values() if it.new.encode() != source[it.start : it.end])

@@ -1,9 +1,9 @@
 #!/usr/bin/env python3
-"""Changes a file in one place at a time, runs tests, and prints each change that no test
-refuses.
+"""Changes a file in one place at a time, runs tests, and prints each change that no test refuses.
 
     python3 tools/mutate.py FILE [--sample N] [--seed S] [--jobs N] [--limit SECONDS]
                                  [--build COMMAND] --tests COMMAND..
+    python3 tools/mutate.py --plants [WORD..]
 
 FILE is in Python, C or Rust. The tests run at the top of copies of the repository, which include
 the contents of its `out` folders, but only the programs of crates:
@@ -16,12 +16,21 @@ Without --sample the script tries all changes. First the tests must pass in each
 changed. The time limit of a mutant is five times their time, but at least ten seconds, unless
 --limit sets another. A mutant survives if its run ends in time with status 0. A mutant that Python
 can't compile, or that --build refuses (for C `make` and for Rust `cargo test --no-run` in the
-nearest folder with a Makefile or Cargo.toml), doesn't count as refused. The status is 1 if the
-tests fail with nothing changed, and otherwise 0. Make sure that COMMAND runs any tests: unittest of
-Python 3.11 exits with status 0 if -k matches none, and then all mutants survive.
+nearest folder with a Makefile or Cargo.toml), doesn't count as refused. Make sure that COMMAND runs
+any tests: unittest of Python 3.11 exits with status 0 if -k matches none, and then all mutants
+survive.
+
+With --plants the changes are those of tools/plants.edits, or those of files with a WORD in their
+names: a mistake in each folder that we ship. A maintainer tries them before a release, once the
+gate has built everything. tools/run_tests.py has to refuse each, by the jobs that its block names.
+
+The status is 1 if the tests fail with nothing changed, or if they don't refuse a mistake of ours.
 """
 
+from __future__ import annotations
+
 import argparse
+import collections
 import concurrent.futures
 import contextlib
 import os
@@ -35,53 +44,61 @@ import subprocess
 import sys
 import tempfile
 import time
+from collections.abc import Iterator
+from typing import NamedTuple, Optional
 
-from mutants import mutants_of
+from edits import Edit, blocks_in
+from mutants import LANGUAGES, mutants_of
+from tree import TOP
 
-
-def output(folder, *command):
-    return os.fsdecode(
-        subprocess.run(command, cwd=folder, stdout=subprocess.PIPE, check=True).stdout
-    )
-
-
-def folders_built(top):
-    """Returns the folders of built files, except those of crates."""
-    folders = [*top.glob("*/out"), *top.glob("*/*/out")]
-    return [folder for folder in folders if folder.parent.parent.name != "crates"]
+PLANTS = TOP / "tools/plants.edits"
+RUN_TESTS = [sys.executable, "tools/run_tests.py"]
 
 
-def programs(top):
-    """Yields the programs of crates, without the proofs beside them, which are large."""
+class Mistake(NamedTuple):
+    """A file with a mistake, and the commands that build it and refuse it."""
+
+    name: str
+    file: pathlib.Path
+    text: bytes
+    build: list[str]
+    tests: list[str]
+
+
+def output(folder: pathlib.Path, *command: object) -> str:
+    done = subprocess.run([*map(str, command)], cwd=folder, stdout=subprocess.PIPE, check=True)
+    return os.fsdecode(done.stdout)
+
+
+def built(top: pathlib.Path) -> Iterator[pathlib.Path]:
+    """Yields the folders of built files and, of crates, the programs, without the large proofs."""
+    for folder in (*top.glob("out"), *top.glob("*/out"), *top.glob("*/*/out")):
+        if folder.parent.parent.name != "crates":
+            yield folder
     for crate in top.glob("crates/*"):
-        for file in crate.glob(f"out/{crate.name}*"):
-            if file.is_file():
-                yield file
+        yield from (it for it in crate.glob(f"out/{crate.name}*") if it.is_file())
 
 
 class Copy:
     """A copy of the repository in a separate folder."""
 
-    def __init__(self, top, room, file):
-        self.top, self.file, self.original = room, room / file, (top / file).read_bytes()
-        room.mkdir()
+    def __init__(self, top: pathlib.Path, room: pathlib.Path) -> None:
+        self.top = room
+        room.mkdir(mode=0o755)
         listed = output(top, "git", "ls-files", "-zco", "--exclude-standard").split("\0")
         files = [name for name in listed if name and os.path.lexists(top / name)]
-        files += [built.relative_to(top) for built in (*folders_built(top), *programs(top))]
+        files += [str(it.relative_to(top)) for it in built(top)]
         output(top, "cp", "-a", "--parents", "-t", room, *files)
+        for words in (("init", "-q"), ("add", "-A")):  # tests ask git for the files of the tree
+            output(room, "git", *words)
 
-    def passes(self, command, limit):
+    def passes(self, command: list[str], limit: Optional[float]) -> bool:
         """Runs a command, ends its process group, and returns whether it ended in time with status
         0."""
+        none = subprocess.DEVNULL
+        given = {"stdin": none, "stdout": none, "stderr": none, "start_new_session": True}
         env = {**os.environ, "PYTHONDONTWRITEBYTECODE": "1"}
-        quiet = {
-            "stdin": subprocess.DEVNULL,
-            "stdout": subprocess.DEVNULL,
-            "stderr": subprocess.DEVNULL,
-        }
-        with subprocess.Popen(
-            command, cwd=self.top, env=env, start_new_session=True, **quiet
-        ) as running:
+        with subprocess.Popen(command, cwd=self.top, env=env, **given) as running:
             try:
                 return running.wait(limit) == 0
             except subprocess.TimeoutExpired:
@@ -90,112 +107,132 @@ class Copy:
                 with contextlib.suppress(ProcessLookupError):
                     os.killpg(running.pid, signal.SIGKILL)
 
-    def verdict(self, data, asked, limit):
-        """Returns the outcome of the file with this text."""
-        self.file.unlink()
-        self.file.write_bytes(data)
-        shutil.rmtree(self.file.parent / "__pycache__", ignore_errors=True)
-        if not self.passes(asked.build, limit):
-            return "not compiled"
-        return "survived" if self.passes(asked.tests, limit) else "refused"
+    def verdict(self, mistake: Mistake, limit: Optional[float]) -> str:
+        """Returns the outcome of a mistake, and leaves the file as it was."""
+        path = self.top / mistake.file
+        text = path.read_bytes()
+        path.write_bytes(mistake.text)
+        shutil.rmtree(path.parent / "__pycache__", ignore_errors=True)
+        try:
+            if mistake.build and not self.passes(mistake.build, limit):
+                return "not compiled"
+            return "survived" if self.passes(mistake.tests, limit) else "refused"
+        finally:
+            path.write_bytes(text)
 
 
-def builder(top, file):
+def builder(top: pathlib.Path, file: pathlib.Path) -> list[str]:
     """Returns the command that compiles a file."""
     if file.suffix == ".py":
-        return [
-            sys.executable,
-            "-c",
-            f"compile(open({str(file)!r}, 'rb').read(), 'mutant', 'exec')",
-        ]
+        code = f"compile(open({str(file)!r}, 'rb').read(), 'mutant', 'exec')"
+        return [sys.executable, "-c", code]
     for folder in file.parents:
         if file.suffix == ".rs" and (top / folder / "Cargo.toml").is_file():
-            return [
-                "cargo",
-                "test",
-                "--no-run",
-                "--offline",
-                "--manifest-path",
-                str(folder / "Cargo.toml"),
-            ]
+            words = "cargo test --no-run --offline --manifest-path".split()
+            return [*words, str(folder / "Cargo.toml")]
         if file.suffix != ".rs" and (top / folder / "Makefile").is_file():
             return ["make", "-s", "-C", str(folder)]
     sys.exit(f"{file} has no Makefile or Cargo.toml above it: name a command by --build")
 
 
-def verdicts(top, file, mutants, asked):
-    """Yields each mutant with its outcome, in the order of their places."""
-    with tempfile.TemporaryDirectory(
-        prefix="mutate-"
-    ) as room, concurrent.futures.ThreadPoolExecutor(asked.jobs) as pool:
-        made = [
-            Copy(top, pathlib.Path(room) / str(number), file)
-            for number in range(min(asked.jobs, len(mutants)))
-        ]
-        free, began = queue.Queue(), time.monotonic()
-        unchanged = pool.map(lambda copy: copy.verdict(copy.original, asked, asked.limit), made)
-        if {*unchanged} != {"survived"}:
+def mutations(top: pathlib.Path, file: pathlib.Path, asked: argparse.Namespace) -> list[Mistake]:
+    """Returns the changes of a file, as many as are asked for."""
+    source, found = (top / file).read_bytes(), mutants_of(top / file)
+    count = min(asked.sample or len(found), len(found))
+    build, mistakes = asked.build or builder(top, file), []
+    for start, end, operator, new in sorted(random.Random(asked.seed).sample(found, count)):
+        line, old = source[:start].count(b"\n") + 1, source[start:end].decode()
+        change = " -> ".join(" ".join(it.split())[:80] for it in (old, new))
+        text = source[:start] + new.encode() + source[end:]
+        name = f"{file}:{line}: {operator}: {change}"
+        mistakes.append(Mistake(name, file, text, build, asked.tests))
+    return mistakes
+
+
+def plants(words: list[str]) -> list[Mistake]:
+    """Returns our own mistakes, each in the only file that it changes."""
+    found = []
+    for plant in map(Edit, blocks_in(PLANTS)):
+        file = pathlib.Path(plant.changes[0].file)
+        if any(word in str(file) for word in words or [""]):
+            changed = plant.planted({str(file): (TOP / file).read_text()})
+            if changed is None:
+                sys.exit(f"{file} hasn't the text of {plant.name} exactly once")
+            tests = [*RUN_TESTS, "--first", plant.of]
+            found.append(Mistake(plant.name, file, changed[str(file)].encode(), [], tests))
+    return found
+
+
+def verdicts(
+    top: pathlib.Path, mistakes: list[Mistake], tests: list[str], asked: argparse.Namespace
+) -> Iterator[tuple[Mistake, str]]:
+    """Yields each mistake with its outcome, in their order; first the tests have to pass in each
+    copy with nothing changed."""
+    with contextlib.ExitStack() as stack:
+        room = pathlib.Path(stack.enter_context(tempfile.TemporaryDirectory(prefix="mutate-")))
+        room.chmod(0o755)
+        count = min(asked.jobs, len(mistakes))
+        pool = stack.enter_context(concurrent.futures.ThreadPoolExecutor(asked.jobs))
+        copies, began = [Copy(top, room / str(it)) for it in range(count)], time.monotonic()
+        if not all(pool.map(lambda copy: copy.passes(tests, asked.limit), copies)):
             sys.exit("the tests fail with nothing changed")
         took = time.monotonic() - began
-        print(
-            f"the tests pass with nothing changed, in {took:.0f} s; {len(mutants)} mutants to try",
-            flush=True,
-        )
-        limit = asked.limit or max(10, 5 * took)
-        for copy in made:
+        print(f"the tests pass with nothing changed, in {took:.0f} s", flush=True)
+        limit = asked.limit or (max(10, 5 * took) if asked.file else None)
+        free: queue.Queue[Copy] = queue.Queue()
+        for copy in copies:
             free.put(copy)
 
-        def tried(mutant):
+        def tried(mistake: Mistake) -> tuple[Mistake, str]:
             copy = free.get()
             try:
-                data = (
-                    copy.original[: mutant.start]
-                    + mutant.new.encode()
-                    + copy.original[mutant.end :]
-                )
-                return mutant, copy.verdict(data, asked, limit)
+                return mistake, copy.verdict(mistake, limit)
             finally:
                 free.put(copy)
 
-        yield from pool.map(tried, mutants)
+        yield from pool.map(tried, mistakes)
 
 
-def asked_by(words):
-    reader = argparse.ArgumentParser(usage=__doc__.split("\n\n")[1].strip())
-    reader.add_argument("file", type=pathlib.Path)
+def asked_by(words: list[str]) -> argparse.Namespace:
+    reader = argparse.ArgumentParser(usage=(__doc__ or "").split("\n\n")[1].strip())
+    reader.add_argument("file", type=pathlib.Path, nargs="?")
+    reader.add_argument("--plants", nargs="*", metavar="WORD")
     reader.add_argument("--sample", type=int, metavar="N")
     reader.add_argument("--seed", type=int, default=1, metavar="S")
     reader.add_argument("--jobs", type=int, default=os.cpu_count(), metavar="N")
     reader.add_argument("--limit", type=float, metavar="SECONDS")
     reader.add_argument("--build", type=shlex.split, metavar="COMMAND")
-    reader.add_argument("--tests", nargs=argparse.REMAINDER, required=True, metavar="COMMAND")
-    return reader.parse_args(words)
+    reader.add_argument("--tests", nargs=argparse.REMAINDER, metavar="COMMAND")
+    asked = reader.parse_args(words)
+    if (asked.plants is None) != bool(asked.file and asked.tests):
+        reader.error("name a file and --tests, or --plants")
+    if asked.file and asked.file.suffix not in LANGUAGES:
+        reader.error(f"{asked.file} isn't in Python, C or Rust")
+    return asked
 
 
-def main():
+def main() -> int:
     asked = asked_by(sys.argv[1:])
-    path = asked.file.resolve()
-    top = pathlib.Path(output(path.parent, "git", "rev-parse", "--show-toplevel").rstrip("\n"))
-    file, source, mutants = path.relative_to(top), path.read_bytes(), mutants_of(path)
-    asked.build = asked.build or builder(top, file)
-    chosen = sorted(
-        random.Random(asked.seed).sample(mutants, min(asked.sample or len(mutants), len(mutants)))
-    )
-    counts = {"refused": 0, "survived": 0, "not compiled": 0}
-    for mutant, verdict in verdicts(top, file, chosen, asked):
+    if asked.file:
+        path = asked.file.resolve()
+        top = pathlib.Path(output(path.parent, "git", "rev-parse", "--show-toplevel").rstrip("\n"))
+        mistakes, tests = mutations(top, path.relative_to(top), asked), asked.tests
+    else:
+        top, mistakes, asked.jobs = TOP, plants(asked.plants), 1  # the jobs share the processors
+        tests = [*RUN_TESTS, *sorted({it.tests[-1] for it in mistakes})]
+    if not mistakes:
+        sys.exit("nothing to change")
+    counts = collections.Counter[str]()
+    for mistake, verdict in verdicts(top, mistakes, tests, asked):
         counts[verdict] += 1
-        if verdict == "survived":
-            line, old = (
-                source[: mutant.start].count(b"\n") + 1,
-                source[mutant.start : mutant.end].decode(),
-            )
-            change = " -> ".join(" ".join(it.split())[:80] for it in (old, mutant.new))
-            print(f"{file}:{line}: {mutant.operator}: {change}", flush=True)
-    print(
-        f"{len(mutants)} mutants, {len(chosen)} tried:",
-        ", ".join(f"{count} {it}" for it, count in counts.items()),
-    )
+        if asked.file is None:
+            print(f"{mistake.name}: {verdict}", flush=True)
+        elif verdict == "survived":
+            print(mistake.name, flush=True)
+    told = [f"{counts[it]} {it}" for it in ("refused", "survived", "not compiled")]
+    print(f"{len(mistakes)} tried:", ", ".join(told))
+    return int(asked.file is None and counts["refused"] < len(mistakes))
 
 
 if __name__ == "__main__":
-    main()
+    sys.exit(main())

@@ -21,20 +21,20 @@ import subprocess
 import sys
 from collections.abc import Iterable, Iterator
 
-import contracts
 import definitions_page
+import items
 import pictures
 import promises
 import statements
 import tree
-import wrong_body
-from tree import CRATES, TOP, has_edit, has_test, is_test_or_example, listed, report, source
+from tree import CRATES, TOP, has_test, is_test_or_example, listed, report, source
+from wrong_body import wrong_bodies_of
 
 PAGES = [
     *sorted(TOP.glob("*.md")),
     *sorted(TOP.glob("docs/*.md")),
     *sorted(CRATES.glob("*/README.md")),
-    *(TOP / it for it in ("bench/RESULTS.md", "examples/login_page/README.md")),
+    *(TOP / it for it in ("bench/RESULTS.md", "examples/login_page/README.md", "tools/README.md")),
 ]
 README, BUILDING = TOP / "README.md", TOP / "docs/BUILDING.md"
 
@@ -118,7 +118,7 @@ def house() -> Facts:
         "bytes in README.md": len(readme.encode()),
         "lines of over 100 columns in src/ and specs/": lines,
         "lines that tools/english.txt finds": found_in_english(),
-        **contracts.shared_clauses(),
+        **items.shared_clauses(),
     }
     for what, count in counts.items():
         wrong = f"{count} {what}: the limit is {MOST[what]}"
@@ -147,7 +147,7 @@ def figures() -> Facts:
     code = [source(it) for it in CRATES.glob("*/src/**/*.rt")]
     there = {
         "crates": len(listed()),
-        "wrong bodies": len([*CRATES.glob("*/wrong-bodies/*.edit")]),
+        "wrong bodies": sum(len(wrong_bodies_of(it)) for it in CRATES.iterdir()),
         "tests": sum(len(re.findall(r"^\s*#\[test\]", it, re.M)) for it in code),
     }
     readme = README.read_text()
@@ -198,7 +198,9 @@ def stands(place: str) -> bool:
     gate, `CRATE/NAME`."""
     if "::" in place:
         return has_test(*place.split("::"))
-    return (TOP / place).is_file() or place.count("/") == 1 and has_edit(*place.split("/"))
+    crate, _, name = place.partition("/")
+    is_edit = name in {it.name for it in wrong_bodies_of(CRATES / crate)}
+    return is_edit or (TOP / place).is_file()
 
 
 def planted() -> Facts:
@@ -217,11 +219,10 @@ def planted() -> Facts:
 
 def applied() -> Facts:
     """Yields each wrong body whose old text isn't once in its crate."""
-    for crate in sorted({it.parent.parent for it in CRATES.glob("*/wrong-bodies/*.edit")}):
+    for crate in sorted(it.parent for it in CRATES.glob("*/wrong-bodies.edits")):
         files = [it for part in ("src", "specs", "proofs") for it in (crate / part).rglob("*.*")]
         texts = {str(it.relative_to(crate)): source(it) for it in files}
-        for path in sorted(crate.glob("wrong-bodies/*.edit")):
-            edit = wrong_body.Edit(path)
+        for edit in wrong_bodies_of(crate):
             yield None if edit.planted(texts) else f"{edit} doesn't apply"
 
 
@@ -291,14 +292,23 @@ def callers(page: pathlib.Path) -> Facts:
 
 
 def rooms() -> Facts:
-    """Checks that each crate has a page, and a place in the picture."""
-    picture = (TOP / "docs/pictures/crates.svg").read_text()
+    """Checks that each crate has a page, and a place in the picture, above those that it uses
+    directly: without those that one of them uses."""
+    text, picture = (source(TOP / f"docs/pictures/crates.{it}") for it in ("dot", "svg"))
+    drawn = {name: lows.split() for name, lows in re.findall(r"^(\w+) -> \{ (.*) \};$", text, re.M)}
     for name in sorted(listed()):
         is_there = (CRATES / name / "README.md").is_file()
         yield None if is_there else f"crates/{name}/README.md isn't there"
         if not is_test_or_example(name):
-            lacks = f"docs/pictures/crates.svg lacks {name}: run tools/pictures.py"
-            yield None if f">{name}</text>" in picture else lacks
+            used = tree.below(name)
+            indirect = {low for it in used for low in tree.all_below(it)}
+            direct = sorted({*used} - indirect)
+            is_right = sorted(drawn.get(name, [])) == direct
+            wrong = f"docs/pictures/crates.dot: {name} is not above {', '.join(direct)} alone"
+            yield None if is_right else wrong
+            shown = [f">{name}</text>", *(f"<title>{name}&#45;&gt;{low}<" for low in direct)]
+            lacks = f"docs/pictures/crates.svg lacks {name} as crates.dot has it: draw it by dot"
+            yield None if all(it in picture for it in shown) else lacks
 
 
 def order() -> Facts:

@@ -15,27 +15,13 @@ import fnmatch
 import re
 import sys
 
+import items
 from tree import CRATES, TOP, has_test, is_test_or_example, kit, listed, need_rt, report, source
 
 PAGE = TOP / "docs/PROMISES.md"
 FILES = re.compile(
     r"(?<![\w/.-])((?:crates|tools|tests|c|docs|bench)/[\w/.-]*\.(?:txt|rt|antt|py|c|md|h))"
 )
-
-
-def contract_of(text):
-    """Returns the front of a function, up to its body: the only brace that neither `ensures` nor
-    `requires` opens."""
-    depth = 0
-    for place, letter in enumerate(text):
-        if depth == 0 and (
-            letter == ";"
-            or letter == "{"
-            and not re.search(r"\b(ensures|requires)(\s+\w+)?\s*$", text[:place])
-        ):
-            return text[:place]
-        depth += (letter in "([{") - (letter in ")]}")
-    return text
 
 
 def file_of(path):
@@ -45,27 +31,15 @@ def file_of(path):
     return CRATES / crate / "src" / f"{'/'.join(modules) or 'lib'}.rt"
 
 
-def owner(text, place):
-    """Returns the head of the impl or the trait around this place, or nothing."""
-    heads = re.finditer(r"^(?:pub(?:\(\w+\))? )?(?:impl|trait)\b[^\n]*", text[:place], re.M)
-    *_, last = (None, *heads)
-    is_open = last and not re.search(r"^}", text[last.end() : place], re.M)
-    return last[0] if is_open else ""
-
-
 def functions(path):
-    """Finds the places in its file where a function with this path begins: within the type that the
-    path names, or outside any type."""
+    """Returns the functions with this path: within the type that the path names, or outside any
+    type."""
     *modules, name = path.split("::")
-    text, types = source(file_of(path)), [it for it in modules if not it.islower()]
-    head = rf"\b{types[-1]}\b" if types else r"\A\Z"
-    found = [it.start() for it in re.finditer(rf"\bfn {re.escape(name)}\b", text)]
-    return [it for it in found if re.search(head, owner(text, it))]
-
-
-def contracts(path):
-    """Returns the contracts of the functions that a path names."""
-    return [contract_of(source(file_of(path))[it:]) for it in functions(path)]
+    types = [it for it in modules if not it.islower()]
+    found = items.File(source(file_of(path))).items()
+    owners = [it for it in found if types and it.kind in ("impl", "trait") and types[-1] in it.head]
+    inner = [it for owner in owners for it in owner.inner] if types else found
+    return [it for it in inner if it.kind == "fn" and it.name == name]
 
 
 def fields(name):
@@ -76,15 +50,16 @@ def fields(name):
     return {it for record in found for it in re.findall(r"^  pub (\w+) :", record, re.M)}
 
 
-def has_clause(contract, name):
+def has_clause(function, name):
     """Whether a contract has a clause with this name, or is a single record with this field."""
-    record = re.findall(r"\bensures\s*\{\s*(\w+)", contract)
-    is_field = len(record) == 1 and name in fields(record[0])
-    return is_field or re.search(rf"\bensures {name}\b", contract) is not None
+    clauses = [it for it in function.clauses if it.kind == "ensures"]
+    records = [re.match(r"\s*(\w*)", it.text)[1] for it in clauses if not it.name]
+    is_field = len(records) == 1 and name in fields(records[0])
+    return is_field or name in [it.name for it in clauses]
 
 
-def is_clause_of_one(contracts, name):
-    return any(has_clause(contract, name) for contract in contracts)
+def is_clause_of_one(functions, name):
+    return any(has_clause(function, name) for function in functions)
 
 
 def calls(text):
@@ -96,7 +71,7 @@ def calls(text):
             yield f"`{path}`: there is no crate {crate}" if crate.islower() else None
         elif crate.endswith("_tests"):
             yield None if has_test(crate, middle[-1]) else f"the test `{path}` isn't there"
-        elif not (found := contracts(path)):
+        elif not (found := functions(path)):
             yield f"the call `{path}` isn't there"
         else:
             names = re.findall(r"\w+", clauses)

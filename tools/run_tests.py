@@ -1,5 +1,5 @@
 #!/usr/bin/env python3
-"""Runs the tests over what `make` links, as many in parallel as the machine has processors.
+"""Runs the tests over what `make` links, three jobs at once for two processors.
 
     python3 tools/run_tests.py [--quick | --slow | --long] [--note] [--first] [WORD..]
 
@@ -12,10 +12,10 @@ failure, has their seed. The last line is `tests: N passed, M failed, K skipped`
 1 if any test failed. A signal ends the run and everything that its jobs started; the last line is
 then `tests: interrupted`.
 
---quick runs only the modules that take less than half a minute by tools/job_seconds.json, and --slow
-only the others; --long runs the modules that every other run omits. --note stores the time of each
-job in that file, so that the longest jobs begin first. --first begins no job after a failed one, and
-no test of a module after a failed one.
+--quick runs only the modules that take less than half a minute by tools/job_seconds.json, and
+--slow only the others; --long runs the modules that every other run omits. --note stores the time
+of each job in that file, so that the longest jobs begin first. --first begins no job after a failed
+one, and no test of a module after a failed one.
 """
 
 from __future__ import annotations
@@ -57,6 +57,12 @@ BUILD = ["make", "-s"]
 def limit() -> int:
     """Returns the seconds after which the run ends a job that begins now."""
     return int(os.environ.get("JOB_LIMIT", 10 * helpers.longest()))
+
+
+def jobs_at_once() -> int:
+    """Returns the number of jobs that run at once: more than processors, since many jobs wait more
+    than they compute."""
+    return max(2, len(os.sched_getaffinity(0)) * 3 // 2)
 
 
 def end_all(mark: str) -> None:
@@ -187,7 +193,7 @@ class Progress:
         another."""
         packing = [it for it in chosen if it.is_packing]
         queues = [packing, *([it] for it in chosen if not it.is_packing)]
-        with concurrent.futures.ThreadPoolExecutor(len(os.sched_getaffinity(0))) as pool:
+        with concurrent.futures.ThreadPoolExecutor(jobs_at_once()) as pool:
             list(pool.map(self.run, queues))
 
     def run(self, queue: list[Job]) -> None:
@@ -205,8 +211,10 @@ class Progress:
                 print(f"{done.output}\n{job.name}: FAILED, {done.seconds:.0f} s", flush=True)
 
     def note(self) -> None:
-        """Stores the time of each job."""
-        known = seconds() | {it.job.name: round(it.seconds) for it in self.done}
+        """Stores the time of each job, as a quiet machine would need it."""
+        load = helpers.busy()
+        took = {it.job.name: round(max(it.processor, it.seconds / load)) for it in self.done}
+        known = seconds() | took
         SECONDS.write_text(json.dumps(known, indent=1, sort_keys=True) + "\n")
 
     def tell_folders(self) -> None:

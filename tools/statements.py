@@ -42,7 +42,7 @@ from collections.abc import Iterable, Iterator
 
 import definitions
 from definitions import Definitions, Names, Place, Text
-from items import FOR_TESTS, File, Item
+from items import FOR_TESTS, File, Item, all_items
 from tree import CRATES, TOP, is_test_or_example, listed, source
 
 STATEMENTS = TOP / "docs/STATEMENTS.txt"
@@ -113,13 +113,6 @@ class Source:
 
 def is_for_tests(item: Item) -> bool:
     return FOR_TESTS in item.attributes
-
-
-def all_items(items: list[Item]) -> Iterator[Item]:
-    """Yields items, and those inside their braces."""
-    for item in items:
-        yield item
-        yield from all_items(item.inner)
 
 
 def sources_of(crate: str, crates: pathlib.Path) -> Iterator[Source]:

@@ -80,11 +80,6 @@ def has_test(crate: str, test: str) -> bool:
     return any(form.search(source(it)) for it in (CRATES / crate / "src").glob("**/*.rt"))
 
 
-def has_edit(crate: str, name: str) -> bool:
-    """Whether the gate has a wrong body of this name."""
-    return (CRATES / crate / "wrong-bodies" / f"{name}.edit").is_file()
-
-
 def tell_each(seconds: float, tell: Callable[[], None]) -> None:
     """Prints a report at this interval, in parallel with the program's work."""
 

@@ -4,9 +4,9 @@ function that it changes.
 
     python3 tools/wrong_bodies.py [--all] [CRATE..] [-- COMMAND..]
 
-A wrong body is crates/CRATE/wrong-bodies/NAME.edit. A line `fn: PATH` names the function that the
-prover must refuse. Pairs of lines `old: TEXT`, `new: TEXT` change that function. The old TEXT, one
-line, occurs once in one file of the crate, or in the file that a line `file: PATH` before them
+A wrong body is a block of crates/CRATE/wrong-bodies.edits. Its first line, `NAME: PATH`, names the
+function that the prover must refuse. Lines `- TEXT`, `+ TEXT` below it change that function. The
+old text occurs once in one file of the crate, or in the file that a line `in FILE` before them
 names.
 
 The script tries the wrong bodies that the first table of docs/PLANTED.md names, and all those of
@@ -38,7 +38,7 @@ import tempfile
 import threading
 
 from tree import CRATES, RT, TOP, all_below, below, kit, listed, need_rt, source, tell_each
-from wrong_body import Edit, groups
+from wrong_body import wrong_bodies_of, groups
 
 SUMS = TOP / "tools/wrong_bodies.sums"
 EVERY = 30
@@ -53,15 +53,15 @@ def say(line):
     sys.stdout.flush()
 
 
-def checked(path):
+def checked(name, text):
     """Returns the part of a file that a check reads: a comment of Rattle changes no verdict."""
-    text = path.read_bytes()
-    return re.sub(rb"(?m)^[ \t]*//.*\n", b"", text) if path.suffix == ".rt" else text
+    return re.sub(r"(?m)^[ \t]*//.*\n", "", text) if name.endswith(".rt") else text
 
 
-def sum_of(files):
+def sum_of(texts):
     """Computes a checksum over the parts of these files that a check reads, by their names."""
-    sums = [(name, hashlib.sha256(checked(files[name])).hexdigest()) for name in sorted(files)]
+    parts = [(name, checked(name, texts[name]).encode()) for name in sorted(texts)]
+    sums = [(name, hashlib.sha256(part).hexdigest()) for name, part in parts]
     return hashlib.sha256(repr(sums).encode()).hexdigest()
 
 
@@ -72,25 +72,24 @@ class Bench:
     def __init__(self, crate, libraries, places):
         self.crate, self.libraries, self.places = crate, libraries, places
         at = CRATES / crate
-        self.edits = [Edit(it) for it in sorted(at.glob("wrong-bodies/*.edit"))]
+        self.edits = wrong_bodies_of(at)
         self.texts = {}
         for part in ("src", "specs", "proofs"):
             for file in (at / part).rglob("*"):
                 if file.is_file():
                     self.texts[str(file.relative_to(at))] = file.read_text()
-        self.sum = sum_of(self.files())
+        self.sum = sum_of(self.inputs())
 
-    def files(self):
+    def inputs(self):
         """Returns the inputs of a verdict: the crate's files and wrong bodies, and the items of the
         crates below that it can cite, their functions without bodies, and their definitions."""
-        at = CRATES / self.crate
-        names = [*self.texts, *(f"wrong-bodies/{it.name}.edit" for it in self.edits)]
-        files = {name: at / name for name in names}
+        texts = {**self.texts}
+        texts |= {f"wrong-bodies/{it.name}.edit": it.summed for it in self.edits}
         for low in all_below(self.crate):
             lang = self.libraries / f"{low}.rlib/lang"
             for file in (*lang.glob("src/**/*.rt"), *lang.glob("antt/specs/**/*.antt")):
-                files[f"{low}/{file.relative_to(lang)}"] = file
-        return files
+                texts[f"{low}/{file.relative_to(lang)}"] = file.read_text()
+        return texts
 
     def has(self, function):
         """Whether the crate now has a function with that name: an edit may add one."""
@@ -182,7 +181,7 @@ class Trial:
             link(built, self.libraries / built.name)
 
     def start(self, name):
-        if name not in self.crates and any(CRATES.glob(f"{name}/wrong-bodies/*.edit")):
+        if name not in self.crates and wrong_bodies_of(CRATES / name):
             self.crates[name] = self.pool.submit(self.try_crate, name)
 
     def settle(self, edit, verdict, output):
@@ -302,7 +301,7 @@ class Trial:
                 say(f"{name}: the script couldn't try its wrong bodies: {task.exception()}")
         # a COMMAND whose words the script can't read would let all pass
         for name in () if status or self.asked.crates else listed():
-            if any(CRATES.glob(f"{name}/wrong-bodies/*.edit")) and name not in self.crates:
+            if wrong_bodies_of(CRATES / name) and name not in self.crates:
                 self.failed.append(name)
                 say(f"{name}: no line says that the crate is proved")
         for edit in self.failed:

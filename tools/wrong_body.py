@@ -1,10 +1,16 @@
 """A wrong body: its place in its crate, in combination with others, and the verdict of a check."""
 
-import re
-from typing import NamedTuple
+from __future__ import annotations
 
-# Where a function begins, or an item ends.
-HEAD = re.compile(r"^\s*(?:pub(?:\(\w+\))? )?(?:const )?fn (\w+)|^\}", re.M)
+import pathlib
+import re
+from collections.abc import Iterator
+
+from edits import Change, Edit, Texts, blocks_in
+from items import functions
+
+# The word in a sum for the mark of a line.
+SUMMED = {"in": "file", "-": "old", "+": "new"}
 # Errors of a proof that names a removed thing, or rests on an unproved one.
 OF_NAMES = re.compile(r"has no field|is not in scope|has no `|was not admitted")
 # Weaker evidence than a false goal.
@@ -12,58 +18,35 @@ LIMIT = "a limit of the prover, which is weaker evidence"
 LOST_NAME = "a name that the edit removed, which is weaker evidence"
 
 
-class Change(NamedTuple):
-    """A text, the file that has it once, and its replacement. An empty file name means the only
-    file of the crate with the text."""
+class WrongBody(Edit):
+    """An edit of a function's body, which the prover must refuse."""
 
-    file: str
-    old: str
-    new: str
+    def __init__(self, crate: str, block: str) -> None:
+        super().__init__(block)
+        self.crate, self.function = crate, self.of
+        # The text over which a sum is noted: another form would have every body tried again.
+        self.summed = f"fn: {self.function}\n"
+        for mark, _, text in (line.partition(" ") for line in self.lines):
+            self.summed += f"{SUMMED[mark]}: {text}\n"
 
-    def place(self, texts):
-        """Returns the name of the file, or nothing if several files or none have the text."""
-        if self.file:
-            return self.file
-        files = [name for name, text in texts.items() if self.old in text]
-        return files[0] if len(files) == 1 else ""
-
-
-class Edit:
-    """A wrong body, as its file describes it."""
-
-    def __init__(self, path):
-        self.crate, self.name, self.changes = path.parts[-3], path.stem, []
-        given = {"file": ""}
-        for word, text in re.findall(r"^(\w+): ?(.*)", path.read_text(), re.M):
-            given[word] = text
-            if word == "new":
-                self.changes.append(Change(given["file"].strip(), given["old"], text))
-        self.function = given["fn"].strip()
-
-    def __str__(self):
+    def __str__(self) -> str:
         return f"{self.crate}/{self.name}"
 
-    def planted(self, texts):
-        """Returns the texts of a crate's files with this edit applied, or None if it doesn't
-        apply."""
-        found = dict(texts)
-        for change in self.changes:
-            file = change.place(found)
-            if found.get(file, "").count(change.old) != 1:
-                return None
-            found[file] = found[file].replace(change.old, change.new)
-        return found if found != texts else None
-
-    def is_local(self, texts):
+    def is_local(self, texts: Texts) -> bool:
         """Whether the edit changes only its function, and therefore no other plant."""
-        for change in self.changes:
-            above = texts[change.place(texts)].partition(change.old)[0]
-            heads = HEAD.findall(above)
-            if not heads or heads[-1] != self.function.split("::")[-1]:
-                return False
-        return True
+        return all(self.is_inside(it, texts) for it in self.changes)
 
-    def judge(self, output):
+    def is_inside(self, change: Change, texts: Texts) -> bool:
+        """Whether the edit's function has the text of a change."""
+        file, name = change.place(texts), self.function.split("::")[-1]
+        if not file.endswith(".rt"):
+            return False
+        start = texts[file].index(change.old)
+        end = start + len(change.old)
+        named = [it for it in functions(texts[file]) if it.name == name]
+        return any(it.start < start and end <= it.end for it in named)
+
+    def judge(self, output: str) -> str | bool | None:
         """Returns the goal at which a check refuses the edit's function. Returns False if the
         function is proved, or None if the function waits for the proof of another."""
         name = re.escape(f"{self.crate}::{self.function}")
@@ -84,18 +67,17 @@ class Edit:
             return f"{lemma}, a lemma of its proof"
         return None if "it calls" in said else LOST_NAME
 
-    def error_of_answer(self, output):
+    def error_of_answer(self, output: str) -> str:
         """Returns the first error in the function's written answers other than a lost name: the
         goal at its beginning, or the first letters."""
         folder = self.function.replace("::", "/")
         form = rf"^\./proofs/{folder}/\w+\.antt:\d+:\d+: error: (.*)"
-        errors = [it for it in re.findall(form, output, re.M) if not OF_NAMES.search(it)]
-        if not errors:
-            return ""
-        goal = re.match(r"`[^`]*`", errors[0])
-        return goal[0] if goal else errors[0][:80]
+        errors: Iterator[str] = (it[1] for it in re.finditer(form, output, re.M))
+        error = next((it for it in errors if not OF_NAMES.search(it)), "")
+        goal = re.match(r"`[^`]*`", error)
+        return goal[0] if goal else error[:80]
 
-    def false_lemma(self, output):
+    def false_lemma(self, output: str) -> str:
         """Returns the lemma that the edit makes false, if the function's written answers use
         one."""
         folder = self.function.replace("::", "/")
@@ -107,11 +89,16 @@ class Edit:
         return next((name for name, said in lemmas if not OF_NAMES.search(said)), "")
 
 
-def groups(edits, texts):
+def wrong_bodies_of(crate: pathlib.Path) -> list[WrongBody]:
+    """Returns the wrong bodies in a crate's folder."""
+    return [WrongBody(crate.name, it) for it in blocks_in(crate / "wrong-bodies.edits")]
+
+
+def groups(edits: list[WrongBody], texts: Texts) -> Iterator[tuple[list[WrongBody], Texts]]:
     """Returns edits that the script can plant together, each in a different function, with the
     resulting texts."""
     while edits:
-        group, planted, later = [], texts, []
+        group, planted, later = list[WrongBody](), texts, list[WrongBody]()
         for edit in edits:
             more = edit.planted(planted) if fits(edit, group, texts) else None
             if more is None:
@@ -123,7 +110,7 @@ def groups(edits, texts):
         edits = later
 
 
-def fits(edit, group, texts):
+def fits(edit: WrongBody, group: list[WrongBody], texts: Texts) -> bool:
     """Whether an edit can join a group."""
     if not group:
         return True

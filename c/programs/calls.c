@@ -10,6 +10,10 @@
 #include <string.h>
 #include <sys/types.h>
 
+#ifndef __GLIBC__
+#error "the programs need glibc: other C libraries hand no arguments to constructors"
+#endif
+
 /* libc::types::Tried. */
 struct tried {
     bool ok;

@@ -2,9 +2,9 @@
 
     /usr/bin/python3 tests/against_libargon2.py OURS THEIRS SEED TURN..
 
-Each of the 22 calls runs on both, in turns of these numbers. Their answers must be the same, and all bytes that they could
-write, and their requests to a context's callbacks. src/libargon2.c lists the calls that only ours
-refuses: these return the listed answer, and write nothing.
+Each of the 22 calls runs on both, in turns of these numbers. Their answers must be the same, and
+all bytes that they could write, and their requests to a context's callbacks. src/libargon2.c lists
+the calls that only ours refuses: these return the listed answer, and write nothing.
 """
 
 import base64

@@ -110,7 +110,8 @@ static void test_trim_and_keep(void) {
 }
 
 /* Returns the number of threads that a call starts for its three lanes: one beside the caller's for
- * two threads. A call of argon2.h has one thread for each lane, or as many as its context says. */
+ * two threads, and for each hash. A change and an upgrade compute two, after a wrong password too.
+ * A call of argon2.h has one thread for each lane, or as many as its context says. */
 static int helpers_of(const struct job *job) {
     if (job->trouble == BAD_RECORD)
         return 0;
@@ -119,7 +120,8 @@ static int helpers_of(const struct job *job) {
     if (strncmp(job->name, "argon2_", 7) == 0)
         return 2;
     bool has_threads = strstr(job->name, "threads") != NULL || strstr(job->name, "_from") != NULL;
-    return has_threads ? 1 + (strstr(job->name, "of a change") != NULL) : 0;
+    bool has_two = strstr(job->name, "change") != NULL || strstr(job->name, "upgrade") != NULL;
+    return has_threads ? 1 + has_two : 0;
 }
 
 static void test_jobs(void) {

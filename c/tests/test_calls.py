@@ -117,6 +117,16 @@ class Calls(unittest.TestCase):
                 self.assertEqual(HASHES - {name.partition("::<")[0] for name in shared}, set())
                 self.assertEqual([name for name in shared if lanes[name] != library[name]], [])
 
+    def test_programs_on_processors(self):
+        """A program runs no lanes of a level that the processor lacks."""
+        need_host()
+        need("qemu-x86_64")
+        program, folder = TOP.parent / "out/credbook", TOP.parent / "crates/credbook"
+        given, wanted = ((folder / it).read_text() for it in ("stdin", "stdout"))
+        for processor in ("qemu64", "Nehalem", "Haswell"):
+            said = run("qemu-x86_64", "-cpu", processor, program, "run", given=given)
+            self.assertTrue(said.endswith(wanted), said)  # qemu's own warnings come first
+
     def test_calls_on_processors(self):
         """Each call on a processor of each level, which knows no instructions of the next one."""
         need_host()

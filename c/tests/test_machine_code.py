@@ -7,6 +7,7 @@ import statistics
 import unittest
 
 from harness import BUILDS, OUT, built, need, need_file, need_host, need_native, run, sources_for
+from tests.samples import sample
 
 OBJDUMP = "objdump"
 COUNTED = ["valgrind", "--tool=callgrind", "--callgrind-out-file=/dev/null"]
@@ -111,7 +112,7 @@ class MachineCode(unittest.TestCase):
         50 instructions more."""
         need_host()
         need("valgrind")
-        for build in ("v1", "v2", "v3"):  # valgrind knows no instruction of v4
+        for build in sample(("v1", "v2", "v3")):  # valgrind knows no instruction of v4
             program = built("one_tag", ["-O2"], sources_for(build))
             counts = [instructions(program, it) for it in range(1016, 1036, 4)]
             more = [later - sooner for sooner, later in zip(counts, counts[1:])]

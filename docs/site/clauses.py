@@ -3,7 +3,7 @@ definition. tools/promises.py checks that each name exists."""
 
 import re
 
-from promises import FILES, contract_of, file_of, functions
+from promises import FILES, file_of, functions
 from tree import CRATES, TOP, listed, source
 
 CALL = re.compile(r"`(\w+(?:::\w+)+)`(\s*\((?:`\w+`(?:,\s*)?)+\))?")
@@ -37,17 +37,16 @@ def call(found):
     crate = path.split("::")[0]
     if crate.endswith("_tests") and (test := place(crate, path.split("::")[-1])):
         return link(f"`{path}`", *test)
-    if crate not in listed() or not (starts := functions(path)):
+    if crate not in listed() or not (named := functions(path)):
         return found[0]
     file = file_of(path)
 
     def clause(word):
-        for start in starts:
-            if at := re.search(rf"\bensures {word[1]}\b", contract_of(source(file)[start:])):
-                return link(word[0], file, start + at.start())
-        return word[0]
+        of_all = [it for function in named for it in function.clauses if it.kind == "ensures"]
+        starts = [it.start for it in of_all if it.name == word[1]]
+        return link(word[0], file, starts[0]) if starts else word[0]
 
-    return link(f"`{path}`", file, starts[0]) + re.sub(r"`(\w+)`", clause, clauses)
+    return link(f"`{path}`", file, named[0].start) + re.sub(r"`(\w+)`", clause, clauses)
 
 
 def carried(item):

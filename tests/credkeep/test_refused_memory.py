@@ -1,5 +1,5 @@
-"""A shim refuses each request for memory of a run in turn, or a sample of them: the run ends with its own status, and
-the book keeps answered changes."""
+"""A shim refuses each request for memory of a run in turn, or a sample of them: the run ends with
+its own status, and the book keeps answered changes."""
 
 import re
 from collections.abc import Callable

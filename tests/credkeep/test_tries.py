@@ -157,7 +157,7 @@ CHANGING = {
 # Accounts whose changes are sent before a try. One commit makes the first change, since the line
 # behind it takes long to hash; the next one as many as there may be, so the last ones wait.
 BEFORE = [f"before{at}" for at in range(70)]
-SLOW = f"$argon2id$v=19$m=65536,t=10,p=1${SALT}${TAG}"
+SLOW = f"$argon2id$v=19$m=65536,t=4,p=1${SALT}${TAG}"
 # Accounts for lines behind the try, and for lines that come once these are hashed.
 BEHIND = [f"behind{at}" for at in range(8)]
 LATE = [f"late{at}" for at in range(8)]

@@ -7,6 +7,7 @@ from typing import Any
 from tests.credkeep.books import CHEAP, RECORD, SALT, SERVE, BookTest, altered, imported, says
 from tests.credkeep.doors import Operation
 from tests.helpers import counts, each, instructions, limited, need
+from tests.samples import sample
 
 # Four lanes.
 COSTS = "$argon2id$v=19$m=1024,t=4,p=4"
@@ -124,7 +125,7 @@ class HashesTest(BookTest):
         none = work("show ann")
         one = work("verify ann one") - none
         verbs = ("verify", "login", "upgrade", "remove", "reset")
-        for line, hashes in (
+        rows = [
             *((f"{verb} {{}} two", {"ann": 1, "bob": 1, "cat": 1}) for verb in verbs),
             ("change {} two one", {"ann": 2, "bob": 2, "cat": 2}),
             (f"upgrade {{}} two {other}", {"ann": 2, "bob": 2, "cat": 2}),
@@ -133,7 +134,8 @@ class HashesTest(BookTest):
             ("upgrade {} one", {"ann": 1}),
             ("change {} one two", {"ann": 2}),
             (f"upgrade {{}} one {other}", {"ann": 2}),
-        ):
+        ]
+        for line, hashes in sample(rows):
             with self.subTest(line=line, hashes=hashes):
                 found = {it: round((work(line.format(it)) - none) / one) for it in hashes}
                 self.assertEqual(found, hashes)
@@ -142,11 +144,8 @@ class HashesTest(BookTest):
         """A check takes the same number of instructions whichever byte of the tag differs, so that
         no time shows how far two tags agree."""
         need("valgrind")
-        for command, given in (
-            ("check", "password"),
-            ("change", "password\nnew\n"),
-            ("remove", "password\n"),
-        ):
+        rows = [("check", "password"), ("change", "password\nnew\n"), ("remove", "password\n")]
+        for command, given in sample(rows):
             with self.subTest(command=command, given=given):
                 least: dict[int, int] = {}
                 # a busy machine may add some, and takes none away

@@ -136,6 +136,44 @@ class WithoutRt(helpers.Case):
         path.write_bytes(whole)
         self.make("-s", folder=folder)
 
+    @each(
+        ("objects.sum", "x86_64/credbook.o", "x86_64/credbook.o"),
+        ("objects.sum", "x86_64/v1.o", "x86_64/v1.o"),
+        ("programs.sum", "cred_tries[ :/]", "crates.txt"),
+    )
+    def test_cut_sums(self, name, cut, named):
+        """A list of sums that lacks an object or a crate is refused: what it lacks could be of
+        other sources."""
+        path = self.top / "c/proved" / name
+        lines = path.read_text().splitlines(keepends=True)
+        kept = [it for it in lines if not re.search(rf"( crates/|  |^# ){cut}", it)]
+        self.assertNotEqual(kept, lines)
+        path.write_text("".join(kept))
+        said = self.make("-s", folder=".", status=2)
+        path.write_text("".join(lines))
+        self.assertIn(named, said)
+
+    def test_objects_of_others(self):
+        """An object beside the committed ones is refused, instead of linked unseen."""
+        path = self.top / "c/proved/x86_64/lanes_v9.o"
+        shutil.copy(self.top / "c/proved/x86_64/v1.o", path)
+        self.assertIn("x86_64/lanes_v9.o", self.make("-s", folder=".", status=2))
+
+    def test_older_objects(self):
+        """make links again what a newer tarball has, unpacked over an older one after a build: its
+        files are older than the build."""
+        self.make("-s", folder=".")
+        folder, said = self.top / "c/proved", ""
+        for name in ("x86_64/credbook.o", "x86_64/v1.o"):
+            run("objcopy", "--add-section", ".note.other=/dev/null", folder / name)
+        names = re.findall(r"\S+$", (folder / "objects.sum").read_text(), re.M)
+        (folder / "objects.sum").write_text(run("sha256sum", *names, at=folder))
+        for path in folder.rglob("*.*"):
+            os.utime(path, (1, 1))
+        said = self.make(folder=".")
+        self.assertEqual([it in said for it in ("-pie", "ld -r", "librigzumal.so.1")], [True] * 3)
+        self.assertNotIn("-pie", self.make(folder="."))
+
     def test_sources_of_others(self):
         """A change above the library's crates matters to the programs alone."""
         with (self.top / "crates.txt").open("a") as lines:
@@ -146,16 +184,25 @@ class WithoutRt(helpers.Case):
         self.assertIn("(crates/credkeep/src/main.rt differs)", said)
         self.assertFalse((self.top / "out/credkeep").exists())
 
-    @each((False, ""), (True, "rt ci\n"))
-    def test_with_rt(self, is_changed, asked):
-        """With rt, make has it prove and compile again only if the sources have changed."""
+    @each(
+        ("", 0, ""),
+        ("crates/credkeep/src/main.rt", 2, "rt ci\n"),
+        ("c/proved/x86_64/credkeep.o", 2, ""),
+    )
+    def test_with_rt(self, changed, status, asked):
+        """With rt, make says which source has changed, and has rt prove and compile again only
+        then: proofs don't repair a damaged object."""
         write_files(self.home, {"bin/rt": RT}, 0o755)
-        if is_changed:
-            (self.top / "crates/credkeep/src/main.rt").write_text("// changed\n")
-        status = 2 if is_changed else 0
-        self.make("-s", folder=".", status=status, PATH=f"{self.home}/bin:{PATH}")
-        path = self.home / "asked"
-        self.assertEqual(path.read_text() if path.exists() else "", asked)
+        path = self.top / (changed or "VERSION")
+        before = path.read_bytes()
+        if changed:
+            path.write_text("// changed\n")
+        said = self.make("-s", folder=".", status=status, PATH=f"{self.home}/bin:{PATH}")
+        path.write_bytes(before)
+        self.assertIn(pathlib.Path(changed).name, said)
+        noted = self.home / "asked"
+        self.assertEqual(noted.read_text() if noted.exists() else "", asked)
+        noted.unlink(missing_ok=True)
 
     @each("proved", "prove")
     def test_what_needs_rt(self, target):

@@ -14,6 +14,7 @@ from typing import Any
 from served import Case, Service, is_listening, need_module, need_root, until
 from test_full_disks import SIZE, fill
 from tests.helpers import each, run, small_disk
+from tests.samples import sample
 
 TIME = "2026-01-01T00:00:00Z"
 # As an earlier version wrote it: of whom nothing is left, too.
@@ -48,8 +49,6 @@ login verify eve {secret} -> yes
 login verify fay {secret} -> yes
 """
 NAMES = ("ada", "bob", "cid", "dan", "eve", "fay")
-# More than the lines of a start with these marks.
-MOST_LINES = 40
 
 
 class Earlier(Case):
@@ -111,23 +110,29 @@ class Earlier(Case):
 
     @each("dies", "killed", "kills")
     def test_kills(self, fault: str) -> None:
-        """In place of each answer the book ends, or the server is killed: the file stays until the
-        book has all marks, and the next start goes on."""
-        folder, is_started = self.begun(), False
+        """In place of an answer to a start the book ends, or the server is killed: the file stays
+        until the book has all marks, and the next start goes on."""
+        folder = self.begun()
         whole = (folder / "users.db").read_bytes()
-        for answers in range(MOST_LINES):
+        for answers in sample(range(self.lines_of_a_start(folder))):
             (folder / "users.db").write_bytes(whole)
             self.marks(folder).write_text(MARKS)
             service = self.serving(folder=folder, faults=f"{fault}={answers}", waits=False)
             status, log = service.ended()
             self.assertNotEqual(status, 0, log)
-            if is_started := not self.marks(folder).exists():
-                break
+            self.assertTrue(self.marks(folder).exists())
             self.assertNotIn("start:", log)
             self.check(folder)
-        self.assertTrue(is_started)
-        self.assertGreater(answers, 10)
+
+    def lines_of_a_start(self, folder: pathlib.Path) -> int:
+        """The number of lines that the book gets up to the last mark."""
+        before = len((folder / "asked").read_text().splitlines())
         self.check(folder)
+        lines = (folder / "asked").read_text().splitlines()[before:]
+        marking = [it.startswith(("lock ", "expire ")) for it in lines]
+        count = len(lines) - marking[::-1].index(True)
+        self.assertGreater(count, 10)
+        return count
 
     @each("lock", "expire")
     def test_a_book_that_refuses(self, operation: str) -> None:
@@ -205,10 +210,14 @@ class Earlier(Case):
         old.write_text("".join(f"{name}:{{SHA}}{digest}\n" for name in ("gus", "ira", "ada")))
         return old
 
-    @each(*range(16, 24))
-    def test_users_of_an_old_file(self, kill: int) -> None:
+    def test_users_of_an_old_file(self) -> None:
         """A user who hasn't moved has the marks too, whenever the server is killed: gus is locked,
         and ira must change the password."""
+        for kill in sample(range(16, 24)):
+            with self.subTest(kill=kill):
+                self.check_users_of_an_old_file(kill)
+
+    def check_users_of_an_old_file(self, kill: int) -> None:
         folder, old = self.begun(f"{MARKS}gus lock {TIME}\nira expire {TIME}\n"), self.old_file()
         options = ("--tries", "0", "--foreign", str(old))
         self.serving(*options, folder=folder, faults=f"kills={kill}", waits=False).ended()

@@ -81,7 +81,7 @@ class Affected(Case):
         ("crates/cred_many/proofs/Lib.antt", ["cred_many", "credkeep"]),
         ("crates/crash_laws/src/lib.rt", ["crash_laws"]),
         ("crates/cred_many/README.md", []),
-        ("crates/cred_many/wrong-bodies/new.edit", []),
+        ("crates/cred_many/wrong-bodies.edits", []),
         ("c/src/step.c", []),
     )
     def test_proofs(self, file: str, crates: list[str]) -> None:
@@ -113,7 +113,7 @@ class Affected(Case):
                     words = affected.jobs_of(file)
                     self.assertTrue(any(word in module for word in words))
 
-    @each("", "c/tests", "test_ask", "tests/tools/test_plants", "frameworks")
+    @each("", "c/tests", "test_ask", "tests/tools/test_mutate", "frameworks")
     def test_words(self, word: str) -> None:
         """The words that are printed choose the same jobs."""
         chosen = jobs.jobs([word])
@@ -123,7 +123,7 @@ class Affected(Case):
     def test_report(self) -> None:
         """A line for each part, with its minutes and its command."""
         lines = affected.report(["crates/crash_laws/src/laws.rt", "rust/src/ffi.rs"])
-        proofs, bodies, tests, pages = lines
+        proofs, bodies, tests, pages, layout = lines
         minutes = r", (about \d+ min|under a minute)"
         self.assertRegex(proofs, rf"^proofs: crash_laws{minutes}: rt ci crash_laws$")
         command = "python3 tools/wrong_bodies.py crash_laws"
@@ -131,6 +131,7 @@ class Affected(Case):
         command = "/usr/bin/python3 tools/run_tests.py rust/tests"
         self.assertRegex(tests, rf"^tests: 1 of \d+ jobs{minutes}: {command}$")
         self.assertEqual(pages, "pages: python3 tools/pages.py")
+        self.assertEqual(layout, "layout, names and types: make lint")
         self.assertEqual([*affected.report([])], [])
 
     def test_sample(self) -> None:

@@ -1,5 +1,5 @@
-"""tools/compile_proved.py over a toolchain of stand-ins: its changes of proved modules, its objects,
-and its refusals."""
+"""tools/compile_proved.py over a toolchain of stand-ins: its changes of proved modules, its
+objects, and its refusals."""
 
 from __future__ import annotations
 
@@ -48,7 +48,8 @@ case " $* " in
 esac
 """
 RTLIB = (
-    'import re\nVERDICT = re.compile(r"^logic=proved functions=9 target=\\S+ native=nat\\n\\Z")\n'
+    "import re\n"
+    'VERDICT = re.compile(r"^logic=proved functions=9( bugs=1)? target=\\S+ native=nat\\n\\Z")\n'
 )
 RT = """#!/bin/sh
 case $1 in doc) echo "$ROOM/kit/START-HERE.md" ;; version) echo "an rt of another day" ;; esac
@@ -193,6 +194,16 @@ class CompileProved(Case):
         (proved / "x86_64/more.o").touch()
         self.assertIn("(toolchain, x86_64/more.o)", self.compiled(words=["--check"]).faults)
 
+    def test_check_by_another_rt(self) -> None:
+        """Before an hour of proofs, an rt of another toolchain is told."""
+        self.assertEqual(self.compiled().status, 0)
+        (self.top / "c/proved/toolchain").write_text("an rt of yesterday\n")
+        done = self.compiled(words=["--check"], SAID="asked")
+        self.assertEqual(
+            done.faults, "this rt isn't of the toolchain that c/proved/toolchain names\n"
+        )
+        self.assertEqual(self.compiled().status, 0)
+
     def test_sources(self) -> None:
         """The committed sums are those of the present sources, for sha256sum too."""
         self.assertEqual(self.compiled().status, 0)
@@ -222,6 +233,7 @@ class CompileProved(Case):
         ),
         ("a rattle that fails", {}, {"STATUS": "1"}, "isn't proved for"),
         ("nothing proved", {}, {"SAID": "logic=assumed functions=9"}, "isn't proved for"),
+        ("bugs", {}, {"SAID": f"{PROVED} bugs=1"}, "isn't proved for"),
         (
             "kept proofs",
             {},

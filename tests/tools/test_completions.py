@@ -1,4 +1,4 @@
-"""tools/completions.py: the completions of each shell, over programs with clap's help."""
+"""The completions of each shell, over programs with clap's help, and the server's own."""
 
 import contextlib
 import os
@@ -6,8 +6,6 @@ import pty
 import re
 import shlex
 import shutil
-import subprocess
-import sys
 import unittest
 
 from tests.helpers import TOP, Case, ended, write_files
@@ -85,7 +83,10 @@ CASES = [
     ("credkeep --w", {"--wait"}),
     ("credbook ", {"run"}),
     ("credbook run --", {"--workers"}),
+    ("credbook ch", set()),
     ("credkeep-server ", {"users.db"}),
+    ("credkeep-server --au", {"--audit", "--audit-tries"}),
+    ("credkeep-server --wait 5 u", {"users.db"}),
 ]
 
 
@@ -93,18 +94,12 @@ class Completions(Case):
     def setUp(self):
         super().setUp()
         self.top, self.at = self.room(), self.room()
-        programs = {
-            f"out/{it}": text for it, text in (("credkeep", CREDKEEP), ("credbook", CREDBOOK))
-        }
-        write_files(self.top, programs, 0o755)
-        for folder in ("tools", "completions", "bin", "python/rigzumal/server/daemon"):
-            shutil.copytree(TOP / folder, self.top / folder)
-        self.folders = [self.top / it for it in ("bash", "zsh", "fish")]
-        subprocess.run(
-            [sys.executable, self.top / "tools/completions.py", *self.folders], check=True
-        )
+        write_files(self.top, {"bin/credkeep": CREDKEEP, "bin/credbook": CREDBOOK}, 0o755)
+        texts = {it: (TOP / "completions" / it).read_text() for it in ("bash", "zsh", "fish")}
+        texts = {it: text.replace("@BASH@", f"{self.top}/bash") for it, text in texts.items()}
+        write_files(self.top, texts | {"_credkeep": texts["zsh"]})
         write_files(self.at, {f"users.db{end}": "" for end in ("", "-wal", "-locks")})
-        path = f"{self.top}/crates/credkeep/out:{os.environ['PATH']}"
+        path = f"{self.top}/bin:{TOP}/bin:{os.environ['PATH']}"
         self.env = {**os.environ, "PATH": path, "HOME": str(self.at)}
 
     def shell(self, *words):
@@ -116,9 +111,8 @@ class Completions(Case):
         for line, offered in CASES:
             # bash parts words at `=` too
             words = [*line.replace("=", " = ").split(), *([""] if line.endswith(" ") else [])]
-            file = self.folders[0] / words[0]
             quoted = " ".join(map(shlex.quote, words))
-            script = f"source {file}; COMP_WORDS=({quoted}); COMP_CWORD={len(words) - 1}"
+            script = f"source {self.top}/bash; COMP_WORDS=({quoted}); COMP_CWORD={len(words) - 1}"
             script += '; f=$(complete -p "${COMP_WORDS[0]}"); f=${f#*-F }; ${f%% *}'
             script += '; printf "%s\\n" "${COMPREPLY[@]}"'
             with self.subTest(line=line):
@@ -126,7 +120,7 @@ class Completions(Case):
 
     @unittest.skipUnless(shutil.which("fish"), "needs the program fish")
     def test_fish(self):
-        sourced = "; ".join(f"source {it}" for it in sorted(self.folders[2].iterdir()))
+        sourced = f"source {self.top}/fish"
         for line, offered in CASES:
             with self.subTest(line=line):
                 found = self.shell(
@@ -172,7 +166,7 @@ class Completions(Case):
 
     def typed_to_zsh(self, line):
         """The lines of zsh after a line and the key Tab, twice."""
-        (self.at / ".zshrc").write_text(ZSHRC.format(self.folders[1]))
+        (self.at / ".zshrc").write_text(ZSHRC.format(self.top))
         pid, terminal = pty.fork()
         if pid == 0:
             os.chdir(self.at)
@@ -189,13 +183,3 @@ class Completions(Case):
         os.waitpid(pid, 0)
         os.close(terminal)
         return shown.decode().partition(line)[2]
-
-    def test_remove(self):
-        for folder in self.folders:
-            (folder / "of-another").touch()
-        subprocess.run(
-            [sys.executable, self.top / "tools/completions.py", "--remove", *self.folders],
-            check=True,
-        )
-        for folder in self.folders:
-            self.assertEqual([file.name for file in folder.iterdir()], ["of-another"])

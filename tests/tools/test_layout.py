@@ -1,19 +1,36 @@
-"""The layout of all Python code in the tree (black by pyproject.toml, and checks that need no
-program), and checks of the shell scripts and of the manuals."""
+"""The lengths of files and functions of Python, and the tools that tools/lint starts."""
 
 import ast
+import os
 import pathlib
-import tempfile
-import unittest
+import shutil
 from collections.abc import Iterator
 
-from tests.helpers import TOP, ended, need, run
+from tests.helpers import TOP, Case, Ended, each, ended, need, write_files
 
-COLUMNS, LINES, LINES_OF_A_FUNCTION = 100, 400, 60
+LINES, LINES_OF_A_FUNCTION = 400, 60
 # Folders with what is built, and not written.
 BUILT = {"out", "target", "__pycache__", ".git", ".mypy_cache", ".hypothesis"}
-# Of pycodestyle's, what black decides, a name that a table has, and imports behind a path.
-NOT_ASKED = "E203,E402,E501,E704,E731,E741,W503"
+# The tools of tools/lint, each with files that it looks at.
+TOOLS = {
+    "black": ("tests/helpers.py", "bin/credkeep-ask"),
+    "flake8": ("tests/helpers.py", "bin/credkeep-ask"),
+    "mypy": ("python/rigzumal",),
+    "clang-format": ("c/pam/pam_rigzumal.c", "tests/shims/calls.c", "c/include/rigzumal.h"),
+    "shellcheck": (
+        "packaging/rigzumal-tools/postrm",
+        "bin/launcher.in",
+        ".ci/run",
+        "completions/bash",
+    ),
+    "groff": ("man/rigzumal.3",),
+}
+# A stand-in of a tool: it notes its words, and may find a fault.
+TOOL = """#!/bin/sh
+name=${0##*/}
+echo "$name $*" >> "$ASKED"
+[ "$name" != "$FAILING" ] || { echo a fault; exit 1; }
+"""
 
 
 def files() -> list[pathlib.Path]:
@@ -32,81 +49,45 @@ def long_functions(path: pathlib.Path) -> Iterator[str]:
                 yield f"{path.relative_to(TOP)}:{node.lineno}: {node.name}"
 
 
-def has_noqa(fault: str) -> bool:
-    """Whether the line that a fault of pyflakes names says that it is meant."""
-    path, line, _ = fault.split(":", 2)
-    return "noqa" in pathlib.Path(path).read_text().splitlines()[int(line) - 1]
-
-
-def scripts() -> list[pathlib.Path]:
-    """The files for the shell, by their first lines."""
-    found = [it for it in TOP.rglob("*") if not BUILT & {*it.relative_to(TOP).parts}]
-    files = [it for it in found if it.is_file() and not it.is_symlink()]
-    return [it for it in files if is_script(it)]
-
-
-def is_script(path: pathlib.Path) -> bool:
-    with path.open("rb") as file:
-        return file.read(9) == b"#!/bin/sh"
-
-
-class Others(unittest.TestCase):
-    def test_scripts(self) -> None:
-        """The shell reads each script of the tree, those of packages too."""
-        names = {str(it.relative_to(TOP)) for it in scripts()}
-        wanted = {".ci/run", "bin/launcher.in", "packaging/deb", "packaging/rigzumal-tools/postrm"}
-        self.assertEqual(wanted - names, set())
-        for path in scripts():
-            with self.subTest(path.relative_to(TOP)):
-                run("sh", "-n", path)
-
-    def test_manuals(self) -> None:
-        """groff warns of nothing in the manuals."""
-        need("groff")
-        for path in sorted((TOP / "man").iterdir()):
-            with self.subTest(path.name):
-                self.assertEqual(run("groff", "-man", "-Tutf8", "-ww", "-z", path), "")
-
-
-class Layout(unittest.TestCase):
-    def test_files_are_found(self) -> None:
-        names = {str(it.relative_to(TOP)) for it in files()}
-        wanted = {"bin/credkeep-ask", "bin/rigzumal", "tools/run_tests.py", "c/tests/harness.py"}
-        self.assertEqual(wanted - names, set())
-
-    def test_widths(self) -> None:
-        """No line of Python has over 100 columns."""
-        for path in files():
-            lines = enumerate(path.read_text().splitlines(), 1)
-            with self.subTest(path.relative_to(TOP)):
-                self.assertEqual([at for at, line in lines if len(line) > COLUMNS], [])
-
+class Layout(Case):
     def test_lengths(self) -> None:
         """No file has over 400 lines, and no function over 60."""
         long = [it for it in files() if len(it.read_text().splitlines()) > LINES]
         self.assertEqual([str(it.relative_to(TOP)) for it in long], [])
         self.assertEqual([name for it in files() for name in long_functions(it)], [])
 
-    def test_black(self) -> None:
-        """black leaves every file as it is."""
-        need("black")
-        config = ("--config", TOP / "pyproject.toml")
-        run("black", "--quiet", "--check", *config, *files())
+    def test_list_of_tools(self) -> None:
+        """tools/README.md has each file of its folder."""
+        names = {it.name for it in (TOP / "tools").iterdir() if it.is_file()}
+        page = (TOP / "tools/README.md").read_text()
+        self.assertEqual([it for it in names - {"README.md"} if it not in page], [])
 
-    def test_types(self) -> None:
-        """mypy has nothing to say of the files that pyproject.toml names."""
-        need("mypy")
-        with tempfile.TemporaryDirectory(prefix="rigzumal-") as cache:
-            run("mypy", "--config-file", TOP / "pyproject.toml", "--cache-dir", cache)
+    def lint(self, failing: str, missing: str) -> Ended:
+        """Runs tools/lint over stand-ins of its tools, of which one fails and one is missing."""
+        need("git")
+        room = self.room()
+        write_files(room, {name: TOOL for name in {*TOOLS} - {missing}}, 0o755)
+        for name in ("sh", "git", "dirname", "grep"):
+            (room / name).symlink_to(shutil.which(name) or "")
+        self.asked = room / "asked"
+        env = {"PATH": str(room), "ASKED": str(self.asked), "FAILING": failing}
+        env |= {"GIT_CONFIG_COUNT": "1", "GIT_CONFIG_KEY_0": "safe.directory"}
+        given = {**os.environ, **env, "GIT_CONFIG_VALUE_0": str(TOP)}
+        return ended([str(TOP / "tools/lint")], env=given)
 
-    def test_habits(self) -> None:
-        """pycodestyle has nothing to say but of what black decides."""
-        need("pycodestyle")
-        run("pycodestyle", f"--ignore={NOT_ASKED}", *files())
-
-    def test_names(self) -> None:
-        """Each name that is imported or bound is used; `noqa` says where others use it."""
-        need("pyflakes3")
-        done = ended(["pyflakes3", *map(str, files())])
-        faults = [it for it in done.written.splitlines() if not has_noqa(it)]
-        self.assertEqual((faults, done.faults), ([], ""))
+    @each(("", ""), *((it, "") for it in TOOLS), *(("", it) for it in TOOLS))
+    def test_tools(self, failing: str, missing: str) -> None:
+        """Each tool looks at its files, whatever another finds. One that finds a fault or is
+        missing is named."""
+        done = self.lint(failing, missing)
+        last = done.written.splitlines()[-1]
+        if failing:
+            named = "manuals" if failing == "groff" else failing
+            self.assertRegex(last, f"^lint: FAILED: {named}")
+        else:
+            self.assertRegex(last, f"^lint: missing: {missing}" if missing else "^lint: passed$")
+        self.assertEqual(done.status, 1 if failing else 3 if missing else 0)
+        asked = self.asked.read_text().splitlines()
+        for tool, names in TOOLS.items():
+            words = {it for line in asked for it in line.split() if line.startswith(f"{tool} ")}
+            self.assertEqual({*names} - words, {*names} if tool == missing else set())

@@ -9,7 +9,7 @@ from tests.helpers import TOP, Case, each, need, write_files
 from tests.needs import need_git
 
 sys.path.insert(0, str(TOP / "tools"))
-import contracts  # noqa: E402
+import items  # noqa: E402
 import pages  # noqa: E402
 import tree  # noqa: E402
 
@@ -48,6 +48,8 @@ impl Other {
     }
 }
 """
+# The names and arrows of a picture.
+DRAWN = "low other high high&#45;&gt;low high&#45;&gt;other"
 SHARED = "clauses that two functions share"
 AGAIN = "lines of longer clauses that stand again"
 
@@ -95,6 +97,27 @@ class Pages(Case):
             with mock.patch.object(tree, "listed", lambda: CRATES):
                 return [it for it in pages.order() if it]
 
+    @each(
+        ("high -> { low other };", DRAWN, []),
+        ("high -> { low };", DRAWN, ["dot: high is not above low, other alone"]),
+        ("high -> { low other };", DRAWN.replace(" high&#45;&gt;other", ""), ["svg lacks high"]),
+        ("high -> { low other };", DRAWN.replace(" other", "", 1), ["svg lacks other"]),
+    )
+    def test_picture(self, dot: str, svg: str, wrong: list[str]) -> None:
+        """The picture has each crate above those that it uses."""
+        room = self.room()
+        shown = "".join(f">{it}</text><title>{it}</title>" for it in svg.split())
+        write_files(
+            room, {"docs/pictures/crates.dot": f"{dot}\n", "docs/pictures/crates.svg": shown}
+        )
+        write_files(room, {f"{it}/README.md": "" for it in CRATES})
+        with mock.patch.multiple(pages, TOP=room, CRATES=room, listed=lambda: CRATES):
+            with mock.patch.object(tree, "listed", lambda: CRATES):
+                found = [it for it in pages.rooms() if it]
+        self.assertEqual(len(found), len(wrong))
+        for fault, part in zip(found, wrong):
+            self.assertIn(f"docs/pictures/crates.{part}", fault)
+
     def test_merges(self) -> None:
         """A file that keeps a mark of a merge is named, and a quoted mark is none."""
         need("git")
@@ -111,27 +134,26 @@ class Pages(Case):
         of several lines count from its second function on. Examples don't count."""
         room = self.room()
         write_files(room, {"low/src/lib.rt": SHARING, "example_of_use/src/lib.rt": SHARING})
-        with mock.patch.object(contracts, "CRATES", room):
-            found = contracts.shared_clauses()
+        with mock.patch.object(items, "CRATES", room):
+            found = items.shared_clauses()
         self.assertEqual(found, {SHARED: 2, AGAIN: 4})
 
     def test_limits_of_shared_clauses(self) -> None:
         """The tool complains of more shared clauses than the limits allow."""
         need_git()
         counts = {SHARED: pages.MOST[SHARED] + 1, AGAIN: pages.MOST[AGAIN]}
-        with mock.patch.object(contracts, "shared_clauses", return_value=counts):
+        with mock.patch.object(items, "shared_clauses", return_value=counts):
             found = [it for it in pages.house() if it]
         self.assertEqual(found, [f"8 {SHARED}: the limit is 7"])
 
     def test_wrong_bodies(self) -> None:
         """A wrong body applies if its old text is once in its crate, and the tool looks at each."""
         self.assertIn(pages.applied, pages.OF_TREE)
-        edit = "fn: one\nold: {}\nnew: {{ 2 }}\n"
-        texts = {"low/src/lib.rt": "fn one() { 1 }\nfn two() { 3 } // { 3 }\n"}
-        for name, old in (("once", "{ 1 }"), ("twice", "{ 3 }"), ("none", "{ 4 }")):
-            texts[f"low/wrong-bodies/{name}.edit"] = edit.format(old)
+        olds = {"once": "{ 1 }", "none": "{ 4 }", "twice": "{ 3 }"}
+        edits = "\n".join(f"{name}: one\n- {old}\n+ {{ 2 }}\n" for name, old in olds.items())
+        code = "fn one() { 1 }\nfn two() { 3 } // { 3 }\n"
         room = self.room()
-        write_files(room, texts)
+        write_files(room, {"low/src/lib.rt": code, "low/wrong-bodies.edits": edits})
         with mock.patch.object(pages, "CRATES", room):
             found = [it for it in pages.applied() if it]
         self.assertEqual(found, ["low/none doesn't apply", "low/twice doesn't apply"])

@@ -1,4 +1,4 @@
-"""tools/pictures.py: bars that agree with their table, and pictures that differ from their text."""
+"""tools/pictures.py: bars that agree with their table."""
 
 import re
 import sys
@@ -27,12 +27,12 @@ class Pictures(Case):
         super().setUp()
         self.top = self.room()
         write_files(self.top, {"RESULTS.md": RESULTS})
-        places = {"PICTURES": self.top, "RESULTS": self.top / "RESULTS.md"}
+        places = {"PICTURE": self.top / "speed.svg", "RESULTS": self.top / "RESULTS.md"}
         self.enterContext(mock.patch.multiple(pictures, **places))
 
     def test_bars(self):
         """A bar is as long as its time, and has the time beside it; a cell without one has none."""
-        drawn = pictures.bars()
+        drawn = pictures.drawn()
         widths = re.findall(r'<rect x="200"[^>]* width="(\d+)" height="16"', drawn)
         self.assertEqual([int(it) for it in widths], [160, 480, 240, 80, 241])
         self.assertEqual(
@@ -42,12 +42,10 @@ class Pictures(Case):
             self.assertIn(f">{words}</text>", drawn)
         self.assertIn("prefers-color-scheme: dark", drawn)
 
-    def test_a_picture_of_another_text(self):
-        """The check names a picture of another text, with the command that draws it."""
-        with mock.patch.object(pictures, "DRAWN", {"speed.svg": pictures.bars}):
-            write_files(self.top, {"speed.svg": pictures.drawn("speed.svg")})
-            self.assertEqual([*pictures.check()], [None])
-            write_files(self.top, {"RESULTS.md": RESULTS.replace("240.0", "250.0")})
-            [fault] = pictures.check()
-        self.assertIn("docs/pictures/speed.svg", fault)
-        self.assertIn("tools/pictures.py speed.svg", fault)
+    def test_a_picture_of_another_table(self):
+        """The check names a picture of another table, with the command that draws it."""
+        write_files(self.top, {"speed.svg": pictures.drawn()})
+        self.assertEqual([*pictures.check()], [None])
+        write_files(self.top, {"RESULTS.md": RESULTS.replace("240.0", "250.0")})
+        [fault] = pictures.check()
+        self.assertIn("docs/pictures/speed.svg differs: run tools/pictures.py", fault)

@@ -228,16 +228,17 @@ class RunTests(Case):
         for word in ("no-such-job", "docs/tests"):
             self.assertEqual(self.run_tests(word).status, 1)
 
-    def test_tools_without_rt(self) -> None:
-        """Tools that run what rt builds are skipped where it isn't, and fail where it is."""
-        folders = os.environ["PATH"].split(":")
-        path = ":".join(it for it in folders if not pathlib.Path(it, "rt").exists())
-        done = self.run_tests("tools/peak", "tests/tools", PATH=path)
-        self.assertIn("skipped needs the program rt: 1\n", done.written)
+    def test_tools_of_rt(self) -> None:
+        """Tools that run what `rt ci` builds are skipped until it has built it, whether rt is
+        there or not; those of what make links never are."""
+        program = self.top / "crates/hash_tests/out/hash_tests_tests"
+        done = self.run_tests("tools/peak", "tests/tools")
+        self.assertIn(f"skipped needs the file {program}: 1\n", done.written)
         self.assertEqual(done.status, 0)
-        done = self.run_tests("tools/peak", "tests/tools", PATH=path, RT="true")
+        write_files(self.top, {str(program.relative_to(self.top)): ""})
+        done = self.run_tests("tools/peak", "tests/tools")
         self.assertIn("FAILED: tools/peak_memory: tools/peak_memory\n", done.written)
-        done = self.run_tests("tools/readme", PATH=path)  # of what make links
+        done = self.run_tests("tools/readme")
         self.assertIn("FAILED: tools/readme: tools/readme\n", done.written)
 
     def test_long_ones(self) -> None:

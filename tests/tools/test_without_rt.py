@@ -8,7 +8,7 @@ import subprocess
 import sys
 
 from tests import helpers
-from tests.helpers import TOP, each, ended, run
+from tests.helpers import TOP, each, ended
 from tests.needs import need_git
 
 # The folders of programs, but for those with an rt; and this Python.

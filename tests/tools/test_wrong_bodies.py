@@ -7,7 +7,7 @@ import sys
 
 from tests.helpers import TOP, Case, each, ended, write_files
 
-TOOLS = ("wrong_bodies.py", "wrong_body.py", "tree.py")
+TOOLS = [f"{it}.py" for it in ("wrong_bodies", "wrong_body", "edits", "items", "tree")]
 # `rt doc` names a kit, and `rt lib` leaves a library.
 RT = """#!/bin/sh
 [ "$1" = doc ] && exec echo "$KIT/START-HERE.md"
@@ -50,12 +50,13 @@ fn one() { 1 }
 fn two() { 2 }
 fn three() { one() + LIMIT }
 """
+# The blocks of the crate's file, by their names.
 EDITS = {
-    "one": "fn: one\nold: { 1 }\nnew: { wrong 1 }\n",
-    "one-otherwise": "fn: one\nold: { 1 }\nnew: { wrong 7 }\n",
-    "two": "fn: two\nfile: src/lib.rt\nold: { 2 }\nnew: { wrong 2 }\n",
-    "three": "fn: three\nold: one() + LIMIT\nnew: one() + wrong\n",
-    "limit": "fn: three\nold: LIMIT: u8 = 8\nnew: LIMIT: u8 = 9\n",
+    "one": "one\n- { 1 }\n+ { wrong 1 }\n",
+    "one-otherwise": "one\n- { 1 }\n+ { wrong 7 }\n",
+    "two": "two\nin src/lib.rt\n- { 2 }\n+ { wrong 2 }\n",
+    "three": "three\n- one() + LIMIT\n+ one() + wrong\n",
+    "limit": "three\n# It is a constant.\n- LIMIT: u8 = 8\n+ LIMIT: u8 = 9\n",
 }
 PAGE = "| Wrong body | Where |\n|---|---|\n| one | `high/one` |\n\nOthers: `high/two`.\n"
 
@@ -70,10 +71,15 @@ class WrongBodies(Case):
         self.write({"crates.txt": "low:\nhigh: low\n", "docs/PLANTED.md": PAGE})
         self.write({"crates/low/src/lib.rt": "fn low() { 0 }\n", "crates/high/src/lib.rt": SOURCE})
         self.write({"crates/high/src/other.rt": "fn other() { 2 }\n"})
-        self.write({f"crates/high/wrong-bodies/{name}.edit": text for name, text in EDITS.items()})
+        self.write_edits()
 
     def write(self, texts):
         write_files(self.top, texts)
+
+    def write_edits(self, **changed):
+        """Writes the wrong bodies, some with another text."""
+        blocks = [f"{name}: {text}" for name, text in {**EDITS, **changed}.items()]
+        self.write({"crates/high/wrong-bodies.edits": "\n".join(["# Comment.\n", *blocks])})
 
     def tried(self, *words):
         """The status, the lines of wrong bodies, and how many checks there were."""
@@ -84,6 +90,7 @@ class WrongBodies(Case):
         done = ended([sys.executable, self.top / "tools/wrong_bodies.py", *words], env=env)
         lines = sorted(it for it in done.written.splitlines() if it.startswith("high"))
         self.checks = asked.read_text().splitlines() if asked.exists() else []
+        self.faults = done.faults
         return done.status, lines, len(self.checks)
 
     def refused(self, *names):
@@ -109,34 +116,29 @@ class WrongBodies(Case):
         self.assertEqual(self.tried("--all")[1], self.refused(*EDITS))
         self.write({"crates/high/src/lib.rt": f"/// One.\n{SOURCE}"})
         self.assertEqual(self.tried()[1], self.refused("one"))
-        for name, text in (
-            ("crates/high/src/lib.rt", f"const MORE: u8 = 1;\n{SOURCE}"),
-            ("crates/low/src/lib.rt", "fn low() { 1 }\n"),
-            ("crates/high/wrong-bodies/two.edit", EDITS["two"].replace("wrong 2", "wrong 3")),
+        more = f"const MORE: u8 = 1;\n{SOURCE}"
+        for change in (
+            lambda: self.write({"crates/high/src/lib.rt": more}),
+            lambda: self.write({"crates/low/src/lib.rt": "fn low() { 1 }\n"}),
+            lambda: self.write_edits(two=EDITS["two"].replace("wrong 2", "wrong 3")),
         ):
-            with self.subTest(name=name):
+            with self.subTest():
                 shutil.rmtree(self.top / "crates/low/out", ignore_errors=True)
-                self.write({name: text})
+                change()
                 self.assertEqual(self.tried()[1], self.refused(*EDITS))
                 self.assertEqual(self.tried()[1], self.refused("one"))
 
     @each(
-        (
-            "file: src/lib.rt\nold: { 2 }\nnew: { 1 + 1 }\n",
-            "the prover proves the changed function",
-        ),
-        ("old: { 2 }\nnew: { wrong }\n", "doesn't have the old text exactly once"),
-        ("old: { 5 }\nnew: { wrong }\n", "doesn't have the old text exactly once"),
-        (
-            "file: src/other.rt\nold: { 1 }\nnew: { wrong }\n",
-            "doesn't have the old text exactly once",
-        ),
-        ("file: src/lib.rt\nold: { 2 }\nnew: { 2 }\n", "or the new text is the same"),
+        ("in src/lib.rt\n- { 2 }\n+ { 1 + 1 }\n", "the prover proves the changed function"),
+        ("- { 2 }\n+ { wrong }\n", "doesn't have the old text exactly once"),
+        ("- { 5 }\n+ { wrong }\n", "doesn't have the old text exactly once"),
+        ("in src/other.rt\n- { 1 }\n+ { wrong }\n", "doesn't have the old text exactly once"),
+        ("in src/lib.rt\n- { 2 }\n+ { 2 }\n", "or the new text is the same"),
     )
     def test_not_refused(self, text, why):
         """A body that is right, one whose text no file has or several have, and one that changes
         nothing are named, and the status is 1, at the next run too."""
-        self.write({"crates/high/wrong-bodies/two.edit": f"fn: two\n{text}"})
+        self.write_edits(two=f"two\n{text}")
         for _ in range(2):
             status, lines, _ = self.tried()
             said = "\n".join(lines)
@@ -148,9 +150,9 @@ class WrongBodies(Case):
     def test_refused_elsewhere(self, text):
         """A body that only a caller of its function refuses, or a function that the body adds, is
         tried alone, and the whole crate is looked at."""
-        self.write({"crates/high/wrong-bodies/two.edit": text})
+        self.write_edits(two=text)
         status, lines, _ = self.tried()
-        name = text[4:].split()[0]
+        name = text.split()[0]
         why = "not there, but fn high::three, which is weaker evidence"
         self.assertEqual((status, lines[-1]), (0, f"high/two: refused, in {name}: {why}"))
 
@@ -160,10 +162,25 @@ class WrongBodies(Case):
     )
     def test_lemmas(self, error, why):
         """A definition that makes a lemma of a proof false is refused there."""
-        edit = f"fn: two\nfile: src/lib.rt\nold: {{ 2 }}\nnew: {{ lemma: {error} }}\n"
-        self.write({"crates/high/wrong-bodies/two.edit": edit})
+        self.write_edits(two=f"two\nin src/lib.rt\n- {{ 2 }}\n+ {{ lemma: {error} }}\n")
         status, lines, _ = self.tried()
         self.assertEqual((status, lines[-1]), (0, f"high/two: refused, in two: {why}"))
+
+    @each(
+        ("one\n- { 1 }", "no edit has this form:\ntwo: one\n- { 1 }\n"),
+        ("one\nold: { 1 }\nnew: { 2 }\n", "no edit has this form:\ntwo: one\nold: "),
+        (f"{EDITS['two']}\ntwo: {EDITS['one']}", "several edits are named two"),
+    )
+    def test_form(self, text, why):
+        """A block of another form, and a second block with a name, end the run with their text."""
+        self.write_edits(two=text)
+        self.assertEqual(self.tried("high"), (1, [], 0))
+        self.assertIn(f"high/wrong-bodies.edits: {why}", self.faults)
+
+    def test_several_lines(self):
+        """A text may have several lines. One that reaches into the next function is tried alone."""
+        self.write_edits(two="two\n- { 2 }\n- fn three() {\n+ { wrong }\n+\n+ fn three() {\n")
+        self.assertEqual(self.tried("high"), (0, self.refused(*EDITS), 6))
 
     def test_what_is_kept(self):
         """The first check of a crate begins with what an earlier run kept, if its functions were

@@ -119,9 +119,9 @@ class Patience(unittest.TestCase):
         runtime, connections = self.connections(error)
         self.assertEqual(run(connections.patiently(None)), "done")
 
-    def refused(self, *before, patience=10.0):
-        """Connections to a server that refuses three times after these outcomes."""
-        error = module("psycopg").OperationalError('failed: FATAL:  database "x" is missing\n')
+    def refused(self, *before, patience=10.0, said='database "x" does not exist'):
+        """Connections to a server that says this three times after these outcomes."""
+        error = module("psycopg").OperationalError(f"failed: FATAL:  {said}\n")
         runtime, connections = self.connections(*before, *[error] * 3, patience=patience)
         connections.table.dialect = Postgres("users", "name", "record")
         return runtime, connections
@@ -135,6 +135,21 @@ class Patience(unittest.TestCase):
         runtime, connections = self.refused()
         self.assert_refused(connections)
         self.assertEqual(runtime.pauses, [])
+
+    @each(
+        "the database system is starting up",
+        "sorry, too many clients already",
+        'too many connections for role "ada"',
+        "das Datenbanksystem startet",
+    )
+    def test_a_first_connection_to_a_server_that_starts(self, said):
+        """A refusal that may end is waited for, by a pool that has never connected too."""
+        runtime, connections = self.refused(said=said)
+        self.assertEqual(run(connections.patiently(None)), "done")
+        self.assertEqual(len(runtime.pauses), 3)
+        runtime, connections = self.refused(said=said, patience=0.0)
+        with self.assertRaisesRegex(NoConnection, f"in time: OperationalError: .*{said}"):
+            run(connections.patiently(None))
 
     @each("done", Undone(BUSY), Lost())
     def test_a_later_connection_that_is_refused(self, first):

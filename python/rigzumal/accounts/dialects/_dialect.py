@@ -267,7 +267,7 @@ class Dialect:
         raise NotImplementedError
 
     def refuses_connection(self, raised: BaseException) -> bool:
-        """Whether a server itself refused a new connection, by an error without a number."""
+        """Whether a server, by an error without a number, refused a connection and will again."""
         return False
 
     def is_drivers(self, raised: BaseException) -> bool:

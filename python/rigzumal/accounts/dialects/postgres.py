@@ -2,6 +2,7 @@
 
 from __future__ import annotations
 
+import re
 import uuid
 from collections.abc import Iterator, Sequence
 from typing import Any, Final
@@ -22,6 +23,11 @@ _ELSEWHERE: Final = frozenset({"25006", "53300"})
 _LOST: Final = ("08", "57P0", "25P03")
 _UNKNOWN: Final = "40003"  # the server doesn't know the statement's outcome
 _LACKS: Final = ("22P05", "22021")  # characters that the server's encoding doesn't have
+# What the server, or PgBouncer, says of a name or a password that it will refuse again.
+_REFUSES: Final = re.compile(
+    r"\" does not exist|authentication failed|no pg_hba\.conf entry|not permitted to log in"
+    r"|permission denied|no such (database|user)"
+)
 # A text that a type refuses; and the server's function that reads an enum's names.
 _NO_VALUE: Final = "22P02"
 _READS_ENUM: Final = "enum_in"
@@ -222,9 +228,9 @@ class Postgres(Dialect):
         return Verdict.LOST if is_broken else Verdict.REFUSED
 
     def refuses_connection(self, raised: BaseException) -> bool:
-        # Here psycopg has no state, and the server translates its text. Only a server's own message
-        # has two blanks, which libpq writes after the severity: "FATAL:  ".
-        return not self.number(raised) and ":  " in str(raised)
+        # Here psycopg has no state, only libpq's text. A server that starts or is full, or one that
+        # translates its texts, is asked again.
+        return not self.number(raised) and _REFUSES.search(str(raised)) is not None
 
     def lacks_key(self, raised: BaseException, key: Key) -> bool:
         if self.number(raised) == _NO_VALUE:
