@@ -48,8 +48,8 @@ TARGETS = {
 # are no faster at v2 than at v1.
 LEVELS = {"v1": PLAIN, "v2": "x86-64-v2", "v3": "x86-64-v3", "v4": "x86-64-v4"}
 LEVELS_OF_LANES = ("v1", "v3", "v4")
-# Each rattle needs up to 4 GB.
-AT_ONCE = 3
+# The most memory that a proof needs, in bytes: that of credkeep.
+MEMORY = 5 << 30
 
 
 @functools.cache
@@ -168,6 +168,12 @@ class Proof:
         subprocess.run(command, executable=kit() / "toolchain/bin/clang", check=True, cwd=self.room)
 
 
+def proofs_at_once() -> int:
+    """Returns the number of proofs for which the machine has processors and memory."""
+    memory = os.sysconf("SC_PAGE_SIZE") * os.sysconf("SC_PHYS_PAGES")
+    return max(1, min(len(os.sched_getaffinity(0)), memory // MEMORY))
+
+
 def compile_all(folder: pathlib.Path, room: pathlib.Path) -> None:
     """Compiles every object, for every processor."""
 
@@ -179,7 +185,7 @@ def compile_all(folder: pathlib.Path, room: pathlib.Path) -> None:
     for processor in TARGETS:
         (folder / processor).mkdir()
     chosen = [(crate, it) for crate in (*reversed(PROGRAMS), LIBRARY) for it in TARGETS]
-    with concurrent.futures.ThreadPoolExecutor(AT_ONCE) as pool:
+    with concurrent.futures.ThreadPoolExecutor(proofs_at_once()) as pool:
         proofs = list(pool.map(lambda it: compiled(*it), chosen))
     refuse_other_lanes([it for it in proofs if it.processor == "x86_64"])
 
