@@ -60,11 +60,13 @@ PAM_WORDS = DESTDIR='$(DESTDIR)' PAMDIR='$(PAMDIR)' MANDIR='$(MAN)'
 build: present library programs
 	$(if $(HAS_PAM),$(MAKE) -C c/pam,@echo 'pam_rigzumal.so is left out: libpam0g-dev is not there')
 
-# If the sources have changed, rt compiles c/proved again. Without rt, or for a damaged object, make stops.
+# If the sources have changed, rt compiles c/proved again. Without rt, for a damaged object, and before what root may
+# type, make stops.
+WITHOUT_PROOF := $(filter install dist deb,$(MAKECMDGOALS))
 present:
 	@for part in library programs; do \
 		tools/check_proved $$part $(ARCH) && continue; \
-		[ $$? = 1 ] && command -v '$(RT)' > /dev/null && exec $(MAKE) proved; \
+		[ $$? = 1 ] && [ -z '$(WITHOUT_PROOF)' ] && command -v '$(RT)' > /dev/null && exec $(MAKE) proved; \
 		exit 1; \
 	done
 

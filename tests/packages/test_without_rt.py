@@ -185,19 +185,21 @@ class WithoutRt(helpers.Case):
         self.assertFalse((self.top / "out/credkeep").exists())
 
     @each(
-        ("", 0, ""),
-        ("crates/credkeep/src/main.rt", 2, "rt ci\n"),
-        ("c/proved/x86_64/credkeep.o", 2, ""),
+        ("build", "", 0, ""),
+        ("build", "crates/credkeep/src/main.rt", 2, "rt ci\n"),
+        ("build", "c/proved/x86_64/credkeep.o", 2, ""),
+        ("install", "crates/credkeep/src/main.rt", 2, ""),
+        ("dist", "crates/credkeep/src/main.rt", 2, ""),
     )
-    def test_with_rt(self, changed, status, asked):
+    def test_with_rt(self, goal, changed, status, asked):
         """With rt, make says which source has changed, and has rt prove and compile again only
-        then: proofs don't repair a damaged object."""
+        then: proofs don't repair a damaged object. make install proves nothing as root."""
         write_files(self.home, {"bin/rt": RT}, 0o755)
         path = self.top / (changed or "VERSION")
         before = path.read_bytes()
         if changed:
             path.write_text("// changed\n")
-        said = self.make("-s", folder=".", status=status, PATH=f"{self.home}/bin:{PATH}")
+        said = self.make("-s", goal, folder=".", status=status, PATH=f"{self.home}/bin:{PATH}")
         path.write_bytes(before)
         self.assertIn(pathlib.Path(changed).name, said)
         noted = self.home / "asked"
