@@ -12,7 +12,7 @@ failure, has their seed. The last line is `tests: N passed, M failed, K skipped`
 1 if any test failed. A signal ends the run and everything that its jobs started; the last line is
 then `tests: interrupted`.
 
---quick runs only the modules that take less than half a minute by tools/job_seconds.json, and
+--quick runs only the modules that take less than 25 seconds by tools/job_seconds.json, and
 --slow only the others; --long runs the modules that every other run omits. --note stores the time
 of each job in that file, so that the longest jobs begin first. --first begins no job after a failed
 one, and no test of a module after a failed one.

@@ -93,9 +93,9 @@ TEXTS = {
     "tests/credkeep/test_large.py": "raise SystemExit('a long one ran')\n",
     "Makefile": "all:\n\t@test ! -e broken || { echo this is broken; exit 1; }\n",
     "tools/job_seconds.json": """{
-    "c/tests/test_calls:1": 30,
-    "c/tests/test_calls:2": 31,
-    "tests/tools/test_well": 29
+    "c/tests/test_calls:1": 25,
+    "c/tests/test_calls:2": 26,
+    "tests/tools/test_well": 24
 }""",
 }
 # What is copied of the tree.
@@ -252,7 +252,7 @@ class RunTests(Case):
         (["--slow"], "3 passed, 0 failed, 0 skipped"),
     )
     def test_lengths(self, words: list[str], last: str) -> None:
-        """A quick run has the modules of less than half a minute, and says what it leaves out."""
+        """A quick run has the modules of less than 25 seconds, and says what it leaves out."""
         lines = self.run_tests(*words, "c/tests", "tests/tools").written.splitlines()
         self.assertEqual(lines[-1], f"tests: {last}")
         said = [it for it in lines if "2 longer modules are left out: tools/run_tests.py" in it]
