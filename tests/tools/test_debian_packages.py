@@ -33,7 +33,7 @@ class Policy(Case):
         self.assertEqual(held.stdout.readline(), "True\n")
         if number:
             held.send_signal(number)
-            held.wait()
+        # Without a line the reading ends too, since the signal may have come just before it.
         held.communicate("\n" if number is None else None)
         self.assertEqual(held.returncode == 0, number is None)
         self.assertFalse(policy.exists())
