@@ -261,6 +261,7 @@ class Plants(Case):
     @each(("grep -q right file", "refused", 0), ("true", "survived", 1), ("false", "", 1))
     def test_refusal(self, tests: str, verdict: str, status: int) -> None:
         """Tests refuse a mistake if they fail with it, and pass without it."""
+        need("git")
         top = self.room()
         run_tests = f"#!/usr/bin/env python3\nimport os\nos.execlp('sh', 'sh', '-c', {tests!r})\n"
         plant = "named: a-job\nin file\n- right\n+ wrong\n"
