@@ -9,7 +9,7 @@ from __future__ import annotations
 
 from typing import Any, Optional
 
-from django.contrib.auth import get_user_model, hashers
+from django.contrib.auth import get_user_model
 from django.contrib.auth.backends import ModelBackend
 from django.db import router
 
@@ -51,11 +51,11 @@ class CompareAndSetBackend(ModelBackend):
         try:
             user = users.get_by_natural_key(username)
         except model.DoesNotExist:
-            _spend(password)
+            passwords.spend(password)
             users.filter(**{model.USERNAME_FIELD: username}).exists()
             return None
         if not self.user_can_authenticate(user):
-            _spend(password)
+            passwords.spend(password)
             records.Row(user).look()
             return None
         try:
@@ -65,12 +65,3 @@ class CompareAndSetBackend(ModelBackend):
 
     # Django 5.2 and later call it.
     aauthenticate = records.awaited(lambda self, *a, **b: self.authenticate(*a, **b))
-
-
-@hidden_below
-def _spend(password: Any) -> None:
-    """Hashes the typed password, so that the answer takes as long as for a wrong password."""
-    try:
-        hashers.make_password(password)
-    except ValueError:  # UTF-8 can't encode the text, so an empty password replaces it
-        hashers.make_password("")

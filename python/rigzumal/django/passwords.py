@@ -36,7 +36,7 @@ def check_password(user: Any, password: Any) -> bool:
     else:
         right = records.judge_login(user, password)
     if not right and _is_old(user.password):
-        _spend(password)
+        spend(password)
     return right
 
 
@@ -74,7 +74,7 @@ def change_judged(user: Any, old_password: Any, new_password: Any, judged: Optio
         if changed:
             password_validation.password_changed(new_password, user)
     if not changed:
-        _spend(new_password)
+        spend(new_password)
     return changed
 
 
@@ -113,8 +113,9 @@ def _is_old(record: str) -> bool:
 
 
 @hidden_below
-def _spend(password: Any) -> None:
-    """Hashes a password, and discards the record: the time must not tell a right password."""
+def spend(password: Any) -> None:
+    """Hashes a password and discards the record: the time must tell neither a right password nor an
+    absent user."""
     try:
         hashers.make_password(password)
     except ValueError:  # UTF-8 can't encode the text, so an empty password replaces it
